@@ -1,0 +1,4 @@
+pub mod Elements
+pub mod Places
+pub mod Tables
+pub mod Same

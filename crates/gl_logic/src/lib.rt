@@ -1,0 +1,15 @@
+//! Objects of the ACL2 logic, names, and what stands on them.
+//!
+//! The universe of objects is made of unbounded integers, characters of code 0 to 255, symbols,
+//! strings and conses. Symbols and strings are numbered by their text in one table, [`Texts`].
+#![tactic(auto)]
+
+mod assignment;
+mod ids;
+mod texts;
+mod tree;
+
+pub use assignment::Assignment;
+pub use ids::{FnId, NoMemory, TextId};
+pub use texts::Texts;
+pub use tree::{Tree, TreeKind};
