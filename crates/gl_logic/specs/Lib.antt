@@ -5,3 +5,10 @@ pub mod Kind
 pub mod Names
 pub mod Assignments
 pub mod Falls
+pub mod Quotients
+pub mod Bitwise
+pub mod Shifts
+pub mod Lengths
+pub mod Bytes
+pub mod TwosComplement
+pub mod Width
