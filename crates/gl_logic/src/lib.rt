@@ -6,6 +6,7 @@
 
 mod assignment;
 mod ids;
+pub mod integer_laws;
 mod texts;
 mod tree;
 
