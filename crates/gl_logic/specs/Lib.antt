@@ -12,3 +12,7 @@ pub mod Lengths
 pub mod Bytes
 pub mod TwosComplement
 pub mod Width
+pub mod PrimCode
+pub mod Exp
+pub mod ExpCode
+pub mod TermOf

@@ -7,10 +7,16 @@
 mod assignment;
 mod ids;
 pub mod integer_laws;
+mod names;
+mod prim;
+mod term;
 mod texts;
 mod tree;
 
 pub use assignment::Assignment;
 pub use ids::{FnId, NoMemory, TextId};
+pub use names::Names;
+pub use prim::Prim;
+pub use term::Term;
 pub use texts::Texts;
 pub use tree::{Tree, TreeKind};
