@@ -16,3 +16,9 @@ pub mod PrimCode
 pub mod Exp
 pub mod ExpCode
 pub mod TermOf
+pub mod ObjectEq
+pub mod PrimValue
+pub mod Environment
+pub mod Definition
+pub mod Walk
+pub mod Evaluate

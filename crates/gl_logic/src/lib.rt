@@ -5,6 +5,7 @@
 #![tactic(auto)]
 
 mod assignment;
+mod def;
 mod ids;
 pub mod integer_laws;
 mod names;
@@ -14,6 +15,7 @@ mod texts;
 mod tree;
 
 pub use assignment::Assignment;
+pub use def::{Def, Measure};
 pub use ids::{FnId, NoMemory, TextId};
 pub use names::Names;
 pub use prim::Prim;

@@ -1,0 +1,28 @@
+//! Definitions of functions.
+
+use super::ids::TextId;
+use super::names::Names;
+use super::term::Term;
+
+/// What falls at each recursive call of a definition.
+#[derive(Clone, Copy, Debug, PartialEq, Eq)]
+pub enum Measure {
+    /// `(acl2-count v)`
+    Count(TextId),
+    /// `(len v)`
+    Len(TextId),
+    /// `(nfix v)`
+    Nat(TextId),
+    /// `(nfix (- b a))`, as `Gap(a, b)`
+    Gap(TextId, TextId),
+}
+
+/// A definition: its name, the names of its formals in order, its body, and the measure under which it
+/// was admitted where it is recursive.
+#[derive(Drop)]
+pub struct Def {
+    pub name: TextId,
+    pub formals: Names,
+    pub body: Term,
+    pub measure: Option<Measure>,
+}
