@@ -1,8 +1,16 @@
 // What stands below everything: how the outside is reached, the limits of a run and its status.
 #![tactic(auto)]
 
+mod calls;
 pub mod failed;
 pub mod limits;
+pub mod memory_shelf;
+pub mod memory_sink;
+mod named_texts;
 pub mod shelf;
 pub mod sink;
 pub mod status;
+pub mod sure_shelf;
+pub mod sure_sink;
+#[cfg(test)]
+mod tests;
