@@ -5,6 +5,7 @@ pub mod Kind
 pub mod Names
 pub mod Assignments
 pub mod Falls
+<<<<<<< HEAD
 pub mod Quotients
 pub mod Bitwise
 pub mod Shifts
@@ -22,3 +23,6 @@ pub mod Environment
 pub mod Definition
 pub mod Walk
 pub mod Evaluate
+=======
+pub mod Numbered
+>>>>>>> 3253b53 (Add the printer of objects)

@@ -1,0 +1,4 @@
+pub mod Begins
+pub mod Escaped
+pub mod Steps
+pub mod Cons
