@@ -5,7 +5,6 @@ pub mod Kind
 pub mod Names
 pub mod Assignments
 pub mod Falls
-<<<<<<< HEAD
 pub mod Quotients
 pub mod Bitwise
 pub mod Shifts
@@ -23,6 +22,4 @@ pub mod Environment
 pub mod Definition
 pub mod Walk
 pub mod Evaluate
-=======
 pub mod Numbered
->>>>>>> 3253b53 (Add the printer of objects)
