@@ -1,10 +1,10 @@
 -- How a ghost value keeps a primitive: by its number in the language's table, from 0.
 use Rattle.std.specs.Prelude.{◌≡◌, ℕ, refl, List, [], ◌∷◌, get_or}
 use Rattle.std.specs.Coded.{Coded, code_by, coded_ℕ}
-use Rattle.gl_logic.specs.declared.prim.Prim.{Prim}
-use Rattle.gl_logic.specs.declared.prim.Prim.TheVariants as prim
+use Rattle.gl_logic.specs.declared.prim.Primitive.{Primitive}
+use Rattle.gl_logic.specs.declared.prim.Primitive.TheVariants as prim
 
-abbrev pub prim_number : Prim → ℕ
+abbrev pub prim_number : Primitive → ℕ
 prim_number prim.Consp = 0
 prim_number prim.Integerp = 1
 prim_number prim.Symbolp = 2
@@ -36,7 +36,7 @@ prim_number prim.UnsignedByteP = 27
 prim_number prim.SignedByteP = 28
 
 -- the primitives in the order of the table
-abbrev pub all_prims : List Prim
+abbrev pub all_prims : List Primitive
 all_prims =
     prim.Consp ∷ prim.Integerp ∷ prim.Symbolp ∷ prim.Stringp ∷ prim.Characterp
     ∷ prim.Cons ∷ prim.Car ∷ prim.Cdr ∷ prim.Equal ∷ prim.Not ∷ prim.CharCode ∷ prim.CodeChar
@@ -45,10 +45,10 @@ all_prims =
     ∷ prim.BinaryLogand ∷ prim.BinaryLogior ∷ prim.BinaryLogxor ∷ prim.Lognot
     ∷ prim.Logbitp ∷ prim.IntegerLength ∷ prim.UnsignedByteP ∷ prim.SignedByteP ∷ []
 
-abbrev pub prim_at : ℕ → Prim
+abbrev pub prim_at : ℕ → Primitive
 prim_at n = get_or all_prims n prim.Consp
 
-pub prim-at-number : (p : Prim) → prim_at (prim_number p) ≡ p
+pub prim-at-number : (p : Primitive) → prim_at (prim_number p) ≡ p
 prim-at-number prim.Consp = refl
 prim-at-number prim.Integerp = refl
 prim-at-number prim.Symbolp = refl
@@ -79,5 +79,5 @@ prim-at-number prim.IntegerLength = refl
 prim-at-number prim.UnsignedByteP = refl
 prim-at-number prim.SignedByteP = refl
 
-abbrev pub coded_prim : Coded Prim
+abbrev pub coded_prim : Coded Primitive
 coded_prim = code_by ℕ coded_ℕ prim_number prim_at prim-at-number

@@ -7,8 +7,8 @@ use Rattle.gl_logic.specs.Bitwise.{bit_at, not_ℤ, and_ℤ, or_ℤ, xor_ℤ}
 use Rattle.gl_logic.specs.Shifts.{ash_ℤ}
 use Rattle.gl_logic.specs.Lengths.{integer_length}
 use Rattle.gl_logic.specs.Bytes.{is_unsigned_byte, is_signed_byte}
-use Rattle.gl_logic.specs.declared.prim.Prim.{Prim}
-use Rattle.gl_logic.specs.declared.prim.Prim.TheVariants as prim
+use Rattle.gl_logic.specs.declared.prim.Primitive.{Primitive}
+use Rattle.gl_logic.specs.declared.prim.Primitive.TheVariants as prim
 
 -- ---- what an object counts as
 -- a non-integer counts as 0 where an integer is wanted
@@ -56,7 +56,7 @@ both_integers test (Int n) (Int x) = test n x
 both_integers test _ _ = false
 
 -- of the first and the second argument
-abbrev pub prim_of : Prim → Object → Object → Object
+abbrev pub prim_of : Primitive → Object → Object → Object
 prim_of prim.Consp x y = boolean_object (is_cons x)
 prim_of prim.Integerp x y = boolean_object (is_integer x)
 prim_of prim.Symbolp x y = boolean_object (is_symbol x)
@@ -88,11 +88,11 @@ prim_of prim.UnsignedByteP x y = boolean_object (both_integers is_unsigned_byte 
 prim_of prim.SignedByteP x y = boolean_object (both_integers is_signed_byte x y)
 
 -- an argument that is not there is NIL
-abbrev pub prim_value : Prim → List Object → Object
+abbrev pub prim_value : Primitive → List Object → Object
 prim_value p args = prim_of p (get_or args 0 nil) (get_or args 1 nil)
 
 -- how many arguments a primitive takes
-abbrev pub prim_arity : Prim → ℕ
+abbrev pub prim_arity : Primitive → ℕ
 prim_arity prim.Cons = 2
 prim_arity prim.Equal = 2
 prim_arity prim.BinaryPlus = 2

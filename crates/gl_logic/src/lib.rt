@@ -18,7 +18,7 @@ pub use assignment::Assignment;
 pub use def::{Def, Measure};
 pub use ids::{FnId, NoMemory, TextId};
 pub use names::Names;
-pub use prim::Prim;
+pub use prim::Primitive as Prim;
 pub use term::Term;
 pub use texts::Texts;
 pub use tree::{Tree, TreeKind};

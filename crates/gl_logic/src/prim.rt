@@ -3,7 +3,7 @@
 /// A primitive of the logic, in the order of the language's table. ACL2's manual has each under its
 /// name.
 #[derive(Clone, Copy, Debug, PartialEq, Eq)]
-pub enum Prim {
+pub enum Primitive {
     /// `(consp x)`
     Consp,
     /// `(integerp x)`

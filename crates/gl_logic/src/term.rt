@@ -5,7 +5,7 @@ ghost use Rattle.gl_logic.specs.TermOf.{term_of};
 
 use super::ids::{FnId, NoMemory, TextId};
 use super::names::Names;
-use super::prim::Prim;
+use super::prim::Primitive;
 use super::tree::Tree;
 use std::alloc::Global;
 
@@ -20,7 +20,7 @@ pub enum Term {
     /// The test, the part where it is not NIL, and the part where it is NIL.
     If(Box<Term>, Box<Term>, Box<Term>),
     /// A primitive and its arguments.
-    Prim(Prim, Vec<Term>),
+    Prim(Primitive, Vec<Term>),
     /// A definition of the world and its arguments.
     Call(FnId, Vec<Term>),
     /// The names, the terms that they are bound to, and the body.
