@@ -1,0 +1,6 @@
+pub mod Bounds
+pub mod Powers
+pub mod Widths
+pub mod FarShifts
+pub mod Digits
+pub mod FarBits
