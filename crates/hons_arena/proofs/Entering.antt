@@ -1,0 +1,97 @@
+-- What looking a cell up, and entering it, do to what is held.
+use Rattle.std.proofs.Common.{◌≡◌, ◌≢◌, ℕ, ◌<◌, ◌≤◌, arith, length, List, [], ◌∷◌, ◌++◌, Option, Some, sym, ◌∙◌, ap, subst, refl, get_or, inl, inr, set, length-set}
+use Rattle.std.proofs.lemmas.List.{get_or_push, length_push}
+use Rattle.std.specs.List.{Contains}
+use Rattle.gl_logic.specs.Object.{Object, nil}
+use Rattle.hons_arena.specs.declared.cell.Cell.{Cell}
+use Rattle.hons_arena.specs.declared.id.Id.{Id}
+use Rattle.hons_arena.specs.declared.id.IdKind.TheVariants as kind
+use Rattle.hons_arena.specs.Cells.{cell_object, objects_of, PartsBelow, IsInterned}
+use Rattle.hons_arena.specs.Held.{Held, Enters, HasNoCell, IsEachOnce}
+use Rattle.hons_arena.specs.Ids.{IsIdOf}
+use Rattle.hons_arena.specs.Probe.{IsAbsent, IsFoundAt}
+use Rattle.hons_arena.specs.Sound.{IsSound}
+use Rattle.hons_arena.specs.Table.{IsFreeFor}
+use Rattle.hons_arena.proofs.Interned.{objects_count, each_once, absent_held, found_held, found_contains, interned_push}
+use Rattle.hons_arena.proofs.Objects.{objects-push}
+use Rattle.hons_arena.proofs.Tables.{table-push}
+
+abbrev pub seen : ℕ → List Cell → Held
+seen limit cells = record { limit = limit; objects = objects_of cells }
+
+abbrev pub cell_numbered : ℕ → Id
+cell_numbered k = record { kind = kind.Cell; number = k }
+
+pub count_is : (limit : ℕ) (cells : List Cell) (held : Held) → IsInterned cells → seen limit cells ≡ held → length cells ≡ length held.objects
+count_is limit cells held interned is = sym (objects_count cells interned) ∙ ap (λ (h : Held). length h.objects) is
+
+pub held_once : (limit : ℕ) (cells : List Cell) (held : Held) → IsInterned cells → seen limit cells ≡ held → IsEachOnce held.objects
+held_once limit cells held interned is = subst (λ (h : Held). IsEachOnce h.objects) is (each_once cells interned)
+
+module _ (limit : ℕ) (cells : List Cell) (c : Cell) (interned : IsInterned cells) where
+  parts_here : (held : Held) → seen limit cells ≡ held → PartsBelow (length held.objects) c → PartsBelow (length cells) c
+  parts_here held is parts = subst (λ (m : ℕ). PartsBelow m c) (sym (count_is limit cells held interned is)) parts
+
+  -- a cell that was found
+  pub record Has (held : Held) (id : Id) : Type 0 where
+    pub id_of : IsIdOf held.objects (cell_object held.objects c) id
+    pub enters : Enters held.objects held.objects (cell_object held.objects c)
+    pub never_full : HasNoCell held (cell_object held.objects c) → ⊥
+
+  pub found : (held : Held) (slots : List (Option ℕ)) (q k : ℕ) (id : Id) → seen limit cells ≡ held → PartsBelow (length held.objects) c → IsFoundAt cells slots c q k → id ≡ cell_numbered k → Has held id
+  found held slots q k id is parts at e =
+      let p : PartsBelow (length cells) c = parts_here held is parts in
+      let contains : Contains (objects_of cells) (cell_object (objects_of cells) c) = found_contains cells interned c p k at.held at.keeps in
+      subst (λ (i : Id). Has held i) (sym e) (subst (λ (h : Held). Has h (cell_numbered k)) is (record {
+        id_of = (subst (λ (m : ℕ). k < m) (sym (objects_count cells interned)) at.held, found_held cells interned c p k at.held at.keeps);
+        enters = inl (contains, refl);
+        never_full = λ h. h.absent contains;
+      }))
+
+  pub no_cell : (held : Held) → seen limit cells ≡ held → PartsBelow (length held.objects) c → IsAbsent cells c → length cells ≡ limit → HasNoCell held (cell_object held.objects c)
+  no_cell held is parts absent full =
+      subst (λ (h : Held). HasNoCell h (cell_object h.objects c)) is (record {
+        absent = absent_held cells interned c (parts_here held is parts) absent;
+        full = objects_count cells interned ∙ full;
+      })
+
+  -- a cell that was added
+  pub record Gets (held : Held) (new : List Object) (id : Id) : Type 0 where
+    pub id_of : IsIdOf new (cell_object held.objects c) id
+    pub enters : Enters held.objects new (cell_object held.objects c)
+    pub not_full : HasNoCell held (cell_object held.objects c) → ⊥
+
+  pub added : (held : Held) (new : List Cell) (k : ℕ) (id : Id) → seen limit cells ≡ held → PartsBelow (length held.objects) c → IsAbsent cells c → length cells ≡ k → k ≢ limit → new ≡ cells ++ c ∷ [] → id ≡ cell_numbered k
+      → Gets held (objects_of new) id
+  added held new k id is parts absent many room e f =
+      let p : PartsBelow (length cells) c = parts_here held is parts in
+      let x : Object = cell_object (objects_of cells) c in
+      let grown : objects_of new ≡ objects_of cells ++ x ∷ [] = ap objects_of e ∙ objects-push [] cells c in
+      let count : length (objects_of cells) ≡ k = objects_count cells interned ∙ many in
+      subst (λ (i : Id). Gets held (objects_of new) i) (sym f) (subst (λ (h : Held). Gets h (objects_of new) (cell_numbered k)) is (record {
+        id_of = (omega (arith, ap length grown, length_push (objects_of cells) x, count), ap (λ xs. get_or xs k nil) grown ∙ get_or_push (objects_of cells) x nil k count);
+        enters = inr (absent_held cells interned c p absent, grown);
+        not_full = λ h. room (sym many ∙ (sym (objects_count cells interned) ∙ h.full));
+      }))
+
+pub sound_push : (limit : ℕ) (cells : List Cell) (capacity : ℕ) (slots : List (Option ℕ)) (c : Cell) (q k : ℕ) (new : List Cell) (more : ℕ) → IsSound limit cells capacity slots → PartsBelow (length cells) c → IsAbsent cells c → q < length slots
+    → IsFreeFor slots c (length cells) q → length cells ≡ k → k ≢ limit → new ≡ cells ++ c ∷ [] → limit ≤ more → IsSound limit new more (set slots q (Some k))
+sound_push limit cells capacity slots c q k new more s parts absent within free many room e l = record {
+  few = omega (arith, ap length e, length_push cells c, many, room, s.few);
+  room = l;
+  size = length-set slots q (Some k) ∙ s.size;
+  interned = subst (λ (cs : List Cell). IsInterned cs) (sym e) (interned_push cells s.interned c parts absent);
+  table = subst (λ (cs : List Cell). Rattle.hons_arena.specs.Table.IsTable cs (set slots q (Some k))) (sym e) (subst (λ (n : ℕ). Rattle.hons_arena.specs.Table.IsTable (cells ++ c ∷ []) (set slots q (Some n))) many (table-push cells slots c q within s.table free));
+}
+
+-- what was said of lists that are these
+pub found_here : (cells xs : List Cell) (slots ys : List (Option ℕ)) (c : Cell) (q k : ℕ) → xs ≡ cells → ys ≡ slots → IsFoundAt xs ys c q k → IsFoundAt cells slots c q k
+found_here cells xs slots ys c q k e f h = subst (λ (zs : List Cell). IsFoundAt zs slots c q k) e (subst (λ (zs : List (Option ℕ)). IsFoundAt xs zs c q k) f h)
+
+pub record IsEmptyEnd (cells : List Cell) (slots : List (Option ℕ)) (c : Cell) (q : ℕ) : Type 0 where
+  pub absent : IsAbsent cells c
+  pub within : q < length slots
+  pub free : IsFreeFor slots c (length cells) q
+
+pub empty_here : (cells xs : List Cell) (slots ys : List (Option ℕ)) (c : Cell) (q : ℕ) → xs ≡ cells → ys ≡ slots → (IsAbsent xs c × (q < length ys) × IsFreeFor ys c (length xs) q) → IsEmptyEnd cells slots c q
+empty_here cells xs slots ys c q e f h = subst (λ (zs : List Cell). IsEmptyEnd zs slots c q) e (subst (λ (zs : List (Option ℕ)). IsEmptyEnd xs zs c q) f (record { absent = h.0; within = h.1; free = h.2 }))

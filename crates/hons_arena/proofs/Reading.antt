@@ -1,0 +1,86 @@
+-- What a cell that is read says of what is held.
+use Rattle.std.proofs.Common.{◌≡◌, ◌≢◌, ℕ, ◌+◌, ◌-◌, ◌<◌, ◌≤◌, arith, length, List, Option, None, Some, refl, sym, ◌∙◌, ap, subst, get_or, take, set, length-set, MatchOption}
+use Rattle.std.proofs.lemmas.List.{length-take-le, get_or-take}
+use Rattle.gl_logic.specs.Object.{Object, nil, car, cdr}
+use Rattle.hons_arena.specs.declared.cell.Cell.{Cell}
+use Rattle.hons_arena.specs.declared.cell.Cell.TheVariants as cell
+use Rattle.hons_arena.specs.declared.id.Id.{Id}
+use Rattle.hons_arena.specs.declared.id.IdKind.{IdKind}
+use Rattle.hons_arena.specs.declared.id.IdKind.TheVariants as kind
+use Rattle.hons_arena.specs.Cells.{cell_object, objects_of, cell_at, PartsBelow, IsInterned, IsAtomCell}
+use Rattle.hons_arena.specs.Held.{Held}
+use Rattle.hons_arena.specs.Ids.{object_at, object_numbered, IsNumberBelow, IsBelow, IsLive, IsIdOf, HasNoParts, ArePartsOf}
+use Rattle.hons_arena.specs.Probe.{IsFoundAt}
+use Rattle.hons_arena.specs.Sound.{IsSound}
+use Rattle.hons_arena.proofs.Entering.{seen, count_is}
+use Rattle.hons_arena.proofs.Interned.{object_is, parts_live, same_ids, interned_take}
+use Rattle.hons_arena.proofs.Objects.{objects-take}
+use Rattle.hons_arena.proofs.Tables.{table-pop}
+
+module _ (limit : ℕ) (cells : List Cell) (held : Held) (interned : IsInterned cells) (is : seen limit cells ≡ held) where
+  pub object_read : (k : ℕ) → k < length held.objects → cell_object held.objects (cell_at cells k) ≡ get_or held.objects k nil
+  object_read k h =
+      let l : k < length cells = omega (arith, h, count_is limit cells held interned is) in
+      subst (λ (s : Held). cell_object s.objects (cell_at cells k) ≡ get_or s.objects k nil) is (sym (object_is cells interned k l))
+
+  pub parts_read : (k : ℕ) → k < length held.objects → PartsBelow (length held.objects) (cell_at cells k)
+  parts_read k h =
+      subst (λ (m : ℕ). PartsBelow m (cell_at cells k)) (count_is limit cells held interned is) (parts_live cells interned k (omega (arith, h, count_is limit cells held interned is)))
+
+  pub same_from_objects : (a b : Id) → IsLive held.objects a → IsLive held.objects b → object_at held.objects a ≡ object_at held.objects b → a ≡ b
+  same_from_objects = subst (λ (s : Held). (a b : Id) → IsLive s.objects a → IsLive s.objects b → object_at s.objects a ≡ object_at s.objects b → a ≡ b) is (same_ids cells interned)
+
+-- the number of an id of a cell
+pub number_live : (objects : List Object) (id : Id) → id.kind ≡ kind.Cell → IsLive objects id → id.number < length objects
+number_live objects id e h = subst (λ (t : IdKind). IsNumberBelow (length objects) t id.number) e h
+
+pub object_of_number : (objects : List Object) (id : Id) → id.kind ≡ kind.Cell → object_at objects id ≡ get_or objects id.number nil
+object_of_number objects id e = ap (λ (t : IdKind). object_numbered objects t id.number) e
+
+atom_no_parts : (objects : List Object) (c : Cell) → IsAtomCell c → HasNoParts (cell_object objects c)
+atom_no_parts objects (cell.Int z) h = (refl, refl)
+atom_no_parts objects (cell.Character n) h = (refl, refl)
+atom_no_parts objects (cell.Cons a d) h = absurd h
+
+pub parts_of_read : (objects : List Object) (x : Object) (c : Cell) (o : Option (Id × Id)) → PartsBelow (length objects) c → cell_object objects c ≡ x → MatchOption o (IsAtomCell c) (λ p. c ≡ cell.Cons p.0 p.1)
+    → MatchOption o (HasNoParts x) (λ p. ArePartsOf objects x p.0 p.1)
+parts_of_read objects x c None below is h = subst HasNoParts is (atom_no_parts objects c h)
+parts_of_read objects x c (Some p) below is h =
+    let parts : PartsBelow (length objects) (cell.Cons p.0 p.1) = subst (λ (e : Cell). PartsBelow (length objects) e) h below in
+    let cons : cell_object objects (cell.Cons p.0 p.1) ≡ x = ap (cell_object objects) (sym h) ∙ is in
+    ((parts.0, ap car cons), (parts.1, ap cdr cons))
+
+pub no_parts_but_cells : (objects : List Object) (id : Id) → id.kind ≢ kind.Cell → HasNoParts (object_at objects id)
+no_parts_but_cells objects id apart = go id.kind id.number apart where
+  go : (t : IdKind) (n : ℕ) → t ≢ kind.Cell → HasNoParts (object_numbered objects t n)
+  go kind.Symbol n a = (refl, refl)
+  go kind.Text n a = (refl, refl)
+  go kind.Cell n a = absurd (a refl)
+
+-- the newest cell is found, and goes
+pub newest_found : (cells : List Cell) (slots : List (Option ℕ)) (c : Cell) (k q j : ℕ) → IsInterned cells → k + 1 ≡ length cells → cell_at cells k ≡ c → IsFoundAt cells slots c q j → j ≡ k
+newest_found cells slots c k q j interned last e at = interned.different j k at.held (omega (arith, last)) (at.keeps ∙ sym e)
+
+pub sound_pop : (limit : ℕ) (cells : List Cell) (capacity : ℕ) (slots : List (Option ℕ)) (k q : ℕ) (new : List Cell) (more : ℕ) → IsSound limit cells capacity slots → k + 1 ≡ length cells → IsFoundAt cells slots (cell_at cells k) q k
+    → new ≡ take k cells → limit ≤ more → IsSound limit new more (set slots q None)
+sound_pop limit cells capacity slots k q new more s last at e l =
+    let few : length (take k cells) ≡ k = length-take-le k cells (omega (arith, last)) in record {
+      few = omega (arith, ap length e, few, last, s.few);
+      room = l;
+      size = length-set slots q None ∙ s.size;
+      interned = subst (λ (cs : List Cell). IsInterned cs) (sym e) (interned_take cells s.interned k (omega (arith, last)));
+      table = subst (λ (cs : List Cell). Rattle.hons_arena.specs.Table.IsTable cs (set slots q None)) (sym e) (table-pop cells slots (cell_at cells k) q at.within s.table k last at.is);
+    }
+
+pub objects_left : (limit : ℕ) (cells : List Cell) (held : Held) (k : ℕ) (new : List Cell) → IsInterned cells → seen limit cells ≡ held → k + 1 ≡ length cells → new ≡ take k cells → objects_of new ≡ take (length held.objects - 1) held.objects
+objects_left limit cells held k new interned is last e =
+    ap objects_of e ∙ (objects-take cells k ∙ (ap (λ m. take m (objects_of cells)) (omega (arith, last, count_is limit cells held interned is)) ∙ ap (λ (s : Held). take (length held.objects - 1) s.objects) is))
+
+-- an id of one of the first cells
+pub kept_numbered : (objects : List Object) (n : ℕ) → n ≤ length objects → (t : IdKind) (k : ℕ) → IsNumberBelow n t k → IsNumberBelow (length (take n objects)) t k × (object_numbered (take n objects) t k ≡ object_numbered objects t k)
+kept_numbered objects n l kind.Symbol k h = (tt, refl)
+kept_numbered objects n l kind.Text k h = (tt, refl)
+kept_numbered objects n l kind.Cell k h = (omega (arith, h, length-take-le n objects l), get_or-take n objects k nil h)
+
+pub kept_id : (objects new : List Object) (n : ℕ) → n ≤ length objects → new ≡ take n objects → (id : Id) → IsBelow n id → IsIdOf new (object_at objects id) id
+kept_id objects new n l e id h = subst (λ (xs : List Object). IsIdOf xs (object_at objects id) id) (sym e) (kept_numbered objects n l id.kind id.number h)

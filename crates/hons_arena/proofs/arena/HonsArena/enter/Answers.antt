@@ -1,0 +1,46 @@
+use Rattle.std.proofs.Common.{rules, ◌≡◌, ◌≢◌, ◌≤◌, ◌++◌, ◌∷◌, [], length, sym, ap, subst, ℕ, refl}
+use Rattle.std.specs.Vec.{vec_capacity}
+use Rattle.hons_arena.specs.Cells.{PartsBelow, objects_of, cell_object}
+use Rattle.hons_arena.specs.Held.{Held, HasNoCell}
+use Rattle.hons_arena.specs.Probe.{IsFoundAt}
+use Rattle.hons_arena.proofs.Entering.{count_is, found, Has, found_here, IsEmptyEnd, empty_here, no_cell, added, Gets, sound_push}
+use Rattle.hons_arena.proofs.arena.HonsArena.enter.Goals as goal
+
+pub returns-in-Found : goal.returns-in-Found
+returns-in-Found c =
+    let inside = c.self.inside in
+    let at : IsFoundAt inside.cells.items inside.slots.items c.args.cell c.in-Found.field-0 c.in-Found.number =
+    found_here _ _ _ _ _ _ _ c.as_slice.ensures.value c.as_slice-2.ensures.value c.in-Found.ensures in
+    let has : Has inside.limit inside.cells.items c.args.cell c.self.invariant.interned c.args.self.now c.cell_id.result =
+    found inside.limit inside.cells.items c.args.cell c.self.invariant.interned c.args.self.now inside.slots.items c.in-Found.field-0 c.in-Found.number c.cell_id.result c.self.view_is c.requires at c.cell_id.ensures in
+    record { id = has.id_of; objects = has.enters; limit = refl; full = (λ e. cc, λ h. absurd (has.never_full h)); unchanged = tt }
+
+pub returns-then-number-self-clause-full : goal.returns-then-number-self-clause-full
+returns-then-number-self-clause-full c =
+    let inside = c.self.inside in
+    let end : IsEmptyEnd inside.cells.items inside.slots.items c.args.cell c.in-Empty.slot = empty_here _ _ _ _ _ _ c.as_slice.ensures.value c.as_slice-2.ensures.value c.in-Empty.ensures in
+    let full : length inside.cells.items ≡ inside.limit = search rules in
+    let none : HasNoCell c.args.self.now (cell_object c.args.self.now.objects c.args.cell) = no_cell inside.limit inside.cells.items c.args.cell c.self.invariant.interned c.args.self.now c.self.view_is c.requires end.absent full in
+    (λ _. none, λ _. refl)
+
+pub invariant_of-self : goal.invariant_of-self
+invariant_of-self c =
+    let inside = c.self.inside in
+    let s = c.self.invariant in
+    let end : IsEmptyEnd inside.cells.items inside.slots.items c.args.cell c.in-Empty.slot = empty_here _ _ _ _ _ _ c.as_slice.ensures.value c.as_slice-2.ensures.value c.in-Empty.ensures in
+    let many : length inside.cells.items ≡ c.len-number.result = search rules in
+    let apart : c.len-number.result ≢ inside.limit = search rules in
+    let grown : c.push.new.self.items ≡ inside.cells.items ++ c.args.cell ∷ [] = search rules in
+    let parts : PartsBelow (length inside.cells.items) c.args.cell = subst (λ (m : ℕ). PartsBelow m c.args.cell) (sym (count_is inside.limit inside.cells.items c.args.self.now s.interned c.self.view_is)) c.requires in
+    let room : inside.limit ≤ vec_capacity c.push.new.self = search rules in
+    sound_push inside.limit inside.cells.items (vec_capacity inside.cells) inside.slots.items c.args.cell c.in-Empty.slot c.len-number.result c.push.new.self.items (vec_capacity c.push.new.self) s parts end.absent end.within end.free many apart grown room
+
+pub returns-in-Ok : goal.returns-in-Ok
+returns-in-Ok c =
+    let inside = c.self.inside in
+    let end : IsEmptyEnd inside.cells.items inside.slots.items c.args.cell c.in-Empty.slot = empty_here _ _ _ _ _ _ c.as_slice.ensures.value c.as_slice-2.ensures.value c.in-Empty.ensures in
+    let many : length inside.cells.items ≡ c.len-number.result = search rules in
+    let apart : c.len-number.result ≢ inside.limit = search rules in
+    let grown : c.push.new.self.items ≡ inside.cells.items ++ c.args.cell ∷ [] = search rules in
+    let gets : Gets inside.limit inside.cells.items c.args.cell c.self.invariant.interned c.args.self.now (objects_of c.push.new.self.items) c.cell_id-in-Ok.result = added inside.limit inside.cells.items c.args.cell c.self.invariant.interned c.args.self.now c.push.new.self.items c.len-number.result c.cell_id-in-Ok.result c.self.view_is c.requires end.absent many apart grown c.cell_id-in-Ok.ensures in
+    record { id = gets.id_of; objects = gets.enters; limit = ap (λ (h : Held). h.limit) c.self.view_is; full = (λ e. cc, λ h. absurd (gets.not_full h)); unchanged = tt }

@@ -1,0 +1,39 @@
+-- The objects that cells stand for, and what cells keep.
+use Rattle.std.specs.Prelude.{◌≡◌, ℕ, pos, ◌<◌, List, [], ◌∷◌, ◌++◌, length, get_or}
+use Rattle.gl_logic.specs.Object.{Object, Int, Character, Cons}
+use Rattle.hons_arena.specs.declared.cell.Cell.{Cell}
+use Rattle.hons_arena.specs.declared.cell.Cell.TheVariants as cell
+use Rattle.hons_arena.specs.Ids.{object_at, IsBelow}
+
+-- the object of a cell, where its parts are among these
+abbrev pub cell_object : List Object → Cell → Object
+cell_object objects (cell.Int z) = Int z
+cell_object objects (cell.Character n) = Character n
+cell_object objects (cell.Cons a d) = Cons (object_at objects a) (object_at objects d)
+
+-- the objects of cells, behind those of the cells before
+abbrev pub objects_from : List Object → List Cell → List Object
+objects_from before [] = before
+objects_from before (c ∷ cs) = objects_from (before ++ cell_object before c ∷ []) cs
+
+abbrev pub objects_of : List Cell → List Object
+objects_of cells = objects_from [] cells
+
+-- the parts' cells are among the first k
+abbrev pub PartsBelow : ℕ → Cell → Type 0
+PartsBelow k (cell.Int z) = Unit {0}
+PartsBelow k (cell.Character n) = Unit {0}
+PartsBelow k (cell.Cons a d) = IsBelow k a × IsBelow k d
+
+abbrev pub cell_at : List Cell → ℕ → Cell
+cell_at cells k = get_or cells k (cell.Int (pos 0))
+
+-- different cells, each behind its parts
+pub record IsInterned (cells : List Cell) : Type 0 where
+  pub behind : (k : ℕ) → k < length cells → PartsBelow k (cell_at cells k)
+  pub different : (i j : ℕ) → i < length cells → j < length cells → cell_at cells i ≡ cell_at cells j → i ≡ j
+
+abbrev pub IsAtomCell : Cell → Type 0
+IsAtomCell (cell.Int z) = Unit {0}
+IsAtomCell (cell.Character n) = Unit {0}
+IsAtomCell (cell.Cons a d) = ⊥

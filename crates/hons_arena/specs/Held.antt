@@ -1,0 +1,27 @@
+-- What an arena holds, and how it grows.
+use Rattle.std.specs.Prelude.{◌≡◌, ◌≢◌, ℕ, List, [], ◌∷◌, ◌++◌, length, AllPairs, Contains, refl}
+use Rattle.std.specs.Coded.{Coded, code_by, coded×, coded_ℕ, coded_list}
+use Rattle.std.proofs.Common.{◌⊎◌}
+use Rattle.gl_logic.specs.Object.{Object, coded_object}
+
+-- how many cells there may be, and the object of each cell in the order of their making
+pub record Held : Type 0 where
+  pub limit : ℕ
+  pub objects : List Object
+
+abbrev pub coded_held : Coded Held
+coded_held =
+    code_by (ℕ × List Object) (coded× coded_ℕ (coded_list coded_object)) (λ h. (h.limit, h.objects)) (λ p. record { limit = p.0; objects = p.1 }) (λ _. refl)
+
+-- no object is held twice
+abbrev pub IsEachOnce : List Object → Type 0
+IsEachOnce objects = AllPairs (λ x y. x ≢ y) objects
+
+-- an object that was held stays as it was, another one is added last
+abbrev pub Enters : List Object → List Object → Object → Type 0
+Enters old new x = (Contains old x × (new ≡ old)) ⊎ ((¬ Contains old x) × (new ≡ old ++ x ∷ []))
+
+-- a new object has no cell left
+pub record HasNoCell (held : Held) (x : Object) : Type 0 where
+  pub absent : ¬ Contains held.objects x
+  pub full : length held.objects ≡ held.limit

@@ -1,0 +1,50 @@
+-- What an id stands for in an arena, which holds an object in each cell.
+use Rattle.std.specs.Prelude.{◌≡◌, ℕ, ◌<◌, List, length, get_or}
+use Rattle.gl_logic.specs.Object.{Object, nil, car, cdr}
+use Rattle.gl_logic.specs.Object as object
+use Rattle.hons_arena.specs.declared.id.Id.{Id}
+use Rattle.hons_arena.specs.declared.id.IdKind.{IdKind}
+use Rattle.hons_arena.specs.declared.id.IdKind.TheVariants as id_kind
+use Rattle.hons_arena.specs.declared.id.Kind.{Kind}
+use Rattle.hons_arena.specs.declared.id.Kind.TheVariants as kind
+
+abbrev pub object_numbered : List Object → IdKind → ℕ → Object
+object_numbered objects id_kind.Symbol n = object.Symbol n
+object_numbered objects id_kind.Text n = object.Text n
+object_numbered objects id_kind.Cell n = get_or objects n nil
+
+-- the object that an id stands for
+abbrev pub object_at : List Object → Id → Object
+object_at objects id = object_numbered objects id.kind id.number
+
+abbrev pub IsNumberBelow : ℕ → IdKind → ℕ → Type 0
+IsNumberBelow count id_kind.Symbol n = Unit {0}
+IsNumberBelow count id_kind.Text n = Unit {0}
+IsNumberBelow count id_kind.Cell n = n < count
+
+-- an id of a symbol or a string, or of one of the first cells, so many
+abbrev pub IsBelow : ℕ → Id → Type 0
+IsBelow count id = IsNumberBelow count id.kind id.number
+
+-- the id stands for something: that of a cell where the cell is held
+abbrev pub IsLive : List Object → Id → Type 0
+IsLive objects id = IsBelow (length objects) id
+
+-- a live id that stands for this object
+abbrev pub IsIdOf : List Object → Object → Id → Type 0
+IsIdOf objects x id = IsLive objects id × (object_at objects id ≡ x)
+
+-- what an object is
+abbrev pub kind_of : Object → Kind
+kind_of (object.Int z) = kind.Int z
+kind_of (object.Character n) = kind.Character n
+kind_of (object.Symbol n) = kind.Symbol (record { number = n })
+kind_of (object.Text n) = kind.Text (record { number = n })
+kind_of (object.Cons a d) = kind.Cons
+
+-- the two parts of an object, which are NIL where it is no cons
+abbrev pub HasNoParts : Object → Type 0
+HasNoParts x = (car x ≡ nil) × (cdr x ≡ nil)
+
+abbrev pub ArePartsOf : List Object → Object → Id → Id → Type 0
+ArePartsOf objects x a d = IsIdOf objects (car x) a × IsIdOf objects (cdr x) d

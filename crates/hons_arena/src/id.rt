@@ -1,0 +1,49 @@
+//! What names an object of an arena, and what an arena answers.
+
+use gl_logic::TextId;
+
+/// What an id's number counts.
+#[derive(Clone, Copy, Debug, PartialEq, Eq, Hash)]
+pub enum IdKind {
+    /// The texts: the id names the symbol of that text.
+    Symbol,
+    /// The texts: the id names the string of that text.
+    Text,
+    /// The cells of the arena, in the order of their making: the id names the object of that cell.
+    Cell,
+}
+
+/// The name of an object in an arena. Ids of equal objects are equal, and ids of different objects differ.
+#[derive(Clone, Copy, Debug, PartialEq, Eq, Hash)]
+pub struct Id {
+    /// What the number counts.
+    pub kind: IdKind,
+    /// The number of the text or of the cell.
+    pub number: u64,
+}
+
+/// What an object is, with the value of an atom.
+#[derive(Clone, Copy, Debug, PartialEq, Eq)]
+pub enum Kind {
+    /// An integer.
+    Int(i128),
+    /// A character, by its code.
+    Character(u8),
+    /// A symbol, by the number of its text.
+    Symbol(TextId),
+    /// A string, by the number of its text.
+    Text(TextId),
+    /// A cons.
+    Cons,
+}
+
+/// A count of cells.
+#[derive(Clone, Copy, Debug, PartialEq, Eq)]
+pub struct Mark {
+    /// How many cells there were.
+    pub count: u32,
+}
+
+/// The arena has no cell left for a new object.
+#[derive(Clone, Copy, Debug, PartialEq, Eq)]
+pub struct Full;

@@ -1,0 +1,36 @@
+//! Looking a cell up in the slot table.
+
+ghost use Rattle.std.specs.Prelude.{◌<◌, length};
+ghost use Rattle.hons_arena.specs.Table.{IsTable};
+ghost use Rattle.hons_arena.specs.Probe.{IsEnd};
+
+use crate::cell::{Cell, same_cell};
+use crate::hash::home;
+
+/// Where the walk for a cell ends.
+#[derive(Drop)]
+pub enum Probe {
+    /// In a slot that has the cell, with the cell's number.
+    Found(usize, u32),
+    /// In an empty slot: the cell is not held.
+    Empty(usize),
+}
+
+/// Walks from a cell's home to the cell, or to the first empty slot.
+pub fn end_of_walk(cells: &[Cell], slots: &[Option<u32>], cell: Cell) -> Probe
+    requires table { IsTable cells.now slots.now }
+    requires room { length cells.now < length slots.now }
+    ensures { IsEnd cells.now slots.now cell result }
+{
+    let mut slot = home(cell, slots.len());
+    for _step in 0..slots.len() {
+        let Some(number) = slots[slot] else {
+            return Probe::Empty(slot);
+        };
+        if same_cell(cells[number as usize], cell) {
+            return Probe::Found(slot, number);
+        }
+        slot = if slot + 1 == slots.len() { 0 } else { slot + 1 };
+    }
+    unreachable!()
+}
