@@ -7,3 +7,5 @@ pub mod Bitwise
 pub mod TwosComplement
 pub mod Lengths
 pub mod Parts
+pub mod Indexes
+pub mod NamedTrees

@@ -23,3 +23,9 @@ pub mod Definition
 pub mod Walk
 pub mod Evaluate
 pub mod Numbered
+pub mod Ground
+pub mod IsTermOf
+pub mod IsGround
+pub mod Named
+pub mod WorldSeen
+pub mod DefinitionOf
