@@ -1,0 +1,18 @@
+//! Theorems, the shapes of their variables, and the inputs on which they are tried.
+//!
+//! A theorem binds each of its variables to a [`Shape`]. A truth value for each index of the shapes then
+//! gives each variable an object. Index values are numbered by the indices in order: the value of number k
+//! goes to the k-th smallest index, from 0.
+#![tactic(auto)]
+
+mod bindings;
+mod fn_set;
+mod inputs;
+mod shape;
+mod theorem;
+
+pub use bindings::Bindings;
+pub use fn_set::FnSet;
+pub use inputs::Inputs;
+pub use shape::Shape;
+pub use theorem::{Mode, Part, Thm};

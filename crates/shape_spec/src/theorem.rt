@@ -1,0 +1,35 @@
+//! Theorems as they are decided.
+
+use super::bindings::Bindings;
+use super::fn_set::FnSet;
+use gl_logic::{Term, TextId};
+
+/// How a theorem is decided: by binary decision diagrams or by satisfiability.
+#[derive(Clone, Copy, Debug, PartialEq, Eq)]
+pub enum Mode {
+    Bdd,
+    Sat,
+}
+
+/// A part of a theorem.
+#[derive(Clone, Copy, Debug, PartialEq, Eq)]
+pub enum Part {
+    Hyp,
+    Concl,
+}
+
+/// A theorem of a book: where the hypothesis is not NIL, the conclusion is not NIL.
+#[derive(Drop)]
+pub struct Thm {
+    pub name: TextId,
+    pub hyp: Term,
+    pub concl: Term,
+    pub bindings: Bindings,
+    /// How many definitions may be opened inside one another in the hypothesis.
+    pub hyp_clk: u32,
+    /// And in the conclusion.
+    pub concl_clk: u32,
+    pub mode: Mode,
+    /// The functions whose calls are kept.
+    pub memoized: FnSet,
+}
