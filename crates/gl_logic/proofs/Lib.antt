@@ -9,3 +9,8 @@ pub mod Lengths
 pub mod Parts
 pub mod Indexes
 pub mod NamedTrees
+pub mod Walks
+pub mod Optional
+pub mod OwnWalks
+pub mod FreeVariables
+pub mod MadeCalls

@@ -29,3 +29,9 @@ pub mod IsGround
 pub mod Named
 pub mod WorldSeen
 pub mod DefinitionOf
+pub mod Different
+pub mod Parts
+pub mod Counts
+pub mod CellCounts
+pub mod Wide
+pub mod FreeVariables

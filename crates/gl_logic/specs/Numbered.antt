@@ -1,6 +1,6 @@
 -- Objects whose texts a table has.
 use Rattle.std.specs.Prelude.{ℕ, ◌<◌}
-use Rattle.gl_logic.specs.Object.{Object, Int, Character, Symbol, Text, Cons}
+use Rattle.gl_logic.specs.Object.{Object, Symbol, Text, Cons}
 
 -- each symbol and string of the object has one of the first n texts
 abbrev pub IsNumbered : ℕ → Object → Type 0

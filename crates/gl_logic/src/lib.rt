@@ -8,6 +8,7 @@ mod assignment;
 mod def;
 mod ids;
 pub mod integer_laws;
+pub mod laws;
 mod name_index;
 mod named_trees;
 mod names;
