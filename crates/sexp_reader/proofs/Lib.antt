@@ -1,3 +1,6 @@
 pub mod Told
 pub mod Digits
 pub mod Atoms
+pub mod Stacks
+pub mod Cuts
+pub mod Steps

@@ -2,14 +2,9 @@
 use Rattle.std.specs.Prelude.{ℕ, ◌+◌, max, nat_lt, if◌then◌else◌, List, [], ◌∷◌, map, codes, Option, Some, None, option_map, option_and_then}
 use Rattle.gl_logic.specs.Object.{Object, Symbol, Cons, nil}
 use Rattle.sexp_reader.specs.declared.place.Place.{Place}
-use Rattle.sexp_reader.specs.declared.list.Form.{Form}
+use Rattle.sexp_reader.specs.declared.stack.Item.{Item}
 use Rattle.sexp_reader.specs.Words.{atom_of, place_in}
 use Rattle.sexp_reader.specs.Pieces.{Piece, Gap, Open, Close, Quote, Word}
-
--- a form, and how deep its parentheses and quotes nest
-pub record Item : Type 0 where
-  pub form : Form
-  pub depth : ℕ
 
 -- the forms up to the next parenthesis that closes more than was opened, and those behind it up to the next one, and so on
 pub record Levels : Type 0 where

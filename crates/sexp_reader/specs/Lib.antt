@@ -5,3 +5,4 @@ pub mod FormCode
 pub mod Pieces
 pub mod Levels
 pub mod Reads
+pub mod Stack

@@ -1,11 +1,12 @@
 -- The forms that a text spells.
 use Rattle.std.specs.Prelude.{◌≡◌, ℕ, List, [], ◌∷◌, map, Option, Some, None, option_and_then}
 use Rattle.sexp_reader.specs.declared.list.Form.{Form}
-use Rattle.sexp_reader.specs.declared.forms.End.{End}
-use Rattle.sexp_reader.specs.declared.forms.End.TheVariants.{Clean, Bad}
+use Rattle.sexp_reader.specs.declared.ends.End.{End}
+use Rattle.sexp_reader.specs.declared.ends.End.TheVariants.{Clean, Bad}
 use Rattle.sexp_reader.specs.Places.{first_place}
 use Rattle.sexp_reader.specs.Pieces.{pieces_of}
-use Rattle.sexp_reader.specs.Levels.{Item, levels_of}
+use Rattle.sexp_reader.specs.declared.stack.Item.{Item}
+use Rattle.sexp_reader.specs.Levels.{levels_of}
 
 -- all parentheses are closed and none is left
 abbrev pub closed : List Item → List (List Item) → Option (List Form)

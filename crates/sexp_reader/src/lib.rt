@@ -2,11 +2,15 @@
 #![tactic(auto)]
 
 mod book;
-mod forms;
+mod ends;
 mod list;
+mod pieces;
 mod place;
+mod stack;
+mod text;
 mod words;
 
 pub use book::{MOST_BYTES, ReadEnd, read_book};
-pub use forms::{End, Forms};
+pub use ends::{End, Forms};
 pub use list::{Form, FormList};
+pub use text::forms;

@@ -1,4 +1,4 @@
-//! The forms of a text.
+//! What reading a text gives.
 
 use crate::list::FormList;
 
