@@ -14,3 +14,5 @@ pub mod Optional
 pub mod OwnWalks
 pub mod FreeVariables
 pub mod MadeCalls
+pub mod DepthOfCounts
+pub mod OtherCounts

@@ -35,3 +35,5 @@ pub mod Counts
 pub mod CellCounts
 pub mod Wide
 pub mod FreeVariables
+pub mod WorkedPrims
+pub mod WorkedCounts

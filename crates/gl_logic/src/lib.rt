@@ -16,6 +16,7 @@ mod prim;
 mod term;
 mod texts;
 mod tree;
+pub mod worked;
 mod world;
 
 pub use assignment::Assignment;
