@@ -1,7 +1,11 @@
+pub mod Closed
+pub mod Elements
 pub mod Entering
 pub mod Interned
 pub mod Objects
 pub mod Pigeonhole
+pub mod Placing
 pub mod Reading
 pub mod Tables
+pub mod Trees
 pub mod Walks

@@ -1,8 +1,9 @@
 -- What an arena holds, and how it grows.
-use Rattle.std.specs.Prelude.{◌≡◌, ◌≢◌, ℕ, List, [], ◌∷◌, ◌++◌, length, AllPairs, Contains, refl}
+use Rattle.std.specs.Prelude.{◌≡◌, ◌≢◌, ℕ, ◌+◌, ◌<◌, List, [], ◌∷◌, ◌++◌, length, All, AllPairs, Contains, refl}
 use Rattle.std.specs.Coded.{Coded, code_by, coded×, coded_ℕ, coded_list}
 use Rattle.std.proofs.Common.{◌⊎◌}
 use Rattle.gl_logic.specs.Object.{Object, coded_object}
+use Rattle.hons_arena.specs.Parts.{IsCellOf}
 
 -- how many cells there may be, and the object of each cell in the order of their making
 pub record Held : Type 0 where
@@ -25,3 +26,23 @@ Enters old new x = (Contains old x × (new ≡ old)) ⊎ ((¬ Contains old x) ×
 pub record HasNoCell (held : Held) (x : Object) : Type 0 where
   pub absent : ¬ Contains held.objects x
   pub full : length held.objects ≡ held.limit
+
+-- cells of the object are added, and nothing else
+pub record AddsCellsOf (x : Object) (old new : List Object) : Type 0 where
+  pub made : List Object
+  pub is : new ≡ old ++ made
+  pub cells : All (λ y. IsCellOf y x) made
+
+-- some cell of the object is not held, and no cell is left
+pub record LacksCell (held : Held) (x : Object) : Type 0 where
+  pub lacking : Object
+  pub cell : IsCellOf lacking x
+  pub none : HasNoCell held lacking
+
+-- the different cells of the object that are not held are more than the free room
+pub record HasNoRoomFor (held : Held) (x : Object) : Type 0 where
+  pub cells : List Object
+  pub different : IsEachOnce cells
+  pub needed : All (λ y. IsCellOf y x) cells
+  pub absent : All (λ y. ¬ Contains held.objects y) cells
+  pub more : held.limit < length held.objects + length cells

@@ -6,6 +6,7 @@ ghost use Rattle.hons_arena.specs.Ids.{object_at, IsBelow, IsLive, IsIdOf, kind_
 ghost use Rattle.hons_arena.specs.Cells.{cell_object, PartsBelow, IsAtomCell};
 ghost use Rattle.hons_arena.specs.Table.{AreEmpty};
 ghost use Rattle.hons_arena.specs.Held.{Enters, HasNoCell, IsEachOnce};
+ghost use Rattle.hons_arena.specs.Parts.{AreHeld};
 
 use crate::cell::{Cell, same_id};
 use crate::id::{Full, Id, IdKind, Kind, Mark};
@@ -76,6 +77,15 @@ impl HonsArena {
     {
         let _limit = self.limit;
         self.cells.len() as u32
+    }
+
+    /// Each object is held once, with its cells, and within the limit.
+    pub fn is_whole(&self)
+        ensures within { length self.now.objects ≤ self.now.limit }
+        ensures different { IsEachOnce self.now.objects }
+        ensures parts { (id : Id) → IsLive self.now.objects id → AreHeld self.now.objects (object_at self.now.objects id) }
+    {
+        let _limit = self.limit;
     }
 
     /// The id of what a cell keeps, in a cell that has it already or in a new one.

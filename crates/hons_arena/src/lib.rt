@@ -5,6 +5,7 @@ mod arena;
 mod cell;
 mod hash;
 mod id;
+mod place;
 mod probe;
 
 pub use arena::HonsArena;

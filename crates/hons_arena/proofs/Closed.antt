@@ -1,0 +1,59 @@
+-- Each cell of a live id's object is held.
+use Rattle.std.proofs.Common.{◌≡◌, ℕ, arith, length, List, refl, sym, ◌∙◌, ap, subst, inl, inr}
+use Rattle.std.proofs.lemmas.List.{get_or_default}
+use Rattle.std.specs.List.{Contains}
+use Rattle.gl_logic.specs.Object.{Object, Int, Character, Symbol, Text, Cons, nil, car, cdr}
+use Rattle.hons_arena.specs.declared.cell.Cell.{Cell}
+use Rattle.hons_arena.specs.declared.cell.Cell.TheVariants as cell
+use Rattle.hons_arena.specs.declared.id.Id.{Id}
+use Rattle.hons_arena.specs.declared.id.IdKind.{IdKind}
+use Rattle.hons_arena.specs.declared.id.IdKind.TheVariants as kind
+use Rattle.hons_arena.specs.Cells.{cell_object, objects_of, cell_at, PartsBelow, IsInterned}
+use Rattle.hons_arena.specs.Held.{Held}
+use Rattle.hons_arena.specs.Ids.{object_at, object_numbered, IsNumberBelow, IsBelow, IsLive}
+use Rattle.hons_arena.specs.Parts.{IsPart, TakesCell, AreHeld}
+use Rattle.hons_arena.proofs.Entering.{seen}
+use Rattle.hons_arena.proofs.Interned.{object_is, parts_live, objects_count}
+
+module _ (cells : List Cell) (interned : IsInterned cells) where
+  abbrev objects : List Object
+  objects = objects_of cells
+
+  abbrev n : ℕ
+  n = length cells
+
+  -- what takes a cell and has a live number is held
+  itself_held : (x : Object) → TakesCell x → (t : IdKind) (k : ℕ) → IsNumberBelow n t k → object_numbered objects t k ≡ x → Contains objects x
+  itself_held x cell kind.Symbol k h e = absurd (subst TakesCell (sym e) cell)
+  itself_held x cell kind.Text k h e = absurd (subst TakesCell (sym e) cell)
+  itself_held x cell kind.Cell k h e = (k, omega (arith, h, objects_count cells interned), get_or_default objects k x nil (omega (arith, h, objects_count cells interned)) ∙ e)
+
+  -- the parts of a cons with a live number
+  parts_held : (a d : Object) → ((j : Id) → IsBelow n j → object_at objects j ≡ a → AreHeld objects a) → ((j : Id) → IsBelow n j → object_at objects j ≡ d → AreHeld objects d)
+      → (c : Cell) → PartsBelow n c → cell_object objects c ≡ Cons a d → AreHeld objects a × AreHeld objects d
+  parts_held a d f g (cell.Int z) p e = absurd cc
+  parts_held a d f g (cell.Character z) p e = absurd cc
+  parts_held a d f g (cell.Cons i j) p e = (f i p.0 (ap car e), g j p.1 (ap cdr e))
+
+  cons_held : (a d : Object) → ((j : Id) → IsBelow n j → object_at objects j ≡ a → AreHeld objects a) → ((j : Id) → IsBelow n j → object_at objects j ≡ d → AreHeld objects d)
+      → (t : IdKind) (k : ℕ) → IsNumberBelow n t k → object_numbered objects t k ≡ Cons a d → AreHeld objects a × AreHeld objects d
+  cons_held a d f g kind.Symbol k h e = absurd cc
+  cons_held a d f g kind.Text k h e = absurd cc
+  cons_held a d f g kind.Cell k h e = parts_held a d f g (cell_at cells k) (parts_live cells interned k h) (sym (object_is cells interned k h) ∙ e)
+
+  either_held : (a d y : Object) → TakesCell y → (t : IdKind) (k : ℕ) → IsNumberBelow n t k → object_numbered objects t k ≡ Cons a d → AreHeld objects a × AreHeld objects d → IsPart y (Cons a d) → Contains objects y
+  either_held a d y cell t k h e both (inl same) = itself_held y cell t k h (e ∙ sym same)
+  either_held a d y cell t k h e both (inr (inl first)) = both.0 y (record { cell = cell; part = first })
+  either_held a d y cell t k h e both (inr (inr rest)) = both.1 y (record { cell = cell; part = rest })
+
+  all_held : (x : Object) (j : Id) → IsBelow n j → object_at objects j ≡ x → AreHeld objects x
+  all_held (Cons a d) j h e y c = either_held a d y c.cell j.kind j.number h e (cons_held a d (all_held a) (all_held d) j.kind j.number h e) c.part
+  all_held (Int z) j h e y c = itself_held y c.cell j.kind j.number h (e ∙ sym c.part)
+  all_held (Character z) j h e y c = itself_held y c.cell j.kind j.number h (e ∙ sym c.part)
+  all_held (Symbol z) j h e y c = itself_held y c.cell j.kind j.number h (e ∙ sym c.part)
+  all_held (Text z) j h e y c = itself_held y c.cell j.kind j.number h (e ∙ sym c.part)
+
+pub live_held : (limit : ℕ) (cells : List Cell) (held : Held) → IsInterned cells → seen limit cells ≡ held → (id : Id) → IsLive held.objects id → AreHeld held.objects (object_at held.objects id)
+live_held limit cells held interned is =
+    subst (λ (s : Held). (id : Id) → IsLive s.objects id → AreHeld s.objects (object_at s.objects id)) is
+    (λ id h. all_held cells interned (object_at (objects_of cells) id) id (subst (λ (m : ℕ). IsBelow m id) (objects_count cells interned) h) refl)
