@@ -4,3 +4,4 @@ pub mod Atoms
 pub mod Stacks
 pub mod Cuts
 pub mod Steps
+pub mod Shifted

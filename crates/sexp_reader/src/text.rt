@@ -1,8 +1,10 @@
 //! The forms of a text.
 
-ghost use Rattle.std.specs.Prelude.{◌≡◌, ◌<◌, ℕ, List, [], length, IfOk};
+ghost use Rattle.std.specs.Prelude.{◌≡◌, ◌<◌, ℕ, List, [], length, IfOk, All};
 ghost use Rattle.gl_logic.specs.Names.{Extends};
+ghost use Rattle.gl_logic.specs.Numbered.{IsNumbered};
 ghost use Rattle.sexp_reader.specs.Reads.{Reads};
+ghost use Rattle.sexp_reader.specs.Stack.{KnowsQuote};
 
 use crate::ends::{End, Forms};
 use crate::list::FormList;
@@ -24,6 +26,20 @@ pub fn forms(alloc: Global, bytes: &[u8], texts: &mut Texts) -> Result<Forms, No
     ensures reads { IfOk result (λ forms. (later : List (List ℕ)) → Extends texts.new later
         → Reads later bytes.now forms.list forms.end) }
     ensures kept { Extends texts.old texts.new }
+    // The table has the name of each symbol in them.
+    ensures numbered { IfOk result (λ forms. All (λ form. IsNumbered (length texts.new) form.tree) forms.list) }
+{
+    let forms = read_all(alloc, bytes, texts)?;
+    Ok(forms)
+}
+
+// The same, by a table that has QUOTE.
+fn read_all(alloc: Global, bytes: &[u8], texts: &mut Texts) -> Result<Forms, NoMemory>
+    requires { length bytes.now < 4294967295 }
+    ensures reads { IfOk result (λ forms. (later : List (List ℕ)) → Extends texts.new later
+        → Reads later bytes.now forms.list forms.end) }
+    ensures kept { Extends texts.old texts.new }
+    ensures quote { IfOk result (λ _. (quote : ℕ) × KnowsQuote texts.new quote) }
 {
     let mut stack = Stack::new(alloc, texts.id_of(b"QUOTE")?);
     let mut place = Place::first();

@@ -5,7 +5,7 @@ use Rattle.sexp_reader.specs.Pieces.{pieces_of}
 use Rattle.sexp_reader.specs.Levels.{levels_of}
 use Rattle.sexp_reader.specs.Reads.{reading}
 use Rattle.sexp_reader.specs.Stack.{finished, KnowsQuote}
-use Rattle.sexp_reader.proofs.text.forms.Given as goal
+use Rattle.sexp_reader.proofs.text.read_all.Given as goal
 
 -- the stack makes of the pieces that are left what the whole text reads as, by each later table
 abbrev pub invariant-loop-rest : goal.invariant-loop-rest
