@@ -1,6 +1,6 @@
 //! The integer primitives by their names.
 
-ghost use Rattle.std.specs.Prelude.{◌≡◌, IsTrue, IfOk, OnErr};
+ghost use Rattle.std.specs.Prelude.{◌≡◌, ◌↔◌, IsTrue, IsErr, IfOk, OnErr};
 ghost use Rattle.gl_logic.specs.Object.{Int, boolean_object};
 ghost use Rattle.gl_logic.specs.PrimValue.{prim_value};
 ghost use Rattle.int_prims.specs.Integers.{is_operation, is_test, integers_for, IsTooWide};
@@ -46,10 +46,8 @@ pub fn is_test(prim: Prim) -> bool
     )
 }
 
-/// The value of a primitive on integers. A primitive of one argument takes `a`, and any `b`.
-///
-/// `Wide` exactly where the logic's integer is outside -2^127 to 2^127 - 1.
-pub fn apply_int(prim: Prim, a: i128, b: i128) -> Result<i128, Wide>
+// the value of an operation by its name
+fn operation(prim: Prim, a: i128, b: i128) -> Result<i128, Wide>
     requires { IsTrue (is_operation prim) }
     ensures ok { IfOk result (λ i. prim_value prim (integers_for prim a b) ≡ Int i) }
     ensures wide { OnErr result (IsTooWide (prim_value prim (integers_for prim a b))) }
@@ -70,6 +68,17 @@ pub fn apply_int(prim: Prim, a: i128, b: i128) -> Result<i128, Wide>
         Prim::IntegerLength => Ok(length(a)),
         _ => unreachable!(),
     }
+}
+
+/// The value of a primitive on integers. A primitive of one argument takes `a`, and any `b`.
+///
+/// `Wide` exactly where the logic's integer is outside -2^127 to 2^127 - 1.
+pub fn apply_int(prim: Prim, a: i128, b: i128) -> Result<i128, Wide>
+    requires { IsTrue (is_operation prim) }
+    ensures ok { IfOk result (λ i. prim_value prim (integers_for prim a b) ≡ Int i) }
+    ensures wide { IsErr result ↔ IsTooWide (prim_value prim (integers_for prim a b)) }
+{
+    operation(prim, a, b)
 }
 
 /// The truth value of a test of two integers.
