@@ -1,1 +1,6 @@
 pub mod Places
+pub mod Smaller
+pub mod Integers
+pub mod Pairs
+pub mod Made
+pub mod Pushed

@@ -2,7 +2,7 @@
 use Rattle.std.specs.Prelude.{◌≡◌, ℕ, List, map}
 use Rattle.shape_spec.specs.ShapeSeen.{ShapeSeen}
 use Rattle.shape_spec.specs.ShapeOf.{shape_of}
-use Rattle.shape_spec.specs.Indices.{indices_of, rank_in, IsBindings}
+use Rattle.shape_spec.specs.Indices.{indices_of, ranks_of, IsBindings}
 use Rattle.shape_spec.specs.declared.bindings.Binding.{Binding}
 
 abbrev pub binding_of : Binding → ℕ × ShapeSeen
@@ -15,4 +15,4 @@ bindings_of xs = map binding_of xs
 pub record AreInOrder (b : List (ℕ × ShapeSeen)) (all ranks : List ℕ) : Type 0 where
   pub proper : IsBindings b
   pub all_are : all ≡ indices_of b
-  pub ranks_are : ranks ≡ map (rank_in all) all
+  pub ranks_are : ranks ≡ ranks_of all

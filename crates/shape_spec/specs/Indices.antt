@@ -29,6 +29,10 @@ abbrev pub rank_in : List ℕ → ℕ → ℕ
 rank_in [] i = 0
 rank_in (j ∷ is) i = cond (ltb j i) 1 0 + rank_in is i
 
+-- and for each index of a list how many of them are smaller
+abbrev pub ranks_of : List ℕ → List ℕ
+ranks_of is = map (rank_in is) is
+
 -- ---- what every list of bindings of the program keeps
 abbrev pub IsNotIn : ℕ → List ℕ → Type 0
 IsNotIn x [] = Unit {0}

@@ -1,11 +1,15 @@
 //! Bindings of variables to shapes.
 
-ghost use Rattle.std.specs.Prelude.{◌≡◌, ◌<◌, ◌≤◌, ◌+◌, [], ◌∷◌, ◌++◌, length, slice_get, Some, OnOk, OnErr};
+ghost use Rattle.std.specs.Prelude.{◌≡◌, ◌<◌, ◌≤◌, ◌+◌, [], ◌∷◌, ◌++◌, length, slice_get, Some, OnOk, OnErr, IfOk};
 ghost use Rattle.shape_spec.specs.ShapeOf.{shape_of};
 ghost use Rattle.shape_spec.specs.Indices.{variables_of, shapes_of, indices_in, indices_of, width_of, IsNotIn, AreApart, AllBelow, IsIntegerShape, IsBindings};
+ghost use Rattle.shape_spec.specs.InputMeant.{input_meant};
+ghost use Rattle.gl_logic.specs.Assignments.{value_at};
 
+use super::inputs::Inputs;
+use super::ranks::{add_indices, integer_from};
 use super::shape::Shape;
-use gl_logic::{NoMemory, TextId};
+use gl_logic::{Assignment, NoMemory, TextId, Tree};
 use std::alloc::Global;
 use std::marker::Model;
 
@@ -57,6 +61,27 @@ impl Bindings {
         }
     }
 
+    /// Binds a variable to a shape, behind those that are bound. The shape is lost where memory runs out.
+    ///
+    /// So far the shape is an integer of 1 to 128 bits.
+    pub fn push(&mut self, alloc: Global, variable: TextId, shape: Shape) -> Result<(), NoMemory>
+        requires variable { IsNotIn variable.number (variables_of self.old) }
+        requires shape { IsIntegerShape (shape_of shape) }
+        requires apart { AreApart (indices_of self.old ++ indices_in (shape_of shape)) }
+        requires below { AllBelow 1000000 (indices_in (shape_of shape)) }
+        requires few { width_of self.old + length (indices_in (shape_of shape)) ≤ 1024 }
+        ensures ok { OnOk result (self.new ≡ self.old ++ (variable.number, shape_of shape) ∷ []) }
+        ensures err { OnErr result (self.new ≡ self.old) }
+    {
+        let mut indices = Vec::from_slice(alloc, self.indices.as_slice())?;
+        let mut ranks = Vec::from_slice(alloc, self.ranks.as_slice())?;
+        add_indices(&mut indices, &mut ranks, integer_indices(&shape))?;
+        self.items.push(Binding { variable, shape })?;
+        self.indices = indices;
+        self.ranks = ranks;
+        Ok(())
+    }
+
     /// How many variables there are.
     pub fn len(&self) -> u64
         ensures { result ≡ length self.now }
@@ -93,4 +118,34 @@ pub fn bit_count(b: &Bindings) -> u32
     ensures { result ≡ width_of b.now }
 {
     b.indices.len() as u32
+}
+
+/// The indices of an integer's shape.
+fn integer_indices(shape: &Shape) -> &[u32]
+    ensures { IsIntegerShape (shape_of shape.now) → result.now ≡ indices_in (shape_of shape.now) }
+{
+    match shape {
+        Shape::Integer(indices) => indices.as_slice(),
+        Shape::List(_, tail) => integer_indices(tail),
+        _ => &[],
+    }
+}
+
+/// The input of an assignment: each variable with the object of its shape, in the order of the bindings.
+///
+/// It takes constant time for each index.
+pub fn input_of(alloc: Global, b: &Bindings, a: &Assignment) -> Result<Inputs, NoMemory>
+    requires { length a.now ≡ width_of b.now }
+    ensures { IfOk result (λ s. s ≡ input_meant b.now (value_at a.now)) }
+{
+    let ranks = b.ranks.as_slice();
+    let mut inputs = Inputs::new(alloc);
+    let mut start = 0;
+    for binding in &b.items {
+        let end = start + integer_indices(&binding.shape).len();
+        let value = integer_from(&ranks[start..end], a);
+        inputs.push(binding.variable, Tree::int(value))?;
+        start = end;
+    }
+    Ok(inputs)
 }

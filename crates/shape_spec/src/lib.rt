@@ -8,10 +8,11 @@
 mod bindings;
 mod fn_set;
 mod inputs;
+mod ranks;
 mod shape;
 mod theorem;
 
-pub use bindings::Bindings;
+pub use bindings::{Bindings, bit_count, input_of};
 pub use fn_set::FnSet;
 pub use inputs::Inputs;
 pub use shape::Shape;
