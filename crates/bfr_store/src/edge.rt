@@ -67,6 +67,7 @@ impl Edge {
     pub fn flipped_if(self, flag: bool) -> Edge
         ensures node { node_of result ≡ node_of self }
         ensures plain { flag ≡ false → result ≡ self }
+        ensures parity { flag ≡ true → result.number % 2 + self.number % 2 ≡ 1 }
         ensures truth { (values : List Bool) → truth_at values result ≡ xor flag (truth_at values self) }
     {
         if flag { self.complement() } else { self }

@@ -1,0 +1,112 @@
+-- A node more, and what the store keeps true of its nodes and tables.
+use Rattle.std.proofs.Common.{◌≡◌, ◌≢◌, ◌⊎◌, ℕ, zero, suc, ◌+◌, ◌<◌, ◌≤◌, Bool, cond, min, List, [], ◌∷◌, ◌++◌, length, get_or, set, refl, ap, ◌∙◌, sym, subst, inl, inr, arith, length-append, length-set, get_or-set_same, get_or-set_other}
+use Rattle.std.proofs.lemmas.List.{get_or_append_left, get_or_push, length_push, get_or_default}
+use Rattle.std.proofs.lemmas.Bool.{cases_eq, cases_lt}
+use Rattle.bfr_store.specs.declared.edge.Edge.{Edge}
+use Rattle.bfr_store.specs.Edges.{node_of}
+use Rattle.bfr_store.proofs.Values.{truth-append}
+use Rattle.bdd_store.specs.declared.node.Node.{Node}
+use Rattle.bdd_store.specs.declared.entry.Entry.{Entry}
+use Rattle.bdd_store.specs.Nodes.{Diagrams, Extends, past, constant_node, node_at, node_value, top_of, truth_of}
+use Rattle.bdd_store.specs.Inside.{IsBranch, IsOrdered, IsDistinct, bucket_of, IsChained, IsAnswer, IsComputed, IsStore}
+
+module _ (nodes : List Node) (n : Node) where
+  pub node-before : (i : ℕ) → i < length nodes → node_at (nodes ++ n ∷ []) i ≡ node_at nodes i
+  node-before i h = get_or_append_left nodes (n ∷ []) constant_node i h
+
+  pub node-last : (i : ℕ) → i ≡ length nodes → node_at (nodes ++ n ∷ []) i ≡ n
+  node-last i h = get_or_push nodes n constant_node i (sym h)
+
+  pub top-before : (e : Edge) → node_of e < length nodes → top_of (nodes ++ n ∷ []) e ≡ top_of nodes e
+  unfolding top_of
+  top-before e h = ap (λ (m : Node). m.variable) (node-before (node_of e) h)
+
+  pub truth-before : (e : Edge) (a : ℕ → Bool) → node_of e < length nodes → truth_of (nodes ++ n ∷ []) e a ≡ truth_of nodes e a
+  unfolding truth_of
+  truth-before e a h = truth-append node_value nodes (n ∷ []) e a h
+
+  -- where a number of the longer list lies
+  pub number_cases : (i : ℕ) → i < length (nodes ++ n ∷ []) → (i < length nodes) ⊎ (i ≡ length nodes)
+  number_cases i h = elim (cases_lt i (length nodes)) [ inl below ↦ inl below | inr above ↦ inr (omega (arith, length_push nodes n)) ]
+
+  pub branch-before : (width i : ℕ) (m : Node) → i ≤ length nodes → IsBranch nodes width i m → IsBranch (nodes ++ n ∷ []) width i m
+  branch-before width i m h b = record {
+    high_below = b.high_below;
+    low_below = b.low_below;
+    regular = b.regular;
+    differ = b.differ;
+    above_high = omega (arith, b.above_high, b.high_below, top-before m.high (omega (arith, b.high_below)));
+    above_low = omega (arith, b.above_low, b.low_below, top-before m.low (omega (arith, b.low_below)));
+    in_width = b.in_width;
+  }
+
+  pub ordered-push : (width : ℕ) → IsOrdered nodes width → IsBranch nodes width (length nodes) n → IsOrdered (nodes ++ n ∷ []) width
+  ordered-push width o b = record {
+    some = omega (arith, length_push nodes n);
+    first = node-before 0 o.some ∙ o.first;
+    branches = λ i positive within. elim (number_cases i within) [
+      | inl below ↦ subst (λ m. IsBranch (nodes ++ n ∷ []) width i m) (sym (node-before i below)) (branch-before width i (node_at nodes i) (omega arith) (o.branches i positive below))
+      | inr last ↦ subst (λ m. IsBranch (nodes ++ n ∷ []) width i m) (sym (node-last i last)) (branch-before width i n (omega arith) (subst (λ k. IsBranch nodes width k n) (sym last) b))
+    ];
+    narrow = o.narrow;
+  }
+
+  pub distinct-push : IsDistinct nodes → ((i : ℕ) → i < length nodes → node_at nodes i ≢ n) → IsDistinct (nodes ++ n ∷ [])
+  distinct-push d absent i j i_in j_in same = elim (number_cases i i_in) [
+    | inl i_below ↦ elim (number_cases j j_in) [
+      | inl j_below ↦ d i j i_below j_below (sym (node-before i i_below) ∙ same ∙ node-before j j_below)
+      | inr j_last ↦ absurd (absent i i_below (sym (node-before i i_below) ∙ same ∙ node-last j j_last))
+    ]
+    | inr i_last ↦ elim (number_cases j j_in) [
+      | inl j_below ↦ absurd (absent j j_below (sym (node-before j j_below) ∙ sym same ∙ node-last i i_last))
+      | inr j_last ↦ i_last ∙ sym j_last
+    ]
+  ]
+
+  pub answer-push : (e : Entry) → IsAnswer nodes e → IsAnswer (nodes ++ n ∷ []) e
+  answer-push e p = record {
+    test_live = omega (arith, p.test_live, length_push nodes n);
+    high_live = omega (arith, p.high_live, length_push nodes n);
+    low_live = omega (arith, p.low_live, length_push nodes n);
+    answer_live = omega (arith, p.answer_live, length_push nodes n);
+    above = omega (arith, p.above, top-before e.test p.test_live, top-before e.high p.high_live, top-before e.low p.low_live, top-before e.answer p.answer_live);
+    truth = λ a. truth-before e.answer a p.answer_live ∙ p.truth a ∙ (λ i. cond (sym (truth-before e.test a p.test_live) i) (sym (truth-before e.high a p.high_live) i) (sym (truth-before e.low a p.low_live) i));
+  }
+
+  pub computed-push : (entries : List Entry) → IsComputed nodes entries → IsComputed (nodes ++ n ∷ []) entries
+  computed-push entries p = record {
+    some = p.some;
+    answers = λ i d h. answer-push (get_or entries i d) (p.answers i d h);
+  }
+
+pub extends-push : (old : Diagrams) (n : Node) → Extends old (record old { nodes = old.nodes ++ n ∷ [] })
+extends-push old n = record {
+  stays = λ e h. omega (arith, h, length_push old.nodes n);
+  same = λ e a h. truth-before old.nodes n e a h;
+  tops = λ e h. top-before old.nodes n e h;
+  same_limit = refl;
+  same_width = refl;
+  no_fewer = omega (arith, length_push old.nodes n);
+}
+
+-- one call after another
+pub extends-then : (a b c : Diagrams) → Extends a b → Extends b c → Extends a c
+extends-then a b c p q = record {
+  stays = λ e h. q.stays e (p.stays e h);
+  same = λ e x h. q.same e x (p.stays e h) ∙ p.same e x h;
+  tops = λ e h. q.tops e (p.stays e h) ∙ p.tops e h;
+  same_limit = q.same_limit ∙ p.same_limit;
+  same_width = q.same_width ∙ p.same_width;
+  no_fewer = omega (arith, p.no_fewer, q.no_fewer);
+}
+
+-- a greater width
+pub ordered-widen : (nodes : List Node) (width wider : ℕ) → IsOrdered nodes width → width ≤ wider → wider ≤ past → IsOrdered nodes wider
+ordered-widen nodes width wider o h narrow = record {
+  some = o.some;
+  first = o.first;
+  branches = λ i positive within.
+      let b = o.branches i positive within in
+      record { high_below = b.high_below; low_below = b.low_below; regular = b.regular; differ = b.differ; above_high = b.above_high; above_low = b.above_low; in_width = omega (arith, b.in_width, h) };
+  narrow = narrow;
+}

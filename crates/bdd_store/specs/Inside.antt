@@ -1,0 +1,65 @@
+-- What a store keeps true of its nodes and its tables.
+use Rattle.std.specs.Prelude.{ℕ, Bool, cond, min, ◌+◌, ◌*◌, ◌%◌, ◌≡◌, ◌≢◌, ◌≤◌, ◌<◌, List, length, get_or}
+use Rattle.bfr_store.specs.declared.edge.Edge.{Edge}
+use Rattle.bfr_store.specs.Edges.{node_of}
+use Rattle.bdd_store.specs.declared.node.Node.{Node}
+use Rattle.bdd_store.specs.declared.entry.Entry.{Entry}
+use Rattle.bdd_store.specs.Nodes.{past, constant_node, node_at, top_of, truth_of}
+
+-- a node that may have this number: its edges differ, its high edge is not complemented, and both lead to nodes with
+-- smaller numbers and greater variables
+pub record IsBranch (nodes : List Node) (width i : ℕ) (n : Node) : Type 0 where
+  pub high_below : node_of n.high < i
+  pub low_below : node_of n.low < i
+  pub regular : n.high.number % 2 ≡ 0
+  pub differ : n.high.number ≢ n.low.number
+  pub above_high : n.variable < top_of nodes n.high
+  pub above_low : n.variable < top_of nodes n.low
+  pub in_width : n.variable < width
+
+pub record IsOrdered (nodes : List Node) (width : ℕ) : Type 0 where
+  pub some : 0 < length nodes
+  pub first : node_at nodes 0 ≡ constant_node
+  pub branches : (i : ℕ) → 0 < i → i < length nodes → IsBranch nodes width i (node_at nodes i)
+  pub narrow : width ≤ past
+
+-- no two nodes are equal
+abbrev pub IsDistinct : List Node → Type 0
+IsDistinct nodes = (i j : ℕ) → i < length nodes → j < length nodes → node_at nodes i ≡ node_at nodes j → i ≡ j
+
+-- the bucket that a node is kept in, of so many
+unfoldable pub bucket_of : ℕ → Node → ℕ
+bucket_of count n = (n.variable * 625341585 + n.high.number * 1013904223 + n.low.number * 521288629) % count
+
+-- each bucket's chain begins at its greatest node, and leads from each node to the next smaller one of the bucket;
+-- 0 ends it
+pub record IsChained (count : ℕ) (nodes : List Node) (next heads : List ℕ) : Type 0 where
+  pub one_each : length next ≡ length nodes
+  pub buckets : length heads ≡ count
+  pub some : 0 < count
+  pub from_head : (i : ℕ) → 0 < i → i < length nodes → i ≤ get_or heads (bucket_of count (node_at nodes i)) 0
+  pub from_node : (i j : ℕ) → 0 < i → i < j → j < length nodes → bucket_of count (node_at nodes i) ≡ bucket_of count (node_at nodes j) → i ≤ get_or next j 0
+  pub head_in : (b : ℕ) → b < count → get_or heads b 0 < length nodes
+  pub next_in : (j : ℕ) → 0 < j → j < length nodes → get_or next j 0 < j
+  pub head_bucket : (b : ℕ) → b < count → 0 < get_or heads b 0 → bucket_of count (node_at nodes (get_or heads b 0)) ≡ b
+  pub next_bucket : (j : ℕ) → 0 < j → j < length nodes → 0 < get_or next j 0 → bucket_of count (node_at nodes (get_or next j 0)) ≡ bucket_of count (node_at nodes j)
+
+-- the entry's answer is its high edge where its test is true, and its low edge elsewhere
+pub record IsAnswer (nodes : List Node) (e : Entry) : Type 0 where
+  pub test_live : node_of e.test < length nodes
+  pub high_live : node_of e.high < length nodes
+  pub low_live : node_of e.low < length nodes
+  pub answer_live : node_of e.answer < length nodes
+  pub above : min (top_of nodes e.test) (min (top_of nodes e.high) (top_of nodes e.low)) ≤ top_of nodes e.answer
+  pub truth : (a : ℕ → Bool) → truth_of nodes e.answer a ≡ cond (truth_of nodes e.test a) (truth_of nodes e.high a) (truth_of nodes e.low a)
+
+pub record IsComputed (nodes : List Node) (entries : List Entry) : Type 0 where
+  pub some : 0 < length entries
+  pub answers : (i : ℕ) (d : Entry) → i < length entries → IsAnswer nodes (get_or entries i d)
+
+pub record IsStore (nodes : List Node) (next heads : List ℕ) (entries : List Entry) (limit width : ℕ) : Type 0 where
+  pub ordered : IsOrdered nodes width
+  pub distinct : IsDistinct nodes
+  pub chained : IsChained (length heads) nodes next heads
+  pub computed : IsComputed nodes entries
+  pub room : length nodes ≤ limit + 1

@@ -1,0 +1,227 @@
+//! The store: its nodes, and the tables that find them again.
+
+ghost use Rattle.std.specs.Prelude.{◌≡◌, ◌≢◌, ◌≤◌, ◌<◌, ◌+◌, ◌∷◌, ◌++◌, ◌↔◌, [], ℕ, Bool, cond, min, length, IsTrue, IfOk, IfSome, IfNone, OnErr};
+ghost use Rattle.bfr_store.specs.Edges.{node_of};
+
+use super::entry::{Entry, place_of};
+use super::node::{Node, TRUE};
+use bfr_store::{Edge, Full};
+use gl_logic::NoMemory;
+use std::alloc::Global;
+use std::marker::Model;
+
+/// A store of reduced ordered binary decision diagrams.
+#[derive(Drop)]
+pub struct Bdd {
+    limit: u32,
+    width: u32,
+    /// The nodes. The first is the constant true.
+    nodes: Vec<Node>,
+    /// For each node the next one of its bucket, or 0.
+    next: Vec<u32>,
+    /// The first node of each bucket, or 0.
+    heads: Vec<u32>,
+    /// Finished calls. A new one takes the place of an older one.
+    computed: Vec<Entry>,
+}
+
+impl Model for Bdd {
+    ghost use Rattle.std.specs.Prelude.{◌+◌, ◌≤◌, vec_capacity};
+    ghost use Rattle.bdd_store.specs.Nodes.{Diagrams};
+    ghost use Rattle.bdd_store.specs.Inside.{IsStore};
+
+    ghost Value = { Diagrams };
+
+    ghost view = { λ b. record { nodes = b.nodes.items; limit = b.limit; width = b.width } };
+
+    ghost invariant = { λ b. IsStore b.nodes.items b.next.items b.heads.items b.computed.items b.limit b.width × (b.limit + 1 ≤ vec_capacity b.nodes) × (b.limit + 1 ≤ vec_capacity b.next) × (b.limit ≤ 1000000000) };
+}
+
+/// How many buckets a store has at most.
+const MOST_BUCKETS: u32 = 1_048_576;
+
+/// How many finished calls a store keeps at most.
+const MOST_ENTRIES: u32 = 262_144;
+
+impl Bdd {
+    ghost use Rattle.bdd_store.specs.Nodes.{Extends, IsLive, constant_node, node_at, past, top_of, truth_of};
+    ghost use Rattle.bdd_store.specs.Inside.{IsBranch, IsOrdered};
+
+    /// A store with no node but the constant's and with no variable. Room for `limit` more nodes is reserved.
+    pub fn new(alloc: Global, limit: u32) -> Result<Bdd, NoMemory>
+        requires { limit ≤ 1000000000 }
+        ensures { IfOk result (λ b. b ≡ record { nodes = constant_node ∷ []; limit = limit; width = 0 }) }
+    {
+        let room = limit as usize + 1;
+        let mut nodes = Vec::with_capacity(alloc, room)?;
+        nodes.push(Node::constant())?;
+        let mut next = Vec::with_capacity(alloc, room)?;
+        next.push(0)?;
+        let buckets = limit.min(MOST_BUCKETS) as usize + 1;
+        let heads = vec![in alloc; 0u32; buckets]?;
+        let entries = limit.min(MOST_ENTRIES) as usize + 1;
+        let computed = vec![in alloc; Entry::blank(); entries]?;
+        Ok(Bdd {
+            limit,
+            width: 0,
+            nodes,
+            next,
+            heads,
+            computed,
+        })
+    }
+
+    /// How many nodes there may be besides the constant's.
+    pub(crate) fn limit_of(&self) -> u32
+        ensures limit { result ≡ self.now.limit }
+        ensures small { result ≤ 1000000000 }
+        ensures within { length self.now.nodes ≤ self.now.limit + 1 }
+        ensures some { 0 < length self.now.nodes }
+    {
+        self.limit
+    }
+
+    /// One more than the greatest variable that was made, or 0.
+    pub(crate) fn width_of(&self) -> u32
+        ensures width { result ≡ self.now.width }
+        ensures ordered { IsOrdered self.now.nodes self.now.width }
+    {
+        self.width
+    }
+
+    /// How many nodes there are, with the constant's.
+    pub(crate) fn len(&self) -> u32
+        ensures { result ≡ length self.now.nodes }
+    {
+        let _limit = self.limit;
+        self.nodes.len() as u32
+    }
+
+    /// The variable that the edge's node tests; that of a constant is past every other.
+    pub(crate) fn top(&self, e: Edge) -> u32
+        requires { IsLive self.now e }
+        ensures top { result ≡ top_of self.now.nodes e }
+        ensures in_width { 0 < node_of e → result < self.now.width }
+    {
+        let _limit = self.limit;
+        self.nodes[e.node() as usize].variable
+    }
+
+    /// What the edge says where the variable is true, and what it says elsewhere. The variable is not past the edge's.
+    pub(crate) fn branches(&self, e: Edge, variable: u32) -> (Edge, Edge)
+        requires live { IsLive self.now e }
+        requires at_most { variable ≤ top_of self.now.nodes e }
+        requires proper { variable < past }
+        ensures high { IsLive self.now result.0 }
+        ensures low { IsLive self.now result.1 }
+        ensures above_high { variable < top_of self.now.nodes result.0 }
+        ensures above_low { variable < top_of self.now.nodes result.1 }
+        ensures differ { variable ≡ top_of self.now.nodes e → result.0.number ≢ result.1.number }
+        ensures truth { (a : ℕ → Bool) → truth_of self.now.nodes e a ≡ cond (a variable) (truth_of self.now.nodes result.0 a) (truth_of self.now.nodes result.1 a) }
+    {
+        let _limit = self.limit;
+        let node = self.nodes[e.node() as usize];
+        if node.variable != variable {
+            return (e, e);
+        }
+        let flag = e.is_complemented();
+        (node.high.flipped_if(flag), node.low.flipped_if(flag))
+    }
+
+    /// The edge of this node that is not complemented.
+    pub(crate) fn edge_of(&self, number: u32) -> Edge
+        requires some { 0 < number }
+        requires live { number < length self.now.nodes }
+        ensures node { node_of result ≡ number }
+        ensures top { top_of self.now.nodes result ≡ (node_at self.now.nodes number).variable }
+        ensures truth { (a : ℕ → Bool) → truth_of self.now.nodes result a ≡ cond (a (node_at self.now.nodes number).variable) (truth_of self.now.nodes (node_at self.now.nodes number).high a) (truth_of self.now.nodes (node_at self.now.nodes number).low a) }
+    {
+        let _limit = self.limit;
+        Edge::regular(number)
+    }
+
+    /// The number of a node.
+    pub(crate) fn find(&self, node: Node) -> Option<u32>
+        requires { node.variable < past }
+        ensures found { IfSome result (λ n. (0 < n) × (n < length self.now.nodes) × (node_at self.now.nodes n ≡ node)) }
+        ensures absent { IfNone result ((i : ℕ) → i < length self.now.nodes → node_at self.now.nodes i ≢ node) }
+    {
+        let _limit = self.limit;
+        let mut at = self.heads[node.bucket(self.heads.len())];
+        while at != 0 {
+            if self.nodes[at as usize].is(node) {
+                return Some(at);
+            }
+            at = self.next[at as usize];
+        }
+        None
+    }
+
+    /// Adds a node, for which there is room and which is not there.
+    pub(crate) fn push(&mut self, node: Node) -> u32
+        requires room { length self.old.nodes ≤ self.old.limit }
+        requires branch { IsBranch self.old.nodes self.old.width (length self.old.nodes) node }
+        requires absent { (i : ℕ) → i < length self.old.nodes → node_at self.old.nodes i ≢ node }
+        ensures number { result ≡ length self.old.nodes }
+        ensures added { self.new ≡ record self.old { nodes = self.old.nodes ++ node ∷ [] } }
+    {
+        let _limit = self.limit;
+        let number = self.nodes.len() as u32;
+        let bucket = node.bucket(self.heads.len());
+        let head = self.heads[bucket];
+        match self.nodes.push(node) {
+            Ok(()) => {}
+            Err(_) => unreachable!(),
+        }
+        match self.next.push(head) {
+            Ok(()) => {}
+            Err(_) => unreachable!(),
+        }
+        self.heads[bucket] = number;
+        number
+    }
+
+    /// Raises the width.
+    pub(crate) fn widen(&mut self, width: u32)
+        requires wider { self.old.width ≤ width }
+        requires narrow { width ≤ past }
+        ensures { self.new ≡ record self.old { width = width } }
+    {
+        self.width = width;
+    }
+
+    /// The answer of a finished call.
+    pub(crate) fn look(&self, t: Edge, x: Edge, y: Edge) -> Option<Edge>
+        ensures live { IfSome result (IsLive self.now) }
+        ensures above { IfSome result (λ r. min (top_of self.now.nodes t) (min (top_of self.now.nodes x) (top_of self.now.nodes y)) ≤ top_of self.now.nodes r) }
+        ensures truth { IfSome result (λ r. (a : ℕ → Bool) → truth_of self.now.nodes r a ≡ cond (truth_of self.now.nodes t a) (truth_of self.now.nodes x a) (truth_of self.now.nodes y a)) }
+    {
+        let _limit = self.limit;
+        let entry = self.computed[place_of(self.computed.len(), t, x, y)];
+        if entry.is_of(t, x, y) {
+            Some(entry.answer)
+        } else {
+            None
+        }
+    }
+
+    /// Keeps the answer of a finished call, in the place of an older one.
+    pub(crate) fn keep(&mut self, t: Edge, x: Edge, y: Edge, answer: Edge)
+        requires t { IsLive self.old t }
+        requires x { IsLive self.old x }
+        requires y { IsLive self.old y }
+        requires answer { IsLive self.old answer }
+        requires above { min (top_of self.old.nodes t) (min (top_of self.old.nodes x) (top_of self.old.nodes y)) ≤ top_of self.old.nodes answer }
+        requires truth { (a : ℕ → Bool) → truth_of self.old.nodes answer a ≡ cond (truth_of self.old.nodes t a) (truth_of self.old.nodes x a) (truth_of self.old.nodes y a) }
+        ensures { self.new ≡ self.old }
+    {
+        let _limit = self.limit;
+        let place = place_of(self.computed.len(), t, x, y);
+        self.computed[place] = Entry {
+            test: t,
+            high: x,
+            low: y,
+            answer,
+        };
+    }
+}
