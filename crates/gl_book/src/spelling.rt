@@ -1,0 +1,67 @@
+//! What symbols spell.
+
+ghost use Rattle.std.specs.Prelude.{◌≡◌, ◌↔◌, ◌<◌, length, IsTrue, IfSome};
+ghost use Rattle.std.specs.Prelude.{◌==◌};
+ghost use Rattle.std.specs.List.{list_any};
+ghost use Rattle.gl_logic.specs.Object.{nil};
+ghost use Rattle.gl_logic.specs.Numbered.{IsNumbered};
+ghost use Rattle.gl_book.specs.Translation.{spells as is_spelled, prim_named as named_prim};
+ghost use Rattle.gl_book.specs.Plain.{IsIn, IsKnown};
+
+use gl_logic::{Names, Prim, TextId, Texts, Tree, TreeKind};
+
+/// Whether an object is the symbol with this text.
+pub fn spells(texts: &Texts, word: &[u8], object: &Tree) -> bool
+    requires { IsNumbered (length texts.now) object.now }
+    ensures { result ≡ is_spelled texts.now word.now object.now }
+{
+    match object.kind() {
+        TreeKind::Symbol(text) => texts.bytes(text) == word,
+        _ => false,
+    }
+}
+
+/// Whether an object is NIL, the end of a proper list.
+pub fn is_nil(object: &Tree) -> bool
+    ensures { IsTrue result ↔ object.now ≡ nil }
+{
+    match object.kind() {
+        TreeKind::Symbol(text) => text.number == 0,
+        _ => false,
+    }
+}
+
+/// The primitive that the head of a call names.
+pub fn prim_named(texts: &Texts, head: &Tree) -> Option<Prim>
+    requires { IsNumbered (length texts.now) head.now }
+    ensures named { result ≡ named_prim texts.now head.now }
+    ensures known { IfSome result IsKnown }
+{
+    if spells(texts, b"CONS", head) {
+        Some(Prim::Cons)
+    } else if spells(texts, b"CAR", head) {
+        Some(Prim::Car)
+    } else if spells(texts, b"CDR", head) {
+        Some(Prim::Cdr)
+    } else if spells(texts, b"EQUAL", head) {
+        Some(Prim::Equal)
+    } else if spells(texts, b"<", head) {
+        Some(Prim::Less)
+    } else if spells(texts, b"UNSIGNED-BYTE-P", head) {
+        Some(Prim::UnsignedByteP)
+    } else {
+        None
+    }
+}
+
+/// Whether a name is one of these.
+pub fn contains(names: &Names, name: TextId) -> bool
+    ensures { result ≡ list_any (λ u. u == name.number) names.now }
+{
+    for i in 0..names.len() {
+        if names.at(i).number == name.number {
+            return true;
+        }
+    }
+    false
+}
