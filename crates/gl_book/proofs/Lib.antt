@@ -1,0 +1,3 @@
+pub mod Scope
+pub mod Forms
+pub mod Plain

@@ -2,10 +2,10 @@
 use Rattle.std.specs.Prelude.{◌≡◌, ℕ, true, ◌==◌, List}
 use Rattle.std.specs.List.{list_any}
 use Rattle.gl_logic.specs.Exp.{Exp, Exps, Var, Const, If, Prim, Call, Let, Last, More}
-use Rattle.gl_logic.specs.declared.prim.Prim as primitive
-use Rattle.gl_logic.specs.declared.prim.Prim.TheVariants as prim
+use Rattle.gl_logic.specs.declared.prim.Primitive as primitive
+use Rattle.gl_logic.specs.declared.prim.Primitive.TheVariants as prim
 
-abbrev pub IsKnown : primitive.Prim → Type 0
+abbrev pub IsKnown : primitive.Primitive → Type 0
 IsKnown prim.Cons = Unit {0}
 IsKnown prim.Car = Unit {0}
 IsKnown prim.Cdr = Unit {0}

@@ -1,12 +1,12 @@
 -- The term that a form means.
-use Rattle.std.specs.Prelude.{ℕ, Bool, true, false, nat_lt, ◌==◌, ◌||◌, if◌then◌else◌, List, [], ◌∷◌, length, get_or, codes, bytes_eq, Option, Some, None, option_and_then}
+use Rattle.std.specs.Prelude.{ℕ, zero, Bool, true, false, nat_lt, ◌==◌, ◌||◌, if◌then◌else◌, List, [], ◌∷◌, length, get_or, codes, bytes_eq, Option, Some, None, option_and_then}
 use Rattle.std.specs.List.{list_any}
 use Rattle.gl_logic.specs.Object.{Object, Int, Symbol, Cons}
 use Rattle.gl_logic.specs.Exp.{Exp, Exps, Var, Const, If, Prim}
 use Rattle.gl_logic.specs.TermOf.{exps_of}
 use Rattle.gl_logic.specs.PrimValue.{prim_arity}
-use Rattle.gl_logic.specs.declared.prim.Prim as primitive
-use Rattle.gl_logic.specs.declared.prim.Prim.TheVariants as prim
+use Rattle.gl_logic.specs.declared.prim.Primitive as primitive
+use Rattle.gl_logic.specs.declared.prim.Primitive.TheVariants as prim
 
 -- the object is the symbol with this text
 abbrev pub spells : List (List ℕ) → List ℕ → Object → Bool
@@ -14,7 +14,7 @@ spells names word (Symbol t) = bytes_eq (get_or names t []) word
 spells names word _ = false
 
 -- the primitive that a head names
-abbrev pub prim_named : List (List ℕ) → Object → Option primitive.Prim
+abbrev pub prim_named : List (List ℕ) → Object → Option primitive.Primitive
 prim_named names head =
     if spells names (codes "CONS") head then Some prim.Cons else
     (if spells names (codes "CAR") head then Some prim.Car else
@@ -38,7 +38,7 @@ if_meant (a ∷ b ∷ c ∷ []) = Some (If a b c)
 if_meant _ = None
 
 -- a primitive takes its own count of arguments
-abbrev pub applied : List Exp → primitive.Prim → Option Exp
+abbrev pub applied : List Exp → primitive.Primitive → Option Exp
 applied ts p = if length ts == prim_arity p then Some (Prim p (exps_of ts)) else None
 
 abbrev pub call_meant : List (List ℕ) → Object → List Exp → Option Exp

@@ -1,6 +1,6 @@
 //! Forms to terms.
 
-ghost use Rattle.std.specs.Prelude.{◌≡◌, ◌<◌, ℕ, List as Listing, length, map, All, IfOk, IfSome};
+ghost use Rattle.std.specs.Prelude.{◌≡◌, ◌<◌, length, map, All, IfOk, IfSome};
 ghost use Rattle.std.specs.Option.{option_map};
 ghost use Rattle.gl_logic.specs.Lists.{conses};
 ghost use Rattle.gl_logic.specs.Object.{nil};
@@ -19,7 +19,6 @@ use std::alloc::Global;
 /// The term that a form means, whose variables are those in scope; None where the form means none.
 ///
 /// Recurses as deep as the form's parentheses nest, at most 1,000 deep in a book.
-#[cycle(translate)]
 pub fn term_of_form(
     alloc: Global,
     form: &Tree,
@@ -30,6 +29,19 @@ pub fn term_of_form(
     ensures meant { IfOk result (λ t. option_map term_of t ≡ term_meant texts.now scope.now form.now) }
     ensures plain { IfOk result (λ t. IfSome t (λ u. IsPlain scope.now (term_of u))) }
 {
+    translated(alloc, form, scope, texts)
+}
+
+#[cycle(translate)]
+fn translated(
+    alloc: Global,
+    form: &Tree,
+    scope: &Names,
+    texts: &Texts,
+) -> Result<Option<Term>, NoMemory>
+    requires { IsNumbered (length texts.now) form.now }
+    ensures { IfOk result (λ t. option_map term_of t ≡ term_meant texts.now scope.now form.now) }
+{
     match form.kind() {
         TreeKind::Int(_) => Ok(Some(Term::Const(form.copy(alloc)?))),
         TreeKind::Symbol(text) => Ok(term_of_symbol(text, scope)),
@@ -39,8 +51,7 @@ pub fn term_of_form(
 }
 
 fn term_of_symbol(text: TextId, scope: &Names) -> Option<Term>
-    ensures meant { option_map term_of result ≡ symbol_meant scope.now text.number }
-    ensures plain { IfSome result (λ u. IsPlain scope.now (term_of u)) }
+    ensures { option_map term_of result ≡ symbol_meant scope.now text.number }
 {
     if text.number < 2 {
         Some(Term::Const(Tree::symbol(text)))
@@ -60,8 +71,7 @@ fn term_of_list(
 ) -> Result<Option<Term>, NoMemory>
     requires numbered { IsNumbered (length texts.now) list.now }
     requires list { kind_of list.now ≡ List }
-    ensures meant { IfOk result (λ t. option_map term_of t ≡ term_meant texts.now scope.now list.now) }
-    ensures plain { IfOk result (λ t. IfSome t (λ u. IsPlain scope.now (term_of u))) }
+    ensures { IfOk result (λ t. option_map term_of t ≡ term_meant texts.now scope.now list.now) }
 {
     let elements = list.elements();
     let count = elements.len() - 1;
@@ -73,7 +83,7 @@ fn term_of_list(
         quotation(alloc, arguments)
     } else {
         match terms_of_forms(alloc, arguments, scope, texts)? {
-            Some(terms) => call(alloc, head, terms, scope, texts),
+            Some(terms) => call(alloc, head, terms, texts),
             None => Ok(None),
         }
     }
@@ -88,14 +98,13 @@ fn terms_of_forms(
     texts: &Texts,
 ) -> Result<Option<Vec<Term>>, NoMemory>
     requires { All (IsNumbered (length texts.now)) forms.now }
-    ensures meant { IfOk result (λ ts. option_map (λ v. map term_of v.items) ts ≡ terms_meant texts.now scope.now (conses forms.now nil)) }
-    ensures plain { IfOk result (λ ts. IfSome ts (λ v. All (λ u. IsPlain scope.now (term_of u)) v.items)) }
+    ensures { IfOk result (λ ts. option_map (λ v. map term_of v.items) ts ≡ terms_meant texts.now scope.now (conses forms.now nil)) }
 {
     let mut terms = Vec::new(alloc);
     let mut left = forms.len();
     while left > 0 {
         left -= 1;
-        match term_of_form(alloc, &forms[left], scope, texts)? {
+        match translated(alloc, &forms[left], scope, texts)? {
             Some(term) => terms.push(term)?,
             None => return Ok(None),
         }
@@ -105,13 +114,12 @@ fn terms_of_forms(
 
 /// The constant of `(quote x)`, from what stands behind its head.
 fn quotation(alloc: Global, arguments: &[Tree]) -> Result<Option<Term>, NoMemory>
-    ensures meant { IfOk result (λ t. option_map term_of t ≡ quote_meant (conses arguments.now nil)) }
-    ensures plain { (scope : Listing ℕ) → IfOk result (λ t. IfSome t (λ u. IsPlain scope (term_of u))) }
+    ensures { IfOk result (λ t. option_map term_of t ≡ quote_meant (conses arguments.now nil)) }
 {
-    match arguments {
-        [object] => Ok(Some(Term::Const(object.copy(alloc)?))),
-        _ => Ok(None),
+    if arguments.len() != 1 {
+        return Ok(None);
     }
+    Ok(Some(Term::Const(arguments[0].copy(alloc)?)))
 }
 
 /// The call that a head makes of terms.
@@ -119,16 +127,13 @@ fn call(
     alloc: Global,
     head: &Tree,
     terms: Vec<Term>,
-    scope: &Names,
     texts: &Texts,
 ) -> Result<Option<Term>, NoMemory>
-    requires numbered { IsNumbered (length texts.now) head.now }
-    requires plain { All (λ u. IsPlain scope.now (term_of u)) terms.items }
-    ensures meant { IfOk result (λ t. option_map term_of t ≡ call_meant texts.now head.now (map term_of terms.items)) }
-    ensures plain { IfOk result (λ t. IfSome t (λ u. IsPlain scope.now (term_of u))) }
+    requires { IsNumbered (length texts.now) head.now }
+    ensures { IfOk result (λ t. option_map term_of t ≡ call_meant texts.now head.now (map term_of terms.items)) }
 {
     if spells(texts, b"IF", head) {
-        return conditional(alloc, terms, scope);
+        return conditional(alloc, terms);
     }
     match prim_named(texts, head) {
         Some(prim) if terms.len() == arity(prim) => Ok(Some(Term::Prim(prim, terms))),
@@ -137,14 +142,8 @@ fn call(
 }
 
 /// `(if a b c)`.
-fn conditional(
-    alloc: Global,
-    mut terms: Vec<Term>,
-    scope: &Names,
-) -> Result<Option<Term>, NoMemory>
-    requires { All (λ u. IsPlain scope.now (term_of u)) terms.items }
-    ensures meant { IfOk result (λ t. option_map term_of t ≡ if_meant (map term_of terms.items)) }
-    ensures plain { IfOk result (λ t. IfSome t (λ u. IsPlain scope.now (term_of u))) }
+fn conditional(alloc: Global, mut terms: Vec<Term>) -> Result<Option<Term>, NoMemory>
+    ensures { IfOk result (λ t. option_map term_of t ≡ if_meant (map term_of terms.items)) }
 {
     if terms.len() != 3 {
         return Ok(None);
