@@ -7,6 +7,7 @@ ghost use Rattle.gl_logic.specs.Object.{nil};
 ghost use Rattle.gl_logic.specs.Kind.{kind_of};
 ghost use Rattle.gl_logic.specs.declared.tree.TreeKind.TheVariants.{List};
 ghost use Rattle.gl_logic.specs.Numbered.{IsNumbered};
+ghost use Rattle.gl_logic.specs.Exp.{Const};
 ghost use Rattle.gl_logic.specs.TermOf.{term_of};
 ghost use Rattle.gl_book.specs.Translation.{term_meant, terms_meant, symbol_meant, quote_meant, call_meant, if_meant};
 ghost use Rattle.gl_logic.specs.PrimValue.{prim_arity};
@@ -119,7 +120,14 @@ fn quotation(alloc: Global, arguments: &[Tree]) -> Result<Option<Term>, NoMemory
     if arguments.len() != 1 {
         return Ok(None);
     }
-    Ok(Some(Term::Const(arguments[0].copy(alloc)?)))
+    let object = arguments[0].copy(alloc)?;
+    Ok(Some(constant(object)))
+}
+
+fn constant(object: Tree) -> Term
+    ensures { term_of result ≡ Const object }
+{
+    Term::Const(object)
 }
 
 /// The call that a head makes of terms.

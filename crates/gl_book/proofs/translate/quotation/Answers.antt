@@ -10,5 +10,5 @@ returns-then-arguments-ne1 c = sym (no_quote c.args.arguments.now c.if-arguments
 
 pub returns : goal.returns
 returns c =
-    ap (λ (x : Object). Some (Const x)) c.in_ok-copy.ensures
-    ∙ ap quote_meant (sym (one_quote c.args.arguments.now c.index-arguments-0.result c.if-arguments-ne1.false c.index-arguments-0.is))
+    ap Some c.constant.ensures ∙ (ap (λ (x : Object). Some (Const x)) c.in_ok-object.ensures
+    ∙ ap quote_meant (sym (one_quote c.args.arguments.now c.index-arguments-0.result c.if-arguments-ne1.false c.index-arguments-0.is)))
