@@ -1,2 +1,4 @@
-pub mod Translation
+pub mod Theorem
 pub mod Plain
+pub mod Translation
+pub mod Events
