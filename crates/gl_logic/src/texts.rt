@@ -1,6 +1,6 @@
 //! The table of the texts of symbols and strings.
 
-ghost use Rattle.std.specs.Prelude.{◌≡◌, ◌<◌, length, slice_get, Some, IfOk, OnOk, OnErr};
+ghost use Rattle.std.specs.Prelude.{◌≡◌, ◌<◌, length, slice_get, get_or, [], Some, IfOk, OnOk, OnErr};
 ghost use Rattle.gl_logic.specs.Names.{number_of, with_name, first_names, IsTable};
 
 use super::ids::{NoMemory, TextId};
@@ -70,6 +70,16 @@ impl Texts {
         match self.names.get_index(id.number as usize) {
             Some(name) => name.as_slice(),
             None => unreachable!(),
+        }
+    }
+
+    /// The bytes of a text, and no bytes where the table has no such number.
+    pub fn text(&self, id: TextId) -> &[u8]
+        ensures { result.now ≡ get_or self.now id.number [] }
+    {
+        match self.names.get_index(id.number as usize) {
+            Some(name) => name.as_slice(),
+            None => &[],
         }
     }
 
