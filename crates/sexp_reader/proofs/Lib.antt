@@ -5,3 +5,4 @@ pub mod Stacks
 pub mod Cuts
 pub mod Steps
 pub mod Shifted
+pub mod Rows
