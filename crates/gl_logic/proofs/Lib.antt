@@ -16,3 +16,6 @@ pub mod FreeVariables
 pub mod MadeCalls
 pub mod DepthOfCounts
 pub mod OtherCounts
+pub mod Equality
+pub mod DifferentObjects
+pub mod NameLists

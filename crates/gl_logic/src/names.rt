@@ -1,6 +1,7 @@
 //! Names in order.
 
-ghost use Rattle.std.specs.Prelude.{◌≡◌, ◌<◌, [], ◌∷◌, ◌++◌, length, slice_get, Some, IfOk, OnOk, OnErr};
+ghost use Rattle.std.specs.Prelude.{◌≡◌, ◌<◌, [], ◌∷◌, ◌++◌, length, slice_get, Some, IfOk, OnOk, OnErr, eqb};
+ghost use Rattle.std.specs.List.{list_any};
 
 use super::ids::{NoMemory, TextId};
 use std::alloc::Global;
@@ -53,6 +54,18 @@ impl Names {
         ensures { slice_get self.now i ≡ Some result.now.number }
     {
         &self.items[i as usize]
+    }
+
+    /// Whether a name is among them.
+    pub fn contains(&self, name: TextId) -> bool
+        ensures { result ≡ list_any (eqb name.number) self.now }
+    {
+        for item in &self.items {
+            if name.number == item.number {
+                return true;
+            }
+        }
+        false
     }
 
     /// An equal list of its own.
