@@ -1,5 +1,5 @@
 -- Each cell of a live id's object is held.
-use Rattle.std.proofs.Common.{◌≡◌, ℕ, arith, length, List, refl, sym, ◌∙◌, ap, subst, inl, inr}
+use Rattle.std.proofs.Common.{◌≡◌, true, ℕ, arith, length, List, refl, sym, ◌∙◌, ap, subst, inl, inr}
 use Rattle.std.proofs.lemmas.List.{get_or_default}
 use Rattle.std.specs.List.{Contains}
 use Rattle.gl_logic.specs.Object.{Object, Int, Character, Symbol, Text, Cons, nil, car, cdr}
@@ -11,7 +11,9 @@ use Rattle.hons_arena.specs.declared.id.IdKind.TheVariants as kind
 use Rattle.hons_arena.specs.Cells.{cell_object, objects_of, cell_at, PartsBelow, IsInterned}
 use Rattle.hons_arena.specs.Held.{Held}
 use Rattle.hons_arena.specs.Ids.{object_at, object_numbered, IsNumberBelow, IsBelow, IsLive}
-use Rattle.hons_arena.specs.Parts.{IsPart, TakesCell, AreHeld}
+use Rattle.hons_arena.specs.Parts.{AreHeld}
+use Rattle.hons_arena.proofs.CellsIn.{IsPart, cell_of, of_cell}
+use Rattle.gl_logic.specs.Parts.{is_cell}
 use Rattle.hons_arena.proofs.Entering.{seen}
 use Rattle.hons_arena.proofs.Interned.{object_is, parts_live, objects_count}
 
@@ -23,9 +25,9 @@ module _ (cells : List Cell) (interned : IsInterned cells) where
   n = length cells
 
   -- what takes a cell and has a live number is held
-  itself_held : (x : Object) → TakesCell x → (t : IdKind) (k : ℕ) → IsNumberBelow n t k → object_numbered objects t k ≡ x → Contains objects x
-  itself_held x cell kind.Symbol k h e = absurd (subst TakesCell (sym e) cell)
-  itself_held x cell kind.Text k h e = absurd (subst TakesCell (sym e) cell)
+  itself_held : (x : Object) → is_cell x ≡ true → (t : IdKind) (k : ℕ) → IsNumberBelow n t k → object_numbered objects t k ≡ x → Contains objects x
+  itself_held x cell kind.Symbol k h e = let t : is_cell (object_numbered objects kind.Symbol k) ≡ true = ap is_cell e ∙ cell in absurd cc
+  itself_held x cell kind.Text k h e = let t : is_cell (object_numbered objects kind.Text k) ≡ true = ap is_cell e ∙ cell in absurd cc
   itself_held x cell kind.Cell k h e = (k, omega (arith, h, objects_count cells interned), get_or_default objects k x nil (omega (arith, h, objects_count cells interned)) ∙ e)
 
   -- the parts of a cons with a live number
@@ -41,17 +43,17 @@ module _ (cells : List Cell) (interned : IsInterned cells) where
   cons_held a d f g kind.Text k h e = absurd cc
   cons_held a d f g kind.Cell k h e = parts_held a d f g (cell_at cells k) (parts_live cells interned k h) (sym (object_is cells interned k h) ∙ e)
 
-  either_held : (a d y : Object) → TakesCell y → (t : IdKind) (k : ℕ) → IsNumberBelow n t k → object_numbered objects t k ≡ Cons a d → AreHeld objects a × AreHeld objects d → IsPart y (Cons a d) → Contains objects y
+  either_held : (a d y : Object) → is_cell y ≡ true → (t : IdKind) (k : ℕ) → IsNumberBelow n t k → object_numbered objects t k ≡ Cons a d → AreHeld objects a × AreHeld objects d → IsPart y (Cons a d) → Contains objects y
   either_held a d y cell t k h e both (inl same) = itself_held y cell t k h (e ∙ sym same)
-  either_held a d y cell t k h e both (inr (inl first)) = both.0 y (record { cell = cell; part = first })
-  either_held a d y cell t k h e both (inr (inr rest)) = both.1 y (record { cell = cell; part = rest })
+  either_held a d y cell t k h e both (inr (inl first)) = both.0 y (cell_of a y cell first)
+  either_held a d y cell t k h e both (inr (inr rest)) = both.1 y (cell_of d y cell rest)
 
   all_held : (x : Object) (j : Id) → IsBelow n j → object_at objects j ≡ x → AreHeld objects x
-  all_held (Cons a d) j h e y c = either_held a d y c.cell j.kind j.number h e (cons_held a d (all_held a) (all_held d) j.kind j.number h e) c.part
-  all_held (Int z) j h e y c = itself_held y c.cell j.kind j.number h (e ∙ sym c.part)
-  all_held (Character z) j h e y c = itself_held y c.cell j.kind j.number h (e ∙ sym c.part)
-  all_held (Symbol z) j h e y c = itself_held y c.cell j.kind j.number h (e ∙ sym c.part)
-  all_held (Text z) j h e y c = itself_held y c.cell j.kind j.number h (e ∙ sym c.part)
+  all_held (Cons a d) j h e y c = either_held a d y (of_cell (Cons a d) y c).0 j.kind j.number h e (cons_held a d (all_held a) (all_held d) j.kind j.number h e) (of_cell (Cons a d) y c).1
+  all_held (Int z) j h e y c = itself_held y (of_cell (Int z) y c).0 j.kind j.number h (e ∙ sym (of_cell (Int z) y c).1)
+  all_held (Character z) j h e y c = itself_held y (of_cell (Character z) y c).0 j.kind j.number h (e ∙ sym (of_cell (Character z) y c).1)
+  all_held (Symbol z) j h e y c = itself_held y (of_cell (Symbol z) y c).0 j.kind j.number h (e ∙ sym (of_cell (Symbol z) y c).1)
+  all_held (Text z) j h e y c = itself_held y (of_cell (Text z) y c).0 j.kind j.number h (e ∙ sym (of_cell (Text z) y c).1)
 
 pub live_held : (limit : ℕ) (cells : List Cell) (held : Held) → IsInterned cells → seen limit cells ≡ held → (id : Id) → IsLive held.objects id → AreHeld held.objects (object_at held.objects id)
 live_held limit cells held interned is =

@@ -1,11 +1,11 @@
 -- One element more is placed in front of those placed so far.
-use Rattle.std.proofs.Common.{◌≡◌, ℕ, ◌+◌, ◌<◌, length, List, sym, ◌∙◌, ap, ap₂, subst, take, get_or, inl, inr}
+use Rattle.std.proofs.Common.{◌≡◌, refl, ℕ, ◌+◌, ◌<◌, length, List, sym, ◌∙◌, ap, ap₂, subst, take, get_or, inl, inr}
 use Rattle.gl_logic.specs.Lists.{conses}
 use Rattle.gl_logic.specs.Object.{Object, Cons}
 use Rattle.hons_arena.specs.declared.id.Id.{Id}
 use Rattle.hons_arena.specs.Held.{Held, Enters, HasNoCell, AddsCellsOf, LacksCell}
 use Rattle.hons_arena.specs.Ids.{object_at, IsIdOf}
-use Rattle.hons_arena.specs.Parts.{IsPart}
+use Rattle.hons_arena.proofs.CellsIn.{IsPart, cell_of}
 use Rattle.hons_arena.proofs.Placing.{adds_more, adds_weaker, adds_entered, lacks_weaker, id_kept}
 use Rattle.hons_arena.proofs.Trees.{next_whole, next_part}
 
@@ -47,12 +47,12 @@ module _ (es : List Object) (i : ℕ) (e t : Object) (h : i < length es) (is : e
     pub rest_lacks : (new : Held) → new ≡ mid → HasNoCell mid pair → LacksCell new whole
     rest_lacks new same none = subst (λ (s : Held). LacksCell s whole) (sym same) (record {
       lacking = pair;
-      cell = record { cell = tt; part = next_up pair (inl pair_is) };
+      cell = cell_of whole pair refl (next_up pair (inl pair_is));
       none = none;
     })
 
     pub rest_adds : (new : Held) → Enters mid.objects new.objects pair → AddsCellsOf whole old.objects new.objects
-    rest_adds new enters = adds_more whole old.objects mid.objects new.objects (first_adds old before mid adds more) (adds_entered whole pair mid.objects new.objects tt (next_up pair (inl pair_is)) enters)
+    rest_adds new enters = adds_more whole old.objects mid.objects new.objects (first_adds old before mid adds more) (adds_entered whole pair mid.objects new.objects refl (next_up pair (inl pair_is)) enters)
 
     pub next_id : (new : Held) (next : Id) → IsIdOf new.objects pair next → IsIdOf new.objects (conses (take (i + 1) es) t) next
     next_id new next h = subst (λ (x : Object). IsIdOf new.objects x next) (pair_is ∙ sym next_front) h

@@ -1,3 +1,4 @@
+pub mod CellsIn
 pub mod Closed
 pub mod Elements
 pub mod Entering
@@ -6,6 +7,7 @@ pub mod Objects
 pub mod Pigeonhole
 pub mod Placing
 pub mod Reading
+pub mod Spines
 pub mod Tables
 pub mod Trees
 pub mod Walks

@@ -1,17 +1,19 @@
 -- What is added where objects are placed, part by part.
-use Rattle.std.proofs.Common.{◌≡◌, ℕ, ◌+◌, ◌-◌, ◌<◌, ◌≤◌, arith, length, List, [], ◌∷◌, ◌++◌, refl, sym, ◌∙◌, ap, subst, get_or, inl, inr, append_assoc, append-nil, length-append, take, drop, take-append-drop}
+use Rattle.std.proofs.Common.{◌≡◌, true, ℕ, ◌+◌, ◌-◌, ◌<◌, ◌≤◌, arith, length, List, [], ◌∷◌, ◌++◌, refl, sym, ◌∙◌, ap, subst, get_or, inl, inr, append_assoc, append-nil, length-append, take, drop, take-append-drop}
 use Rattle.std.proofs.lemmas.Bool.{cases_lt}
 use Rattle.std.proofs.lemmas.List.{get_or_append_left, get_or-append_right, get_or-append-add, get_or_default, length_push}
 use Rattle.std.proofs.lemmas.List.Elements.{All-append, All-nil, All-cons, All-push, Contains-append_left}
 use Rattle.std.specs.List.{Contains}
 use Rattle.gl_logic.specs.Lists.{conses}
+use Rattle.gl_logic.specs.Parts.{is_cell}
 use Rattle.gl_logic.specs.Object.{Object, Int, Character, Symbol, Text, Cons, nil}
 use Rattle.hons_arena.specs.declared.id.Id.{Id}
 use Rattle.hons_arena.specs.declared.id.IdKind.{IdKind}
 use Rattle.hons_arena.specs.declared.id.IdKind.TheVariants as kind
 use Rattle.hons_arena.specs.Held.{Held, IsEachOnce, Enters, AddsCellsOf, LacksCell, HasNoRoomFor}
 use Rattle.hons_arena.specs.Ids.{object_numbered, IsNumberBelow, IsIdOf}
-use Rattle.hons_arena.specs.Parts.{IsPart, TakesCell, IsCellOf, AreHeld}
+use Rattle.hons_arena.specs.Parts.{IsCellOf, AreHeld}
+use Rattle.hons_arena.proofs.CellsIn.{IsPart, cell_of, cell_weaker}
 use Rattle.hons_arena.proofs.Pigeonhole.{pigeonhole}
 
 -- ---- parts
@@ -50,15 +52,15 @@ pub adds_weaker : (x w : Object) (xs ys : List Object) → ((y : Object) → IsP
 adds_weaker x w xs ys h f = record {
   made = f.made;
   is = f.is;
-  cells = λ k d l. record { cell = (f.cells k d l).cell; part = h (get_or f.made k d) (f.cells k d l).part };
+  cells = λ k d l. cell_weaker x w (get_or f.made k d) (h (get_or f.made k d)) (f.cells k d l);
 }
 
-pub adds_entered : (x y : Object) (xs ys : List Object) → TakesCell y → IsPart y x → Enters xs ys y → AddsCellsOf x xs ys
+pub adds_entered : (x y : Object) (xs ys : List Object) → is_cell y ≡ true → IsPart y x → Enters xs ys y → AddsCellsOf x xs ys
 adds_entered x y xs ys cell part (inl h) = subst (λ (zs : List Object). AddsCellsOf x xs zs) (sym h.1) (adds_none x xs)
-adds_entered x y xs ys cell part (inr h) = record { made = y ∷ []; is = h.1; cells = All-cons (λ z. IsCellOf z x) y [] (record { cell = cell; part = part }) (All-nil (λ z. IsCellOf z x)) }
+adds_entered x y xs ys cell part (inr h) = record { made = y ∷ []; is = h.1; cells = All-cons (λ z. IsCellOf z x) y [] (cell_of x y cell part) (All-nil (λ z. IsCellOf z x)) }
 
 pub lacks_weaker : (held : Held) (x w : Object) → ((y : Object) → IsPart y x → IsPart y w) → LacksCell held x → LacksCell held w
-lacks_weaker held x w h f = record { lacking = f.lacking; cell = record { cell = f.cell.cell; part = h f.lacking f.cell.part }; none = f.none }
+lacks_weaker held x w h f = record { lacking = f.lacking; cell = cell_weaker x w f.lacking (h f.lacking) f.cell; none = f.none }
 
 -- ---- ids stay
 numbered_kept : (xs made : List Object) (x : Object) (t : IdKind) (n : ℕ) → IsNumberBelow (length xs) t n → object_numbered xs t n ≡ x → IsNumberBelow (length (xs ++ made)) t n × (object_numbered (xs ++ made) t n ≡ x)

@@ -1,7 +1,7 @@
 -- What a cell that is read says of what is held.
 use Rattle.std.proofs.Common.{◌≡◌, ◌≢◌, ℕ, ◌+◌, ◌-◌, ◌<◌, ◌≤◌, arith, length, List, Option, None, Some, refl, sym, ◌∙◌, ap, subst, get_or, take, set, length-set, MatchOption}
 use Rattle.std.proofs.lemmas.List.{length-take-le, get_or-take}
-use Rattle.gl_logic.specs.Object.{Object, nil, car, cdr}
+use Rattle.gl_logic.specs.Object.{Object, nil, car, cdr, Cons}
 use Rattle.hons_arena.specs.declared.cell.Cell.{Cell}
 use Rattle.hons_arena.specs.declared.cell.Cell.TheVariants as cell
 use Rattle.hons_arena.specs.declared.id.Id.{Id}
@@ -38,8 +38,8 @@ pub object_of_number : (objects : List Object) (id : Id) → id.kind ≡ kind.Ce
 object_of_number objects id e = ap (λ (t : IdKind). object_numbered objects t id.number) e
 
 atom_no_parts : (objects : List Object) (c : Cell) → IsAtomCell c → HasNoParts (cell_object objects c)
-atom_no_parts objects (cell.Int z) h = (refl, refl)
-atom_no_parts objects (cell.Character n) h = (refl, refl)
+atom_no_parts objects (cell.Int z) h = (tt, refl, refl)
+atom_no_parts objects (cell.Character n) h = (tt, refl, refl)
 atom_no_parts objects (cell.Cons a d) h = absurd h
 
 pub parts_of_read : (objects : List Object) (x : Object) (c : Cell) (o : Option (Id × Id)) → PartsBelow (length objects) c → cell_object objects c ≡ x → MatchOption o (IsAtomCell c) (λ p. c ≡ cell.Cons p.0 p.1)
@@ -48,13 +48,13 @@ parts_of_read objects x c None below is h = subst HasNoParts is (atom_no_parts o
 parts_of_read objects x c (Some p) below is h =
     let parts : PartsBelow (length objects) (cell.Cons p.0 p.1) = subst (λ (e : Cell). PartsBelow (length objects) e) h below in
     let cons : cell_object objects (cell.Cons p.0 p.1) ≡ x = ap (cell_object objects) (sym h) ∙ is in
-    ((parts.0, ap car cons), (parts.1, ap cdr cons))
+    record { first = (parts.0, ap car cons); rest = (parts.1, ap cdr cons); whole = sym cons ∙ ap (λ y. Cons (car y) (cdr y)) cons }
 
 pub no_parts_but_cells : (objects : List Object) (id : Id) → id.kind ≢ kind.Cell → HasNoParts (object_at objects id)
 no_parts_but_cells objects id apart = go id.kind id.number apart where
   go : (t : IdKind) (n : ℕ) → t ≢ kind.Cell → HasNoParts (object_numbered objects t n)
-  go kind.Symbol n a = (refl, refl)
-  go kind.Text n a = (refl, refl)
+  go kind.Symbol n a = (tt, refl, refl)
+  go kind.Text n a = (tt, refl, refl)
   go kind.Cell n a = absurd (a refl)
 
 -- the newest cell is found, and goes

@@ -1,9 +1,10 @@
 -- The object of a tree, by its kind, its elements and its tail.
-use Rattle.std.proofs.Common.{◌≡◌, ℕ, ◌+◌, ◌<◌, ◌≤◌, length, List, refl, sym, ◌∙◌, ap, ap₂, subst, take, get_or, Result, Ok, Err, OnOk, OnErr, IfOk, IsErr, ◌↔◌}
+use Rattle.std.proofs.Common.{◌≡◌, true, ℕ, ◌+◌, ◌<◌, ◌≤◌, length, List, refl, sym, ◌∙◌, ap, ap₂, subst, take, get_or, Result, Ok, Err, OnOk, OnErr, IfOk, IsErr, ◌↔◌}
 use Rattle.std.proofs.lemmas.List.{take_more}
 use Rattle.gl_logic.proofs.Elements.{conses-push}
 use Rattle.gl_logic.specs.Kind.{kind_of}
 use Rattle.gl_logic.specs.Lists.{elements_of, tail_of, conses, IsAtom}
+use Rattle.gl_logic.specs.Parts.{is_cell}
 use Rattle.gl_logic.specs.Object.{Object, Int, Character, Symbol, Text, Cons}
 use Rattle.gl_logic.specs.declared.tree.TreeKind.TheVariants as tree_kind
 use Rattle.gl_logic.proofs.Parts.{conses-whole}
@@ -11,7 +12,8 @@ use Rattle.hons_arena.specs.declared.id.Full.{Full}
 use Rattle.hons_arena.specs.declared.id.Id.{Id}
 use Rattle.hons_arena.specs.Held.{Held, IsEachOnce, Enters, AddsCellsOf, LacksCell, HasNoRoomFor}
 use Rattle.hons_arena.specs.Ids.{object_at, IsIdOf, IsLive}
-use Rattle.hons_arena.specs.Parts.{IsPart, TakesCell, AreHeld}
+use Rattle.hons_arena.specs.Parts.{AreHeld}
+use Rattle.hons_arena.proofs.CellsIn.{IsPart}
 use Rattle.hons_arena.proofs.Placing.{part_conses, part_front, adds_entered, adds_none, adds_more, adds_weaker, has_room, too_many}
 
 pub int_from_kind : (x : Object) (z : _) → kind_of x ≡ tree_kind.Int z → x ≡ Int z
@@ -40,7 +42,7 @@ pub on_err : {P : Type 0} (r : Result Id Full) → P → OnErr r P
 on_err (Ok i) h = tt
 on_err (Err e) h = h
 
-pub adds_answer : (x y : Object) (old new : Held) (r : Result Id Full) → x ≡ y → TakesCell y → IsPart y y → OnOk r (Enters old.objects new.objects y) → OnErr r (new ≡ old) → AddsCellsOf x old.objects new.objects
+pub adds_answer : (x y : Object) (old new : Held) (r : Result Id Full) → x ≡ y → is_cell y ≡ true → IsPart y y → OnOk r (Enters old.objects new.objects y) → OnErr r (new ≡ old) → AddsCellsOf x old.objects new.objects
 adds_answer x y old new (Ok i) is cell part h k = adds_entered x y old.objects new.objects cell (subst (λ (z : Object). IsPart y z) (sym is) part) h
 adds_answer x y old new (Err e) is cell part h k = subst (λ (s : Held). AddsCellsOf x old.objects s.objects) (sym k) (adds_none x old.objects)
 

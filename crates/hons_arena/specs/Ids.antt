@@ -1,5 +1,6 @@
 -- What an id stands for in an arena, which holds an object in each cell.
 use Rattle.std.specs.Prelude.{◌≡◌, ℕ, ◌<◌, List, length, get_or}
+use Rattle.gl_logic.specs.Lists.{IsAtom}
 use Rattle.gl_logic.specs.Object.{Object, nil, car, cdr}
 use Rattle.gl_logic.specs.Object as object
 use Rattle.hons_arena.specs.declared.id.Id.{Id}
@@ -42,9 +43,11 @@ kind_of (object.Symbol n) = kind.Symbol (record { number = n })
 kind_of (object.Text n) = kind.Text (record { number = n })
 kind_of (object.Cons a d) = kind.Cons
 
--- the two parts of an object, which are NIL where it is no cons
+-- an object that is no cons has no parts, a cons has these two
 abbrev pub HasNoParts : Object → Type 0
-HasNoParts x = (car x ≡ nil) × (cdr x ≡ nil)
+HasNoParts x = IsAtom x × (car x ≡ nil) × (cdr x ≡ nil)
 
-abbrev pub ArePartsOf : List Object → Object → Id → Id → Type 0
-ArePartsOf objects x a d = IsIdOf objects (car x) a × IsIdOf objects (cdr x) d
+pub record ArePartsOf (objects : List Object) (x : Object) (a d : Id) : Type 0 where
+  pub first : IsIdOf objects (car x) a
+  pub rest : IsIdOf objects (cdr x) d
+  pub whole : x ≡ object.Cons (car x) (cdr x)

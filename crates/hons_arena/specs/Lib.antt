@@ -5,4 +5,5 @@ pub mod Ids
 pub mod Parts
 pub mod Probe
 pub mod Sound
+pub mod Spine
 pub mod Table

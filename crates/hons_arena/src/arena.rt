@@ -187,7 +187,7 @@ impl HonsArena {
     }
 
     /// The ids of the two parts of a cons.
-    fn parts(&self, id: Id) -> Option<(Id, Id)>
+    pub(crate) fn parts(&self, id: Id) -> Option<(Id, Id)>
         requires { IsLive self.now.objects id }
         ensures { MatchOption result (HasNoParts (object_at self.now.objects id)) (λ p. ArePartsOf self.now.objects (object_at self.now.objects id) p.0 p.1) }
     {

@@ -7,6 +7,8 @@ mod hash;
 mod id;
 mod place;
 mod probe;
+mod tree_of;
 
 pub use arena::HonsArena;
 pub use id::{Full, Id, IdKind, Kind, Mark};
+pub use tree_of::TreeFault;
