@@ -4,3 +4,5 @@ pub mod Integers
 pub mod Pairs
 pub mod Made
 pub mod Pushed
+pub mod Members
+pub mod Digits

@@ -7,7 +7,9 @@
 
 mod bindings;
 mod fn_set;
+pub mod input_laws;
 mod inputs;
+mod numbers;
 mod ranks;
 mod shape;
 mod theorem;
@@ -15,5 +17,6 @@ mod theorem;
 pub use bindings::{Bindings, bit_count, input_of};
 pub use fn_set::FnSet;
 pub use inputs::Inputs;
+pub use numbers::{input_numbered, set_number};
 pub use shape::Shape;
 pub use theorem::{Mode, Part, Thm};
