@@ -1,7 +1,9 @@
+pub mod Canonical
 pub mod Chains
 pub mod Dependence
 pub mod Drawn
 pub mod Nodes
 pub mod Plans
 pub mod Pushes
+pub mod Room
 pub mod Stores

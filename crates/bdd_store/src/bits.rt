@@ -10,7 +10,7 @@ use bfr_store::{Bits, Decision, Edge, Full};
 use gl_logic::{Assignment, NoMemory};
 
 impl Bdd {
-    ghost use Rattle.bdd_store.specs.Nodes.{IsLive};
+    ghost use Rattle.bdd_store.specs.Nodes.{IsLive, truth_of};
 
     /// Whether the edge names a function of this store.
     pub fn is_live(&self, e: Edge) -> bool
@@ -18,11 +18,22 @@ impl Bdd {
     {
         e.node() < self.len()
     }
+
+    /// Whether two edges are equal, which they are exactly where their functions are.
+    pub fn same(&self, x: Edge, y: Edge) -> bool
+        requires x { IsLive self.now x }
+        requires y { IsLive self.now y }
+        ensures edges { IsTrue result ↔ (x ≡ y) }
+        ensures functions { IsTrue result ↔ ((a : ℕ → Bool) → truth_of self.now.nodes x a ≡ truth_of self.now.nodes y a) }
+    {
+        let _width = self.width_of();
+        x.number == y.number
+    }
 }
 
 impl Bits for Bdd {
     ghost use Rattle.std.specs.Prelude.{false};
-    ghost use Rattle.bdd_store.specs.Nodes.{IsLive, count_of as nodes_in, truth_of as truth_over};
+    ghost use Rattle.bdd_store.specs.Nodes.{Diagrams, IsLive, count_of as nodes_in, truth_of as truth_over};
 
     ghost live = { IsLive };
 
@@ -45,7 +56,17 @@ impl Bits for Bdd {
         x.complement()
     }
 
-    fn var(&mut self, k: u32) -> Result<Edge, Full> {
+    // As the trait says, and over four variables a store with this much room is never full.
+    fn var(&mut self, k: u32) -> Result<Edge, Full>
+        requires { k < 4294967295 }
+        ensures grows { Grows IsLive (λ s e a. truth_over s.nodes e a) (λ s. s.limit) nodes_in self.old self.new }
+        ensures spent { (λ (s : Diagrams). false) self.new ≡ (λ (s : Diagrams). false) self.old }
+        ensures width { self.new.width ≡ (if is_ok result then max self.old.width (k + 1) else self.old.width) }
+        ensures live { IfOk result (λ r. IsLive self.new r) }
+        ensures truth { IfOk result (λ r. (a : ℕ → Bool) → truth_over self.new.nodes r a ≡ a k) }
+        ensures full { OnErr result (nodes_in self.new ≡ self.new.limit) }
+        ensures room { self.old.width ≤ 4 → k < 4 → 65600 ≤ self.old.limit → IsOk result }
+    {
         let limit = self.limit_of();
         let width = self.width_of();
         let node = Node {
@@ -64,12 +85,35 @@ impl Bits for Bdd {
         Ok(self.edge_of(number))
     }
 
-    fn and(&mut self, x: Edge, y: Edge) -> Result<Edge, Full> {
-        self.both(x, y)
+    // As the trait says, and over four variables a store with this much room is never full.
+    fn and(&mut self, x: Edge, y: Edge) -> Result<Edge, Full>
+        requires x { IsLive self.old x }
+        requires y { IsLive self.old y }
+        ensures keeps { Keeps IsLive (λ s e a. truth_over s.nodes e a) (λ s. s.limit) nodes_in (λ s. s.width) (λ _. false) self.old self.new }
+        ensures live { IfOk result (λ r. IsLive self.new r) }
+        ensures truth { IfOk result (λ r. (a : ℕ → Bool) → truth_over self.new.nodes r a ≡ (truth_over self.old.nodes x a && truth_over self.old.nodes y a)) }
+        ensures full { OnErr result (nodes_in self.new ≡ self.new.limit) }
+        ensures room { self.old.width ≤ 4 → 65600 ≤ self.old.limit → IsOk result }
+    {
+        let answer = self.both(x, y);
+        let _width = self.width_of();
+        answer
     }
 
-    fn ite(&mut self, t: Edge, x: Edge, y: Edge) -> Result<Edge, Full> {
-        self.choose(t, x, y)
+    // As the trait says, and over four variables a store with this much room is never full.
+    fn ite(&mut self, t: Edge, x: Edge, y: Edge) -> Result<Edge, Full>
+        requires t { IsLive self.old t }
+        requires x { IsLive self.old x }
+        requires y { IsLive self.old y }
+        ensures keeps { Keeps IsLive (λ s e a. truth_over s.nodes e a) (λ s. s.limit) nodes_in (λ s. s.width) (λ _. false) self.old self.new }
+        ensures live { IfOk result (λ r. IsLive self.new r) }
+        ensures truth { IfOk result (λ r. (a : ℕ → Bool) → truth_over self.new.nodes r a ≡ cond (truth_over self.old.nodes t a) (truth_over self.old.nodes x a) (truth_over self.old.nodes y a)) }
+        ensures full { OnErr result (nodes_in self.new ≡ self.new.limit) }
+        ensures room { self.old.width ≤ 4 → 65600 ≤ self.old.limit → IsOk result }
+    {
+        let answer = self.choose(t, x, y);
+        let _width = self.width_of();
+        answer
     }
 
     fn decide(&mut self, e: Edge, out: &mut Assignment) -> Result<Decision, NoMemory> {

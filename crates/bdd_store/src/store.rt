@@ -45,7 +45,7 @@ const MOST_ENTRIES: u32 = 262_144;
 
 impl Bdd {
     ghost use Rattle.bdd_store.specs.Nodes.{Extends, IsLive, constant_node, node_at, past, top_of, truth_of};
-    ghost use Rattle.bdd_store.specs.Inside.{IsBranch, IsOrdered};
+    ghost use Rattle.bdd_store.specs.Inside.{IsBranch, IsDistinct, IsOrdered};
 
     /// A store with no node but the constant's and with no variable. Room for `limit` more nodes is reserved.
     pub fn new(alloc: Global, limit: u32) -> Result<Bdd, NoMemory>
@@ -85,6 +85,7 @@ impl Bdd {
     pub(crate) fn width_of(&self) -> u32
         ensures width { result ≡ self.now.width }
         ensures ordered { IsOrdered self.now.nodes self.now.width }
+        ensures distinct { IsDistinct self.now.nodes }
     {
         self.width
     }
