@@ -1,28 +1,26 @@
--- Where a list of shapes is one integer, it is its tail alone.
-use Rattle.std.proofs.Common.{◌≡◌, ◌∙◌, ap, sym, refl, map, ℕ, List, [], ◌∷◌, Vec, Box, Global, subst}
+-- A list of at least one shape is no integer.
+use Rattle.std.proofs.Common.{◌≡◌, ◌∙◌, ap, sym, refl, ℕ, ◌<◌, map, length, List, [], ◌∷◌, Vec, Box, Global, None, arith}
+use Rattle.std.proofs.lemmas.List.{length-map}
 use Rattle.shape_spec.specs.ShapeSeen.{ShapeSeen, Pair}
 use Rattle.shape_spec.specs.ShapeOf.{shape_of, step, pairs}
-use Rattle.shape_spec.specs.Indices.{indices_in, IsIntegerShape}
+use Rattle.shape_spec.specs.Indices.{integer_in}
 use Rattle.shape_spec.specs.declared.shape.Shape.{Shape}
 use Rattle.shape_spec.specs.declared.shape.Shape.TheVariants.{rolls-List}
 use Rattle.shape_spec.specs.declared.shape.Shape.TheViews as views
 use Rattle.shape_spec.specs.declared.shape.Shape.TheOpen as open_shape
 use Rattle.shape_spec.specs.declared.shape.Shape.TheFolds.{fold-roll-Shape}
 
-pub record IsTail (ss : List ShapeSeen) (t : ShapeSeen) : Type 0 where
-  pub integer : IsIntegerShape t
-  pub same : pairs ss t ≡ t
+pair_is_none : (ss : List ShapeSeen) (s t : ShapeSeen) → integer_in (pairs ss (Pair s t)) ≡ None
+pair_is_none [] s t = refl
+pair_is_none (u ∷ ss) s t = pair_is_none ss u (Pair s t)
 
-pub integer_pairs : (ss : List ShapeSeen) (t : ShapeSeen) → IsIntegerShape (pairs ss t) → IsTail ss t
-integer_pairs [] t h = record { integer = h; same = refl }
-integer_pairs (s ∷ ss) t h = absurd (integer_pairs ss (Pair s t) h).integer
+pairs_are_none : (ss : List ShapeSeen) (t : ShapeSeen) → 0 < length ss → integer_in (pairs ss t) ≡ None
+pairs_are_none [] t h = absurd (omega (arith, h))
+pairs_are_none (s ∷ ss) t h = pair_is_none ss s t
 
 pub list_shape : (ss : Vec Shape Global) (t : Box Shape Global) → shape_of (views.List ss t) ≡ pairs (map shape_of ss.items) (shape_of t.value)
 list_shape ss t = ap shape_of (sym (rolls-List ss t)) ∙ fold-roll-Shape ShapeSeen step (open_shape.List ss t)
 
--- what a list's tail gives, where the whole is an integer
-pub list_indices : (s t : Shape) (ss : Vec Shape Global) (b : Box Shape Global) (is : List ℕ) → s ≡ views.List ss b → t ≡ b.value → (IsIntegerShape (shape_of t) → is ≡ indices_in (shape_of t)) → IsIntegerShape (shape_of s) → is ≡ indices_in (shape_of s)
-list_indices s t ss b is e f g h =
-    let whole : shape_of s ≡ pairs (map shape_of ss.items) (shape_of t) = ap shape_of e ∙ (list_shape ss b ∙ ap (λ u. pairs (map shape_of ss.items) (shape_of u)) (sym f)) in
-    let p = integer_pairs (map shape_of ss.items) (shape_of t) (subst IsIntegerShape whole h) in
-    g p.integer ∙ ap indices_in (sym (whole ∙ p.same))
+pub list_is_none : (s : Shape) (ss : Vec Shape Global) (t : Box Shape Global) → s ≡ views.List ss t → 0 < length ss.items → None ≡ integer_in (shape_of s)
+list_is_none s ss t e h =
+    sym (ap (λ u. integer_in (shape_of u)) e ∙ (ap integer_in (list_shape ss t) ∙ pairs_are_none (map shape_of ss.items) (shape_of t.value) (omega (arith, h, length-map ss.items shape_of))))

@@ -1,5 +1,5 @@
 -- Bindings: each variable, by the number of its name, with its shape.
-use Rattle.std.specs.Prelude.{◌≢◌, ℕ, ◌+◌, ◌<◌, ◌≤◌, cond, ltb, List, [], ◌∷◌, ◌++◌, map, length}
+use Rattle.std.specs.Prelude.{◌≢◌, ℕ, ◌+◌, ◌<◌, ◌≤◌, cond, ltb, List, [], ◌∷◌, ◌++◌, map, length, Option, Some, None}
 use Rattle.shape_spec.specs.ShapeSeen.{ShapeSeen, Boolean, Integer, Choice, Constant, Pair}
 
 abbrev pub variables_of : List (ℕ × ShapeSeen) → List ℕ
@@ -46,6 +46,11 @@ AreApart (x ∷ xs) = IsNotIn x xs × AreApart xs
 abbrev pub AllBelow : ℕ → List ℕ → Type 0
 AllBelow n [] = Unit {0}
 AllBelow n (x ∷ xs) = (x < n) × AllBelow n xs
+
+-- the indices of an integer, where the shape is one
+abbrev pub integer_in : ShapeSeen → Option (List ℕ)
+integer_in (Integer is) = Some is
+integer_in _ = None
 
 -- an integer of 1 to 128 bits, the one shape that is bound so far
 abbrev pub IsIntegerShape : ShapeSeen → Type 0

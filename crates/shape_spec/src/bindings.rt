@@ -124,10 +124,9 @@ pub fn bit_count(b: &Bindings) -> u32
 fn integer_indices(shape: &Shape) -> &[u32]
     ensures { IsIntegerShape (shape_of shape.now) → result.now ≡ indices_in (shape_of shape.now) }
 {
-    match shape {
-        Shape::Integer(indices) => indices.as_slice(),
-        Shape::List(_, tail) => integer_indices(tail),
-        _ => &[],
+    match shape.as_integer() {
+        Some(indices) => indices,
+        None => &[],
     }
 }
 
