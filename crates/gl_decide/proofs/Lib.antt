@@ -1,0 +1,4 @@
+pub mod Simple
+pub mod Walks
+pub mod Conses
+pub mod Look

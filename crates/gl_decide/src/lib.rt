@@ -1,0 +1,9 @@
+//! Theorems decided by running every input.
+#![tactic(auto)]
+
+mod primitives;
+mod verdict;
+mod walker;
+
+pub use verdict::Verdict;
+pub use walker::value_of;
