@@ -2,6 +2,7 @@
 #![tactic(auto)]
 
 mod primitives;
+mod scan;
 mod verdict;
 mod walker;
 
