@@ -79,10 +79,12 @@ impl HonsArena {
         self.cells.len() as u32
     }
 
-    /// Each object is held once, with its cells, and within the limit.
+    /// What is true of every arena: the cells are within the limit, each object is held once and has one id, and
+    /// each cell of an object that an id stands for is held.
     pub fn is_whole(&self)
         ensures within { length self.now.objects ≤ self.now.limit }
         ensures different { IsEachOnce self.now.objects }
+        ensures ids { (a b : Id) → IsLive self.now.objects a → IsLive self.now.objects b → object_at self.now.objects a ≡ object_at self.now.objects b → a ≡ b }
         ensures parts { (id : Id) → IsLive self.now.objects id → AreHeld self.now.objects (object_at self.now.objects id) }
     {
         let _limit = self.limit;
@@ -162,6 +164,16 @@ impl HonsArena {
         Id {
             kind: IdKind::Text,
             number: t.number,
+        }
+    }
+
+    /// Whether an id stands for something here.
+    pub fn is_live(&self, id: Id) -> bool
+        ensures { IsTrue result ↔ IsLive self.now.objects id }
+    {
+        match id.kind {
+            IdKind::Cell => id.number < u64::from(self.count()),
+            _ => true,
         }
     }
 
