@@ -1,2 +1,5 @@
 pub mod Arguments
 pub mod Rest
+pub mod Says
+pub mod Chosen
+pub mod Covering

@@ -9,6 +9,7 @@ mod conjuncts;
 mod free;
 mod judgement;
 mod rows;
+pub mod soundness;
 
 pub use free::is_free;
 pub use judgement::covers;
