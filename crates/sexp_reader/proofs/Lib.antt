@@ -6,3 +6,4 @@ pub mod Cuts
 pub mod Steps
 pub mod Shifted
 pub mod Rows
+pub mod Spelled

@@ -6,3 +6,4 @@ pub mod Pieces
 pub mod Levels
 pub mod Reads
 pub mod Stack
+pub mod Grammar

@@ -1,9 +1,11 @@
 //! The forms of a text.
 
-ghost use Rattle.std.specs.Prelude.{◌≡◌, ◌<◌, ℕ, List, [], length, IfOk, All};
+ghost use Rattle.std.specs.Prelude.{◌≡◌, ◌<◌, ◌↔◌, ℕ, List, [], length, Some, IfOk, All};
 ghost use Rattle.gl_logic.specs.Names.{Extends};
 ghost use Rattle.gl_logic.specs.Numbered.{IsNumbered};
-ghost use Rattle.sexp_reader.specs.Reads.{Reads};
+ghost use Rattle.sexp_reader.specs.Grammar.{IsSpelled};
+ghost use Rattle.sexp_reader.specs.Reads.{Reads, reading};
+ghost use Rattle.sexp_reader.specs.declared.list.Form.{Form};
 ghost use Rattle.sexp_reader.specs.Stack.{KnowsQuote};
 
 use crate::ends::{End, Forms};
@@ -70,3 +72,10 @@ fn bad(alloc: Global) -> Forms
         end: End::Bad,
     }
 }
+
+/// A law: the forms that a text reads as, by any table, are the forms that the grammar gives it. So a
+/// text has the forms of one reading at most.
+pub fn is_grammar()
+    ensures { (names : List (List ℕ)) (bytes : List ℕ) (forms : List Form)
+        → (reading names bytes ≡ Some forms) ↔ IsSpelled names bytes forms }
+{}
