@@ -31,3 +31,6 @@ pub use terms::Terms;
 pub use texts::Texts;
 pub use tree::{Tree, TreeKind};
 pub use world::World;
+
+#[cfg(test)]
+mod tests;

@@ -1,0 +1,103 @@
+//! Each call that allocates, with ample memory.
+
+ghost use Rattle.std.specs.Prelude.{◌≡◌, [], ◌∷◌, IfOk};
+ghost use Rattle.gl_logic.specs.Exp.{Last, More};
+ghost use Rattle.gl_logic.specs.Exp as exp;
+ghost use Rattle.gl_logic.specs.declared.prim.Primitive.TheVariants as prim;
+ghost use Rattle.gl_logic.specs.TermOf.{term_of};
+
+use super::*;
+use std::alloc::Global;
+use std::test::Fail;
+
+#[test]
+fn trees_are_made_and_copied(rt: HostRuntime) -> Result<(), Fail> {
+    let alloc = rt.alloc();
+    let nil = Tree::symbol(TextId { number: 0 });
+    let one = Tree::pair(alloc, Tree::int(1), nil)?;
+    let two = Tree::pair(alloc, Tree::character(65), one.copy(alloc)?)?;
+    let copy = two.copy(alloc)?;
+    assert!(rt; two.same(&copy));
+    assert!(rt; !two.same(&one));
+    assert_eq!(rt; two.elements().len(), 2);
+    Ok(())
+}
+
+#[test]
+fn texts_are_numbered(rt: HostRuntime) -> Result<(), Fail> {
+    let mut texts = Texts::new(rt.alloc())?;
+    assert_eq!(rt; texts.id_of(b"NIL")?.number, 0);
+    assert_eq!(rt; texts.id_of(b"CAR")?.number, 4);
+    assert_eq!(rt; texts.id_of(b",")?.number, 3);
+    assert_eq!(rt; texts.id_of(b"CAR")?.number, 4);
+    Ok(())
+}
+
+#[test]
+fn assignments_begin_false(rt: HostRuntime) -> Result<(), Fail> {
+    let mut values = Assignment::new(rt.alloc(), 3)?;
+    values.set(2, true);
+    assert!(rt; values.get(2));
+    assert!(rt; !values.get(1));
+    Ok(())
+}
+
+#[test]
+fn lists_grow(rt: HostRuntime) -> Result<(), Fail> {
+    let alloc = rt.alloc();
+    let mut names = Names::new(alloc);
+    names.push(TextId { number: 7 })?;
+    let copy = names.copy(alloc)?;
+    assert_eq!(rt; copy.len(), 1);
+    assert!(rt; copy.contains(TextId { number: 7 }));
+    let mut terms = Terms::new(alloc);
+    terms.push(Term::Var(TextId { number: 7 }).copy(alloc)?)?;
+    assert_eq!(rt; terms.len(), 1);
+    Ok(())
+}
+
+// (not (consp x)), where x has number 5
+fn not_a_cons(alloc: Global) -> Result<Term, NoMemory>
+    ensures { IfOk result (λ t. term_of t ≡ exp.Prim prim.Not (More (exp.Prim prim.Consp (More (exp.Var 5) Last)) Last)) }
+{
+    let mut inner = Vec::new(alloc);
+    inner.push(Term::Var(TextId { number: 5 }))?;
+    let mut outer = Vec::new(alloc);
+    outer.push(Term::Prim(Prim::Consp, inner))?;
+    Ok(Term::Prim(Prim::Not, outer))
+}
+
+// the first ground definition, under the name of number 9
+#[test]
+fn a_definition_is_added(rt: HostRuntime) -> Result<(), Fail> {
+    let alloc = rt.alloc();
+    let mut world = World::new(alloc)?;
+    let mut formals = Names::new(alloc);
+    formals.push(TextId { number: 5 })?;
+    let name = TextId { number: 9 };
+    let body = not_a_cons(alloc)?;
+    let f = world.push(Def {
+        name,
+        formals,
+        body,
+        measure: None,
+    })?;
+    assert_eq!(rt; world.count(), 1);
+    assert_eq!(rt; world.find(name), Some(f));
+    assert_eq!(rt; world.def(f).name.number, 9);
+    Ok(())
+}
+
+#[test]
+fn worlds_grow(rt: HostRuntime) -> Result<(), Fail> {
+    let alloc = rt.alloc();
+    let mut world = World::new(alloc)?;
+    let name = TextId { number: 9 };
+    world.set_constant(name, Tree::int(5))?;
+    world.note(name, Tree::int(6))?;
+    assert_eq!(rt; world.constant_count(), 1);
+    assert!(rt; world.constant(name).is_some());
+    assert!(rt; world.noted(name).is_some());
+    assert!(rt; world.noted(TextId { number: 8 }).is_none());
+    Ok(())
+}
