@@ -11,12 +11,14 @@ use gl_logic::{Tree, TreeKind};
 
 impl HonsArena {
     /// The id of a tree's object, whose cells are added where they are not held. Full exactly where the
-    /// different cells that are not held are more than the free room. The cells placed before Full stay.
+    /// different cells that are not held are more than the free room. The cells placed before Full stay, so no
+    /// cell is left then.
     pub fn place(&mut self, tree: &Tree) -> Result<Id, Full>
         ensures id { IfOk result (IsIdOf self.new.objects tree.now) }
         ensures objects { AddsCellsOf tree.now self.old.objects self.new.objects }
         ensures limit { self.new.limit ≡ self.old.limit }
         ensures full { IsErr result ↔ HasNoRoomFor self.old tree.now }
+        ensures lacks { OnErr result (LacksCell self.new tree.now) }
     {
         let placed = self.put(tree);
         self.is_whole();
