@@ -4,6 +4,7 @@ use gl_base::memory_shelf::MemoryShelf;
 use gl_base::shelf::Shelf;
 use gl_logic::{NoMemory, TextId, Texts, Tree};
 use std::alloc::Global;
+use std::process::Abort;
 use std::test::Fail;
 
 /// A text, and whether it is forms and white space, all of it.
@@ -65,9 +66,13 @@ fn end_of(alloc: Global, text: &[u8]) -> Result<Option<End>, NoMemory> {
 
 #[test]
 fn rows(rt: HostRuntime) -> Result<(), Fail> {
-    for (text, clean) in ROWS {
-        let wanted = if clean { End::Clean } else { End::Bad };
-        let end = end_of(rt.alloc(), text.as_bytes())?;
+    try_rows(&rt, rt.alloc(), &ROWS)
+}
+
+fn try_rows(rt: &impl Abort, alloc: Global, rows: &[(&str, bool)]) -> Result<(), Fail> {
+    for (text, clean) in rows {
+        let wanted = if *clean { End::Clean } else { End::Bad };
+        let end = end_of(alloc, text.as_bytes())?;
         assert_eq!(rt; end, Some(wanted), "{text:?}");
     }
     Ok(())
@@ -123,21 +128,25 @@ fn nested(alloc: Global, opening: &str, closing: &str, count: usize) -> Result<V
 #[test]
 fn nested_a_thousand_deep(rt: HostRuntime) -> Result<(), Fail> {
     let alloc = rt.alloc();
-    for (opening, closing, count, clean) in [
-        ("(", ")", 1000, true),
-        ("(", ")", 1001, false),
-        ("(", ")", 30000, false),
-        ("('", "x)", 500, true),
-        ("('", "x)", 501, false),
-        ("'", "x", 1000, true),
-        ("'", "x", 1001, false),
-        ("'", "x", 30000, false),
-    ] {
-        let text = nested(alloc, opening, closing, count)?;
-        let wanted = if clean { End::Clean } else { End::Bad };
-        let end = end_of(alloc, text.as_slice())?;
-        assert_eq!(rt; end, Some(wanted), "{opening} {count}");
+    for (count, clean) in [(1000, true), (1001, false), (30_000, false)] {
+        try_nested(&rt, alloc, ("(", ")"), count, clean)?;
+        try_nested(&rt, alloc, ("'", "x"), count, clean)?;
     }
+    try_nested(&rt, alloc, ("('", "x)"), 500, true)?;
+    try_nested(&rt, alloc, ("('", "x)"), 501, false)
+}
+
+fn try_nested(
+    rt: &impl Abort,
+    alloc: Global,
+    pair: (&str, &str),
+    count: usize,
+    clean: bool,
+) -> Result<(), Fail> {
+    let text = nested(alloc, pair.0, pair.1, count)?;
+    let wanted = if clean { End::Clean } else { End::Bad };
+    let end = end_of(alloc, text.as_slice())?;
+    assert_eq!(rt; end, Some(wanted), "{pair:?} {count}");
     Ok(())
 }
 
@@ -150,18 +159,26 @@ fn shelf(alloc: Global, byte: u8, count: usize, fails: Vec<u64>) -> Result<Memor
 #[test]
 fn books_by_length(rt: HostRuntime) -> Result<(), Fail> {
     let alloc = rt.alloc();
-    for (byte, count, wanted) in [
-        (b' ', 0, Ok(0)),
-        (b' ', 4096, Ok(4096)),
-        (b'x', MOST_BYTES, Ok(MOST_BYTES)),
-        (b'x', 65_537, Err(ReadEnd::TooLong(1, 65_537))),
-        (b'\n', 65_537, Err(ReadEnd::TooLong(65_537, 1))),
-        (b'\n', 100_000, Err(ReadEnd::TooLong(65_537, 1))),
-    ] {
-        let mut shelf = shelf(alloc, byte, count, Vec::new(alloc))?;
-        let read = read_book(alloc, &mut shelf, "book").map(|bytes| bytes.len());
-        assert!(rt; read == wanted);
-    }
+    try_book(&rt, alloc, b' ', 0, Ok(0))?;
+    try_book(&rt, alloc, b' ', 4096, Ok(4096))?;
+    try_book(&rt, alloc, b'x', MOST_BYTES, Ok(MOST_BYTES))?;
+    let line = ReadEnd::TooLong(1, 65_537);
+    try_book(&rt, alloc, b'x', 65_537, Err(line))?;
+    let lines = ReadEnd::TooLong(65_537, 1);
+    try_book(&rt, alloc, b'\n', 65_537, Err(lines))?;
+    try_book(&rt, alloc, b'\n', 100_000, Err(lines))
+}
+
+fn try_book(
+    rt: &impl Abort,
+    alloc: Global,
+    byte: u8,
+    count: usize,
+    wanted: Result<usize, ReadEnd>,
+) -> Result<(), Fail> {
+    let mut shelf = shelf(alloc, byte, count, Vec::new(alloc))?;
+    let read = read_book(alloc, &mut shelf, "book").map(|bytes| bytes.len());
+    assert!(rt; read == wanted);
     Ok(())
 }
 
