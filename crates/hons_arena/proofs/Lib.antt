@@ -1,5 +1,6 @@
 pub mod CellsIn
 pub mod Closed
+pub mod Counting
 pub mod Elements
 pub mod Entering
 pub mod Interned

@@ -5,6 +5,7 @@ mod arena;
 mod cell;
 mod hash;
 mod id;
+pub mod laws;
 mod place;
 mod probe;
 mod tree_of;
