@@ -1,13 +1,14 @@
 -- What a call to the outside leaves behind: why it failed, and which bytes came or went.
-use Rattle.std.specs.Prelude.{◌≡◌, ◌≤◌, ◌<◌, ◌+◌, ◌-◌, ◌^◌, ℕ, min, List, ◌++◌, length, take, drop, Option, Some, IfSome, Result, OnErr}
+use Rattle.std.specs.Prelude.{◌≡◌, ◌≤◌, ◌<◌, ◌+◌, ◌-◌, ◌^◌, ℕ, min, List, ◌++◌, length, take, drop, Option, Some, IfSome, Result, OnOk, OnErr}
 
 -- the count rose, or stands at the last value of its type
 abbrev pub Rose : ℕ → ℕ → Type 0
 Rose before now = min (before + 1) (2 ^ 64 - 1) ≤ now
 
--- the count never falls, and a failure has raised it
+-- the count never falls, a success leaves it, and a failure has raised it
 pub record HasCause {T E : Type 0} (before now : ℕ) (result : Result T E) : Type 0 where
   pub later : before ≤ now
+  pub stayed : OnOk result (now ≡ before)
   pub failed : OnErr result (Rose before now)
 
 -- where the bytes are told, these come behind them

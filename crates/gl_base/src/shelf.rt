@@ -17,7 +17,8 @@ pub trait Shelf {
     /// Whether a text is open: so from an `open` that succeeded to the next `open`.
     ghost is_open: { Self → Bool };
 
-    /// How many calls have failed. The count never falls, and stands still at the end of its type.
+    /// How many calls have failed. The count rises where a call fails and only there, and stands still at the end of
+    /// its type.
     ghost faults: { Self → ℕ };
 
     /// Opens the text with this name, at its first byte, in place of the one that was open.

@@ -11,7 +11,8 @@ pub trait Sink {
     /// All bytes taken so far, where told.
     ghost written: { Self → Option (List ℕ) };
 
-    /// How many calls have failed. The count never falls, and stands still at the end of its type.
+    /// How many calls have failed. The count rises where a call fails and only there, and stands still at the end of
+    /// its type.
     ghost faults: { Self → ℕ };
 
     /// Takes the first bytes of a piece, one at least, and tells how many.
