@@ -3,5 +3,6 @@ pub mod Walks
 pub mod Conses
 pub mod Look
 pub mod Counted
-pub mod Reach
 pub mod Decided
+pub mod Bound
+pub mod Truth

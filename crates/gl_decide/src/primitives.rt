@@ -52,11 +52,10 @@ fn integer(tree: &Tree) -> i128
 fn first_part(alloc: Global, tree: &Tree) -> Result<Tree, NoMemory>
     ensures { IfOk result (λ t. t ≡ car tree.now) }
 {
-    let elements = tree.elements();
-    if elements.is_empty() {
-        return Ok(nil_object());
+    match tree.elements().last() {
+        Some(first) => first.copy(alloc),
+        None => Ok(nil_object()),
     }
-    elements[elements.len() - 1].copy(alloc)
 }
 
 /// The second part of a cons, and NIL for anything else.
