@@ -13,3 +13,6 @@ pub mod soundness;
 
 pub use free::is_free;
 pub use judgement::covers;
+
+#[cfg(test)]
+mod tests;
