@@ -1,13 +1,13 @@
 -- Edges that say the same are equal.
-use Rattle.std.proofs.Common.{◌≡◌, ◌≢◌, ℕ, zero, suc, ◌+◌, ◌*◌, ◌/◌, ◌%◌, ◌<◌, ◌≤◌, Bool, true, false, not, cond, eqb, List, length, get_or, refl, sym, ap, ◌∙◌, inl, inr, arith, eq-eqb, eqb-true}
+use Rattle.std.proofs.Common.{◌≡◌, ℕ, zero, suc, ◌+◌, ◌*◌, ◌/◌, ◌%◌, ◌<◌, Bool, true, false, not, cond, eqb, List, length, get_or, refl, sym, ap, ◌∙◌, inl, inr, arith, eq-eqb, eqb-true}
 use Rattle.std.proofs.lemmas.Bool.{cases_eq, cases_order, false≢true}
 use Rattle.std.proofs.lemmas.Bool.Decides.{nat_tests}
 use Rattle.bfr_store.specs.declared.edge.Edge.{Edge}
 use Rattle.bfr_store.specs.Edges.{node_of, is_flipped, xor}
 use Rattle.bdd_store.specs.declared.node.Node.{Node}
-use Rattle.bdd_store.specs.Nodes.{past, node_at, top_of, truth_of}
+use Rattle.bdd_store.specs.Nodes.{node_at, top_of, truth_of}
 use Rattle.bdd_store.specs.Inside.{IsBranch, IsOrdered, IsDistinct}
-use Rattle.bdd_store.proofs.Nodes.{constant-says, edge-says, top-at, top-constant, top-in_width, positive_from_top, same_top, values_of}
+use Rattle.bdd_store.proofs.Nodes.{constant-says, edge-says, top-at, top-constant, top-in_width, positive_from_top, values_of}
 use Rattle.bdd_store.proofs.Drawn.{top_le}
 use Rattle.bdd_store.proofs.Dependence.{agree}
 

@@ -1,6 +1,6 @@
 -- What a node of an ordered store says.
-use Rattle.std.proofs.Common.{◌≡◌, ◌≢◌, ℕ, zero, suc, ◌+◌, ◌*◌, ◌%◌, ◌<◌, ◌≤◌, Bool, true, false, not, cond, eqb, List, [], ◌∷◌, ◌++◌, length, get_or, take, drop, refl, ap, ◌∙◌, sym, subst, inl, inr, arith, eq-eqb, eqb-true}
-use Rattle.std.proofs.lemmas.List.{get_or_read, take-append-drop, length-take, get_or_append_left}
+use Rattle.std.proofs.Common.{◌≡◌, ◌≢◌, ℕ, ◌+◌, ◌*◌, ◌%◌, ◌<◌, Bool, true, false, cond, eqb, List, [], length, get_or, take, drop, refl, ap, ◌∙◌, sym, subst, inl, inr, arith, eq-eqb, eqb-true}
+use Rattle.std.proofs.lemmas.List.{get_or_read, take-append-drop, length-take}
 use Rattle.std.proofs.lemmas.Bool.{cases_eq, false≢true}
 use Rattle.std.proofs.lemmas.Bool.Decides.{nat_tests}
 use Rattle.bfr_store.specs.declared.edge.Edge.{Edge}

@@ -1,7 +1,7 @@
 -- Choices in other words.
-use Rattle.std.proofs.Common.{◌≡◌, ◌≢◌, ℕ, ◌≤◌, Bool, true, false, not, cond, refl, List}
+use Rattle.std.proofs.Common.{◌≡◌, Bool, true, false, not, cond, refl}
 use Rattle.bfr_store.specs.declared.edge.Edge.{Edge}
-use Rattle.bfr_store.specs.Edges.{node_of, truth_at, xor}
+use Rattle.bfr_store.specs.Edges.{node_of}
 use Rattle.bdd_store.specs.declared.plan.Plan.{Plan}
 use Rattle.bdd_store.specs.declared.plan.Plan.TheVariants.{Known, Both, Whole}
 use Rattle.bdd_store.specs.Plans.{IsDrawn, IsDrawnPlan}

@@ -1,14 +1,14 @@
 -- A node more, and what the store keeps true of its nodes and tables.
-use Rattle.std.proofs.Common.{◌≡◌, ◌≢◌, ◌⊎◌, ℕ, zero, suc, ◌+◌, ◌<◌, ◌≤◌, Bool, cond, min, List, [], ◌∷◌, ◌++◌, length, get_or, set, refl, ap, ◌∙◌, sym, subst, inl, inr, arith, length-append, length-set, get_or-set_same, get_or-set_other}
-use Rattle.std.proofs.lemmas.List.{get_or_append_left, get_or_push, length_push, get_or_default}
-use Rattle.std.proofs.lemmas.Bool.{cases_eq, cases_lt}
+use Rattle.std.proofs.Common.{◌≡◌, ◌≢◌, ◌⊎◌, ℕ, ◌<◌, ◌≤◌, Bool, cond, List, [], ◌∷◌, ◌++◌, length, get_or, refl, ap, ◌∙◌, sym, subst, inl, inr, arith}
+use Rattle.std.proofs.lemmas.List.{get_or_append_left, get_or_push, length_push}
+use Rattle.std.proofs.lemmas.Bool.{cases_lt}
 use Rattle.bfr_store.specs.declared.edge.Edge.{Edge}
 use Rattle.bfr_store.specs.Edges.{node_of}
 use Rattle.bfr_store.proofs.Values.{truth-append}
 use Rattle.bdd_store.specs.declared.node.Node.{Node}
 use Rattle.bdd_store.specs.declared.entry.Entry.{Entry}
 use Rattle.bdd_store.specs.Nodes.{Diagrams, Extends, past, constant_node, node_at, node_value, top_of, truth_of}
-use Rattle.bdd_store.specs.Inside.{IsBranch, IsOrdered, IsDistinct, bucket_of, IsChained, IsAnswer, IsComputed, IsStore}
+use Rattle.bdd_store.specs.Inside.{IsBranch, IsOrdered, IsDistinct, IsAnswer, IsComputed}
 
 module _ (nodes : List Node) (n : Node) where
   pub node-before : (i : ℕ) → i < length nodes → node_at (nodes ++ n ∷ []) i ≡ node_at nodes i

@@ -1,12 +1,12 @@
 -- How many nodes there can be over four variables.
 use Rattle.std.specs.Prelude.{Result, Ok, Err, OnErr, IsOk}
-use Rattle.std.proofs.Common.{◌≡◌, ◌≢◌, ◌⊎◌, ℕ, zero, suc, ◌+◌, ◌*◌, ◌-◌, ◌/◌, ◌^◌, ◌<◌, ◌≤◌, Bool, true, false, cond, eqb, List, [], ◌∷◌, length, map, get_or, refl, sym, ap, ◌∙◌, inl, inr, arith}
-use Rattle.std.proofs.lemmas.Bool.{cases_eq, cases_lt, false≢true}
+use Rattle.std.proofs.Common.{◌≡◌, ◌≢◌, ◌⊎◌, ℕ, zero, suc, ◌+◌, ◌*◌, ◌-◌, ◌/◌, ◌<◌, ◌≤◌, Bool, true, false, cond, eqb, List, [], ◌∷◌, length, map, get_or, refl, sym, ap, ◌∙◌, inl, inr, arith}
+use Rattle.std.proofs.lemmas.Bool.{cases_eq, cases_lt}
 use Rattle.std.proofs.lemmas.Bool.Decides.{eqb_tells}
 use Rattle.bfr_store.specs.declared.edge.Edge.{Edge}
 use Rattle.bfr_store.specs.Edges.{node_of}
 use Rattle.bdd_store.specs.declared.node.Node.{Node}
-use Rattle.bdd_store.specs.Nodes.{top_of, truth_of}
+use Rattle.bdd_store.specs.Nodes.{truth_of}
 use Rattle.bdd_store.specs.Inside.{IsOrdered, IsDistinct}
 use Rattle.bdd_store.proofs.Canonical.{unique}
 use Rattle.bdd_store.proofs.Dependence.{agree}

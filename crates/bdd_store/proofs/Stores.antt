@@ -1,11 +1,11 @@
 -- The whole store, with a node more.
-use Rattle.std.proofs.Common.{◌≡◌, ◌≢◌, ℕ, ◌+◌, ◌<◌, ◌≤◌, List, [], ◌∷◌, ◌++◌, length, get_or, set, ap, ◌∙◌, sym, subst, arith, length-set}
+use Rattle.std.proofs.Common.{◌≡◌, ◌≢◌, ℕ, ◌<◌, ◌≤◌, List, [], ◌∷◌, ◌++◌, length, get_or, set, ap, sym, subst, arith, length-set}
 use Rattle.std.proofs.lemmas.List.{length_push, get_or_read}
 use Rattle.bdd_store.specs.declared.node.Node.{Node}
 use Rattle.bdd_store.specs.declared.entry.Entry.{Entry}
 use Rattle.bdd_store.specs.Nodes.{node_at}
 use Rattle.bdd_store.specs.Inside.{IsBranch, bucket_of, IsChained, IsStore}
-use Rattle.bdd_store.proofs.Chains.{bucket-below, chained-push}
+use Rattle.bdd_store.proofs.Chains.{chained-push}
 use Rattle.bdd_store.proofs.Pushes.{ordered-push, distinct-push, computed-push}
 
 pub store-push : (nodes : List Node) (next heads : List ℕ) (entries : List Entry) (limit width : ℕ) (n : Node) → IsStore nodes next heads entries limit width →

@@ -1,6 +1,5 @@
 -- What a store keeps true of its nodes and its tables.
 use Rattle.std.specs.Prelude.{ℕ, Bool, cond, min, ◌+◌, ◌*◌, ◌%◌, ◌≡◌, ◌≢◌, ◌≤◌, ◌<◌, List, length, get_or}
-use Rattle.bfr_store.specs.declared.edge.Edge.{Edge}
 use Rattle.bfr_store.specs.Edges.{node_of}
 use Rattle.bdd_store.specs.declared.node.Node.{Node}
 use Rattle.bdd_store.specs.declared.entry.Entry.{Entry}

@@ -1,6 +1,6 @@
 //! The store as a store of bit functions.
 
-ghost use Rattle.std.specs.Prelude.{◌≡◌, ◌≤◌, ◌<◌, ◌+◌, ◌&&◌, ◌↔◌, ℕ, Bool, true, false, not, cond, max, is_ok, length, IsTrue, IfOk, IsOk, OnErr, if◌then◌else◌};
+ghost use Rattle.std.specs.Prelude.{◌≡◌, ◌≢◌, ◌≤◌, ◌<◌, ◌+◌, ◌&&◌, ◌↔◌, ℕ, Bool, true, false, not, cond, max, is_ok, length, IsTrue, IfOk, IsOk, OnErr, if◌then◌else◌};
 ghost use Rattle.bfr_store.specs.Keeps.{Grows, Keeps};
 ghost use Rattle.gl_logic.specs.Assignments.{value_at};
 
@@ -116,7 +116,17 @@ impl Bits for Bdd {
         answer
     }
 
-    fn decide(&mut self, e: Edge, out: &mut Assignment) -> Result<Decision, NoMemory> {
+    // As the trait says, and it always answers, Never or Sometimes.
+    fn decide(&mut self, e: Edge, out: &mut Assignment) -> Result<Decision, NoMemory>
+        requires live { IsLive self.old e }
+        requires width { length out.old ≡ self.old.width }
+        ensures same { self.new ≡ self.old }
+        ensures answered { IsOk result }
+        ensures never { result ≡ Ok Decision.Never → (a : ℕ → Bool) → truth_over self.new.nodes e a ≡ false }
+        ensures sometimes { result ≡ Ok Decision.Sometimes → truth_over self.new.nodes e (value_at out.new) ≡ true }
+        ensures never_spent { result ≢ Ok Decision.Spent }
+        ensures bits { length out.new ≡ length out.old }
+    {
         let _width = self.width_of();
         if e.number == 1 {
             return Ok(Decision::Never);

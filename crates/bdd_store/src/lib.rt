@@ -1,4 +1,28 @@
-//! Reduced ordered binary decision diagrams with complemented edges.
+//! Reduced ordered binary decision diagrams with complemented edges, after Bryant and after Brace, Rudell and Bryant.
+//!
+//! A [`Bdd`] is a store of bit functions: it has the calls of `bfr_store`'s trait `Bits`. Its nodes test the variables in
+//! the order of their numbers, a node's high edge is never complemented and its edges differ, and no two nodes are
+//! equal. So two live edges are equal exactly where they say the same under every assignment ([`Bdd::same`]), and a
+//! decision is a comparison with the constant false and one walk down. It is never given up, and it takes no memory.
+//!
+//! Nodes stand in room that is reserved when the store is made, and so do the buckets by which a node is found again, in
+//! chains that lead from newer to older nodes. A table of finished calls stands in reserved room too: a new entry takes
+//! the place of an older one, so it never refuses. There is no collection of nodes and no other order of variables.
+//!
+//! Conjunction and choice go down both branches at the first variable of their operands, so they call themselves as
+//! deep as there are different variables below the operands. A test goes 1,024 deep.
+//!
+//! Node counts, to set beside other packages: all nodes of the store at the end are counted, with those of parts that are
+//! used no more. In the adders the variables of the three words alternate, most significant bit first; in the multiplier
+//! those of the two factors alternate, least significant bit first.
+//!
+//! | functions | nodes |
+//! |---|---|
+//! | the 256 functions of three variables | 127 |
+//! | `x + y = z` in words of 16 bits, by a sum and by a difference, which meet in one edge | 544 |
+//! | the same in words of 64 bits | 2,272 |
+//! | the 16 bits of the product of two 8-bit factors, by the rows of the first factor | 88,891 |
+//! | the same again by the rows of the second, which meets the first in each bit | 158,561 |
 #![tactic(auto)]
 
 mod bits;

@@ -1,7 +1,7 @@
-use Rattle.std.proofs.Common.{◌≡◌, sym, ◌∙◌, refl, List, Bool, cond}
-use Rattle.bfr_store.specs.Edges.{node_of, truth_at}
+use Rattle.std.proofs.Common.{◌≡◌, ◌∙◌, refl, List, Bool, cond}
+use Rattle.bfr_store.specs.Edges.{truth_at}
 use Rattle.bdd_store.specs.Plans.{IsDrawn, HasConstant}
-use Rattle.bdd_store.proofs.Plans.{cond_under, plan_through, drawn_first, drawn_second, drawn_under}
+use Rattle.bdd_store.proofs.Plans.{cond_under, plan_through, drawn_first, drawn_under}
 use Rattle.bdd_store.proofs.plan.plan_of.Goals as goal
 use Rattle.bdd_store.proofs.plan.plan_of.Goals.{After-under-low}
 

@@ -1,5 +1,5 @@
 use Rattle.std.proofs.Common.{refl}
-use Rattle.bdd_store.proofs.Plans.{plan_through, drawn_first, drawn_second, drawn_third}
+use Rattle.bdd_store.proofs.Plans.{plan_through, drawn_first, drawn_second}
 use Rattle.bdd_store.proofs.plan.symmetric.Goals as goal
 
 pub returns-then-node-2-clause-drawn : goal.returns-then-node-2-clause-drawn

@@ -1,4 +1,3 @@
-use Rattle.std.proofs.Common.{arith}
 use Rattle.bdd_store.proofs.Dependence.{agree}
 use Rattle.bdd_store.proofs.bits.BddBits.width.Goals as goal
 

@@ -1,7 +1,6 @@
-use Rattle.std.proofs.Common.{◌≡◌, ◌<◌, Bool, false, min, refl, arith, sym, ap, ◌∙◌, ◌&&◌, cond, length}
-use Rattle.bfr_store.specs.Edges.{node_of}
+use Rattle.std.proofs.Common.{◌≡◌, false, refl, arith, sym, ◌∙◌, ◌&&◌, cond}
 use Rattle.bfr_store.specs.declared.edge.Edge.{Edge}
-use Rattle.bdd_store.specs.Nodes.{Extends, top_of, truth_of}
+use Rattle.bdd_store.specs.Nodes.{Extends, truth_of}
 use Rattle.bdd_store.proofs.Pushes.{extends-then}
 use Rattle.bdd_store.proofs.Nodes.{values_of, constant_true, top-constant}
 use Rattle.bdd_store.proofs.Drawn.{top_le, drawn_live, drawn_above, false-says, cond-false, cond-and}

@@ -1,6 +1,6 @@
-use Rattle.std.proofs.Common.{◌≡◌, ◌<◌, Bool, min, refl, arith, sym, ap, ◌∙◌, cond, length}
-use Rattle.bfr_store.specs.Edges.{node_of, xor}
-use Rattle.bdd_store.specs.Nodes.{top_of, truth_of}
+use Rattle.std.proofs.Common.{arith, ap, ◌∙◌}
+use Rattle.bfr_store.specs.Edges.{xor}
+use Rattle.bdd_store.specs.Nodes.{truth_of}
 use Rattle.bdd_store.proofs.Nodes.{values_of, constant_true, same_top}
 use Rattle.bdd_store.proofs.Drawn.{drawn_live, drawn_above}
 use Rattle.bdd_store.proofs.store.Bdd.+choose.Goals as goal

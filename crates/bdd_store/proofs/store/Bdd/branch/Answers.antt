@@ -1,6 +1,5 @@
-use Rattle.std.proofs.Common.{arith, ap, sym, ◌∙◌, cond}
+use Rattle.std.proofs.Common.{arith, ap, ◌∙◌, cond}
 use Rattle.bdd_store.specs.declared.node.Node.{Node}
-use Rattle.bdd_store.specs.Nodes.{top_of, truth_of}
 use Rattle.bdd_store.proofs.Nodes.{flagged_branch, flagged_truth, same_top}
 use Rattle.bdd_store.proofs.store.Bdd.branch.Goals as goal
 

@@ -1,7 +1,7 @@
-use Rattle.std.proofs.Common.{◌≡◌, ◌<◌, ap, sym, refl, ◌∙◌, subst, arith, length, List}
+use Rattle.std.proofs.Common.{◌≡◌, ◌<◌, ap, sym, ◌∙◌, subst, arith, List}
 use Rattle.bfr_store.specs.Edges.{node_of}
 use Rattle.bdd_store.specs.declared.node.Node.{Node}
-use Rattle.bdd_store.specs.Nodes.{Diagrams, top_of, node_at, past}
+use Rattle.bdd_store.specs.Nodes.{Diagrams, top_of, node_at}
 use Rattle.bdd_store.specs.Inside.{IsOrdered}
 use Rattle.bdd_store.proofs.Nodes.{read_node, top-at, branches-say, positive_from_top, above_high, above_low}
 use Rattle.bdd_store.proofs.store.Bdd.branches.Goals as goal

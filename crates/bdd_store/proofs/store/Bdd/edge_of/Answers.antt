@@ -1,7 +1,7 @@
 use Rattle.std.proofs.Common.{◌≡◌, ap, ◌∙◌, subst, arith, List}
 use Rattle.bfr_store.specs.Edges.{node_of}
 use Rattle.bdd_store.specs.declared.node.Node.{Node}
-use Rattle.bdd_store.specs.Nodes.{Diagrams, node_at, top_of}
+use Rattle.bdd_store.specs.Nodes.{Diagrams, node_at}
 use Rattle.bdd_store.specs.Inside.{IsOrdered}
 use Rattle.bdd_store.proofs.Nodes.{plain-says, top-at}
 use Rattle.bdd_store.proofs.store.Bdd.edge_of.Goals as goal

@@ -1,6 +1,6 @@
-use Rattle.std.proofs.Common.{◌≡◌, ◌≢◌, ◌<◌, ap, sym, ◌∙◌, arith, rules, length}
+use Rattle.std.proofs.Common.{◌≢◌, ◌<◌, ◌∙◌, arith, rules}
 use Rattle.std.proofs.lemmas.List.{get_or_read}
-use Rattle.bdd_store.specs.Nodes.{constant_node, node_at}
+use Rattle.bdd_store.specs.Nodes.{constant_node}
 use Rattle.bdd_store.proofs.Chains.{passed-next}
 use Rattle.bdd_store.proofs.store.Bdd.find.Goals as goal
 

@@ -1,9 +1,8 @@
-use Rattle.std.proofs.Common.{◌≡◌, ap, ◌∙◌, subst, arith, List}
-use Rattle.bfr_store.specs.Edges.{node_of}
+use Rattle.std.proofs.Common.{◌≡◌, ap, subst, arith, List}
 use Rattle.bdd_store.specs.declared.node.Node.{Node}
 use Rattle.bdd_store.specs.Nodes.{Diagrams, top_of}
 use Rattle.bdd_store.specs.Inside.{IsOrdered}
-use Rattle.bdd_store.proofs.Nodes.{read_node, top-at, top-in_width}
+use Rattle.bdd_store.proofs.Nodes.{read_node, top-in_width}
 use Rattle.bdd_store.proofs.store.Bdd.top.Goals as goal
 use Rattle.bdd_store.proofs.store.Bdd.top.Goals.{After-index}
 
