@@ -12,3 +12,6 @@ pub use decide::decide_theorem;
 pub use plain::is_plain;
 pub use verdict::Verdict;
 pub use walker::value_of;
+
+#[cfg(test)]
+mod tests;
