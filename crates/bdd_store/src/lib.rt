@@ -34,3 +34,6 @@ pub mod store;
 mod walks;
 
 pub use store::Bdd;
+
+#[cfg(test)]
+mod tests;
