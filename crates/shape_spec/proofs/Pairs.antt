@@ -1,5 +1,5 @@
 -- A list of at least one shape is no integer.
-use Rattle.std.proofs.Common.{◌≡◌, ◌∙◌, ap, sym, refl, ℕ, ◌<◌, map, length, List, [], ◌∷◌, Vec, Box, Global, None, arith}
+use Rattle.std.proofs.Common.{◌≡◌, ◌∙◌, ap, sym, refl, ◌<◌, map, length, List, [], ◌∷◌, Vec, Box, Global, None, arith}
 use Rattle.std.proofs.lemmas.List.{length-map}
 use Rattle.shape_spec.specs.ShapeSeen.{ShapeSeen, Pair}
 use Rattle.shape_spec.specs.ShapeOf.{shape_of, step, pairs}

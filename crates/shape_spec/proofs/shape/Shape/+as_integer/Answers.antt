@@ -1,4 +1,4 @@
-use Rattle.std.proofs.Common.{◌<◌, length, rules, arith}
+use Rattle.std.proofs.Common.{◌<◌, length, rules}
 use Rattle.shape_spec.proofs.Pairs.{list_is_none}
 use Rattle.shape_spec.proofs.shape.Shape.+as_integer.Goals as goal
 
