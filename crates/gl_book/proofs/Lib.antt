@@ -1,3 +1,4 @@
 pub mod Scope
 pub mod Forms
 pub mod Plain
+pub mod Inputs

@@ -4,7 +4,6 @@ ghost use Rattle.std.specs.Prelude.{◌≡◌, ◌↔◌, ◌<◌, length, IsTru
 ghost use Rattle.std.specs.Prelude.{◌==◌};
 ghost use Rattle.std.specs.List.{list_any};
 ghost use Rattle.gl_logic.specs.Object.{nil};
-ghost use Rattle.gl_logic.specs.Numbered.{IsNumbered};
 ghost use Rattle.gl_book.specs.Translation.{spells as is_spelled, prim_named as named_prim};
 ghost use Rattle.gl_book.specs.Plain.{IsIn, IsKnown};
 
@@ -12,11 +11,10 @@ use gl_logic::{Names, Prim, TextId, Texts, Tree, TreeKind};
 
 /// Whether an object is the symbol with this text.
 pub fn spells(texts: &Texts, word: &[u8], object: &Tree) -> bool
-    requires { IsNumbered (length texts.now) object.now }
     ensures { result ≡ is_spelled texts.now word.now object.now }
 {
     match object.kind() {
-        TreeKind::Symbol(text) => texts.bytes(text) == word,
+        TreeKind::Symbol(text) => texts.text(text) == word,
         _ => false,
     }
 }
@@ -33,7 +31,6 @@ pub fn is_nil(object: &Tree) -> bool
 
 /// The primitive that the head of a call names.
 pub fn prim_named(texts: &Texts, head: &Tree) -> Option<Prim>
-    requires { IsNumbered (length texts.now) head.now }
     ensures named { result ≡ named_prim texts.now head.now }
     ensures known { IfSome result IsKnown }
 {

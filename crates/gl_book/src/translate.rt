@@ -6,7 +6,6 @@ ghost use Rattle.gl_logic.specs.Lists.{conses};
 ghost use Rattle.gl_logic.specs.Object.{nil};
 ghost use Rattle.gl_logic.specs.Kind.{kind_of};
 ghost use Rattle.gl_logic.specs.declared.tree.TreeKind.TheVariants.{List};
-ghost use Rattle.gl_logic.specs.Numbered.{IsNumbered};
 ghost use Rattle.gl_logic.specs.Exp.{Const};
 ghost use Rattle.gl_logic.specs.TermOf.{term_of};
 ghost use Rattle.gl_book.specs.Translation.{term_meant, terms_meant, symbol_meant, quote_meant, call_meant, if_meant};
@@ -26,7 +25,6 @@ pub fn term_of_form(
     scope: &Names,
     texts: &Texts,
 ) -> Result<Option<Term>, NoMemory>
-    requires { IsNumbered (length texts.now) form.now }
     ensures meant { IfOk result (λ t. option_map term_of t ≡ term_meant texts.now scope.now form.now) }
     ensures plain { IfOk result (λ t. IfSome t (λ u. IsPlain scope.now (term_of u))) }
 {
@@ -40,7 +38,6 @@ fn translated(
     scope: &Names,
     texts: &Texts,
 ) -> Result<Option<Term>, NoMemory>
-    requires { IsNumbered (length texts.now) form.now }
     ensures { IfOk result (λ t. option_map term_of t ≡ term_meant texts.now scope.now form.now) }
 {
     match form.kind() {
@@ -70,8 +67,7 @@ fn term_of_list(
     scope: &Names,
     texts: &Texts,
 ) -> Result<Option<Term>, NoMemory>
-    requires numbered { IsNumbered (length texts.now) list.now }
-    requires list { kind_of list.now ≡ List }
+    requires { kind_of list.now ≡ List }
     ensures { IfOk result (λ t. option_map term_of t ≡ term_meant texts.now scope.now list.now) }
 {
     let elements = list.elements();
@@ -98,7 +94,6 @@ fn terms_of_forms(
     scope: &Names,
     texts: &Texts,
 ) -> Result<Option<Vec<Term>>, NoMemory>
-    requires { All (IsNumbered (length texts.now)) forms.now }
     ensures { IfOk result (λ ts. option_map (λ v. map term_of v.items) ts ≡ terms_meant texts.now scope.now (conses forms.now nil)) }
 {
     let mut terms = Vec::new(alloc);
@@ -137,7 +132,6 @@ fn call(
     terms: Vec<Term>,
     texts: &Texts,
 ) -> Result<Option<Term>, NoMemory>
-    requires { IsNumbered (length texts.now) head.now }
     ensures { IfOk result (λ t. option_map term_of t ≡ call_meant texts.now head.now (map term_of terms.items)) }
 {
     if spells(texts, b"IF", head) {

@@ -1,10 +1,9 @@
 //! Objects that are no conses.
 
-ghost use Rattle.std.specs.Prelude.{◌≡◌, ◌↔◌, ◌∷◌, [], ◌++◌, codes, length, OnOk, OnErr, IsTrue};
+ghost use Rattle.std.specs.Prelude.{◌≡◌, ◌↔◌, ◌∷◌, [], ◌++◌, codes, OnOk, OnErr, IsTrue};
 ghost use Rattle.std.specs.Fmt.{decimal, signed_decimal};
 ghost use Rattle.gl_logic.specs.Object.{nil};
 ghost use Rattle.gl_logic.specs.Lists.{IsAtom};
-ghost use Rattle.gl_logic.specs.Numbered.{IsNumbered};
 ghost use Rattle.sexp_print.specs.Printed.{atom_printed, rest_printed, escaped, character_printed, BeginsWith};
 
 use gl_logic::{NoMemory, Texts, Tree, TreeKind};
@@ -17,15 +16,14 @@ pub fn append_atom(
     texts: &Texts,
     out: &mut Vec<u8>,
 ) -> Result<(), NoMemory>
-    requires { IsNumbered (length texts.now) tree.now }
     ensures ok { OnOk result (out.new.items ≡ out.old.items ++ atom_printed texts.now tree.now) }
     ensures err { OnErr result (BeginsWith out.old.items out.new.items) }
 {
     match tree.kind() {
         TreeKind::Int(i) => append_integer(alloc, i, out),
         TreeKind::Character(code) => append_character(alloc, code, out),
-        TreeKind::Symbol(text) => append_bytes(texts.bytes(text), out),
-        TreeKind::Text(text) => append_string(texts.bytes(text), out),
+        TreeKind::Symbol(text) => append_bytes(texts.text(text), out),
+        TreeKind::Text(text) => append_string(texts.text(text), out),
         TreeKind::List => Ok(()),
     }
 }
@@ -37,8 +35,7 @@ pub fn append_tail(
     texts: &Texts,
     out: &mut Vec<u8>,
 ) -> Result<(), NoMemory>
-    requires numbered { IsNumbered (length texts.now) tail.now }
-    requires atom { IsAtom tail.now }
+    requires { IsAtom tail.now }
     ensures ok { OnOk result (out.new.items ≡ out.old.items ++ rest_printed texts.now tail.now) }
     ensures err { OnErr result (BeginsWith out.old.items out.new.items) }
 {

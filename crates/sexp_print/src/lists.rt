@@ -1,11 +1,10 @@
 //! Objects of every kind.
 
-ghost use Rattle.std.specs.Prelude.{◌≡◌, ◌<◌, ◌++◌, All, length, OnOk, OnErr};
+ghost use Rattle.std.specs.Prelude.{◌≡◌, ◌<◌, ◌++◌, length, OnOk, OnErr};
 ghost use Rattle.gl_logic.specs.Object.{Object};
 ghost use Rattle.gl_logic.specs.Kind.{kind_of};
 ghost use Rattle.gl_logic.specs.declared.tree.TreeKind.TheVariants.{List};
 ghost use Rattle.gl_logic.specs.Lists.{conses};
-ghost use Rattle.gl_logic.specs.Numbered.{IsNumbered};
 ghost use Rattle.sexp_print.specs.Printed.{printed, rest_printed, inside_printed, BeginsWith};
 
 use super::atoms::{append_atom, append_bytes, append_tail};
@@ -18,7 +17,6 @@ use std::alloc::Global;
 /// as the reader takes them, and a list stands in parentheses with single blanks. Nothing is
 /// abbreviated. Goes as deep as elements are lists of lists; along a list it loops.
 pub fn print(alloc: Global, tree: &Tree, texts: &Texts, out: &mut Vec<u8>) -> Result<(), NoMemory>
-    requires { IsNumbered (length texts.now) tree.now }
     ensures ok { OnOk result (out.new.items ≡ out.old.items ++ printed texts.now tree.now) }
     ensures err { OnErr result (out.new.items ≡ out.old.items) }
 {
@@ -34,7 +32,6 @@ pub fn print(alloc: Global, tree: &Tree, texts: &Texts, out: &mut Vec<u8>) -> Re
 
 #[cycle(print)]
 fn append(alloc: Global, tree: &Tree, texts: &Texts, out: &mut Vec<u8>) -> Result<(), NoMemory>
-    requires { IsNumbered (length texts.now) tree.now }
     ensures ok { OnOk result (out.new.items ≡ out.old.items ++ printed texts.now tree.now) }
     ensures err { OnErr result (BeginsWith out.old.items out.new.items) }
 {
@@ -47,8 +44,7 @@ fn append(alloc: Global, tree: &Tree, texts: &Texts, out: &mut Vec<u8>) -> Resul
 #[cycle(print)]
 #[tactic(auto, using(crate::proofs::Begins::begins_behind, crate::proofs::Begins::begins_trans))]
 fn append_list(alloc: Global, list: &Tree, texts: &Texts, out: &mut Vec<u8>) -> Result<(), NoMemory>
-    requires numbered { IsNumbered (length texts.now) list.now }
-    requires list { kind_of list.now ≡ List }
+    requires { kind_of list.now ≡ List }
     ensures ok { OnOk result (out.new.items ≡ out.old.items ++ printed texts.now list.now) }
     ensures err { OnErr result (BeginsWith out.old.items out.new.items) }
 {
@@ -66,8 +62,7 @@ fn append_elements(
     texts: &Texts,
     out: &mut Vec<u8>,
 ) -> Result<(), NoMemory>
-    requires numbered { All (IsNumbered (length texts.now)) elements.now }
-    requires some { 0 < length elements.now }
+    requires { 0 < length elements.now }
     ensures ok { OnOk result ((tail : Object) → out.new.items ++ rest_printed texts.now tail ≡ out.old.items ++ inside_printed texts.now (conses elements.now tail)) }
     ensures err { OnErr result (BeginsWith out.old.items out.new.items) }
 {

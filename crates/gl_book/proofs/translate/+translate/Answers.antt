@@ -37,13 +37,12 @@ term_of_list-terms_of_forms-requires t c =
     let es = c.elements-elements.result.now in
     let all : most (λ y. size_of y + 1) es ≤ size_of c.args.list.now = subst (λ (xs : List Object). most (λ y. size_of y + 1) xs ≤ size_of c.args.list.now) (sym c.elements-elements.ensures) (most_elements c.args.list.now) in
     let fewer = most_take (λ y. size_of y + 1) (length es - 1) es in
-    (omega (arith, all, fewer, c.decreases),
-    All-take (IsNumbered (length c.args.texts.now)) (length es - 1) es (subst (All (IsNumbered (length c.args.texts.now))) (sym c.elements-elements.ensures) (numbered_elements _ c.args.list.now c.requires.numbered)))
+    (omega (arith, all, fewer, c.decreases), tt)
 
 pub term_of_list-returns-then-not-is_nil : goal.term_of_list-returns-then-not-is_nil
 term_of_list-returns-then-not-is_nil t c =
     let es = c.elements-elements.result.now in
-    let some : 0 < length es = subst (λ (xs : List Object). 0 < length xs) (sym c.elements-elements.ensures) (some_elements c.args.list.now c.requires.list) in
+    let some : 0 < length es = subst (λ (xs : List Object). 0 < length xs) (sym c.elements-elements.ensures) (some_elements c.args.list.now c.requires) in
     let is = whole c.args.list.now es c.index-elements-count.result c.elements-elements.ensures some c.index-elements-count.is in
     let other : tail_of c.args.list.now ≡ nil → ⊥ = λ n. absurd (let q = c.is_nil.ensures.1 (c.tail.ensures ∙ n) in search (rules, q, c.if-not-is_nil.true)) in
     sym (ap (term_meant c.args.texts.now c.args.scope.now) is ∙ improper_form c.args.texts.now c.args.scope.now c.index-elements-count.result (take (length es - 1) es) (tail_of c.args.list.now) (tail_is_atom c.args.list.now) other)
@@ -51,7 +50,7 @@ term_of_list-returns-then-not-is_nil t c =
 pub term_of_list-returns-then-spells : goal.term_of_list-returns-then-spells
 term_of_list-returns-then-spells t c =
     let es = c.elements-elements.result.now in
-    let some : 0 < length es = subst (λ (xs : List Object). 0 < length xs) (sym c.elements-elements.ensures) (some_elements c.args.list.now c.requires.list) in
+    let some : 0 < length es = subst (λ (xs : List Object). 0 < length xs) (sym c.elements-elements.ensures) (some_elements c.args.list.now c.requires) in
     let is = proper c.args.list.now es c.index-elements-count.result c.elements-elements.ensures some c.index-elements-count.is c.tail.result.now c.tail.ensures (search (rules, c.is_nil.ensures.0, c.if-not-is_nil.false)) in
     let meant = ap (term_meant c.args.texts.now c.args.scope.now) is ∙ quote_form c.args.texts.now c.args.scope.now c.index-elements-count.result _ (sym c.spells.ensures ∙ c.if-spells.true) in
     IfOk-weaker c.quotation.result _ _ (λ o h. h ∙ sym meant) c.quotation.ensures
@@ -59,7 +58,7 @@ term_of_list-returns-then-spells t c =
 pub term_of_list-returns-in-Some : goal.term_of_list-returns-in-Some
 term_of_list-returns-in-Some t c =
     let es = c.elements-elements.result.now in
-    let some : 0 < length es = subst (λ (xs : List Object). 0 < length xs) (sym c.elements-elements.ensures) (some_elements c.args.list.now c.requires.list) in
+    let some : 0 < length es = subst (λ (xs : List Object). 0 < length xs) (sym c.elements-elements.ensures) (some_elements c.args.list.now c.requires) in
     let is = proper c.args.list.now es c.index-elements-count.result c.elements-elements.ensures some c.index-elements-count.is c.tail.result.now c.tail.ensures (search (rules, c.is_nil.ensures.0, c.if-not-is_nil.false)) in
     let meant = ap (term_meant c.args.texts.now c.args.scope.now) is ∙ call_form c.args.texts.now c.args.scope.now c.index-elements-count.result _ (sym c.spells.ensures ∙ c.if-spells.false) in
     let terms = rw c.in-Some.is at c.in_ok-terms.ensures in
@@ -69,7 +68,7 @@ term_of_list-returns-in-Some t c =
 pub term_of_list-returns-in-None : goal.term_of_list-returns-in-None
 term_of_list-returns-in-None t c =
     let es = c.elements-elements.result.now in
-    let some : 0 < length es = subst (λ (xs : List Object). 0 < length xs) (sym c.elements-elements.ensures) (some_elements c.args.list.now c.requires.list) in
+    let some : 0 < length es = subst (λ (xs : List Object). 0 < length xs) (sym c.elements-elements.ensures) (some_elements c.args.list.now c.requires) in
     let is = proper c.args.list.now es c.index-elements-count.result c.elements-elements.ensures some c.index-elements-count.is c.tail.result.now c.tail.ensures (search (rules, c.is_nil.ensures.0, c.if-not-is_nil.false)) in
     let meant = ap (term_meant c.args.texts.now c.args.scope.now) is ∙ call_form c.args.texts.now c.args.scope.now c.index-elements-count.result _ (sym c.spells.ensures ∙ c.if-spells.false) in
     let terms = rw c.in-None.is at c.in_ok-terms.ensures in

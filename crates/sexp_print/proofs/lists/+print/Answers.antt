@@ -1,11 +1,9 @@
 use Rattle.std.proofs.Common.{◌∙◌, ap, sym, subst, rules, arith, length, ◌<◌, ◌≤◌, ◌+◌, ◌-◌, ◌++◌, List}
-use Rattle.std.specs.Prelude.{All}
 use Rattle.std.proofs.lemmas.List.{append-nil}
 use Rattle.std.proofs.lemmas.Result.{on_ok_weaker, on_err_weaker}
 use Rattle.gl_logic.specs.Object.{Object, nil}
 use Rattle.gl_logic.specs.Lists.{elements_of, tail_of, conses, IsAtom, size_of}
-use Rattle.gl_logic.specs.Numbered.{IsNumbered}
-use Rattle.gl_logic.proofs.Parts.{numbered_tail, numbered_elements, tail_is_atom, most_elements}
+use Rattle.gl_logic.proofs.Parts.{tail_is_atom, most_elements}
 use Rattle.sexp_print.specs.Printed.{rest_printed, inside_printed}
 use Rattle.sexp_print.proofs.Begins.{begins_put, begins_puts, begins_trans}
 use Rattle.sexp_print.proofs.Cons.{some_elements, printed_whole}
@@ -15,9 +13,9 @@ use denote.Param.Weighed.{most}
 
 pub append_elements-loop-left-init : goal.append_elements-loop-left-init
 append_elements-loop-left-init t c = record {
-  within = omega (arith, c.requires.some);
+  within = omega (arith, c.requires);
   begins = begins_put _ _ _ c.in_ok-append.ensures.ok;
-  comes = λ tail. first_step c.args.texts.now c.args.elements.now (length c.args.elements.now - 1) _ tail c.args.out.now.items _ (omega (arith, c.requires.some)) c.index-elements-left.is c.in_ok-append.ensures.ok;
+  comes = λ tail. first_step c.args.texts.now c.args.elements.now (length c.args.elements.now - 1) _ tail c.args.out.now.items _ (omega (arith, c.requires)) c.index-elements-left.is c.in_ok-append.ensures.ok;
 }
 
 pub append_elements-loop-left-preserved : goal.append_elements-loop-left-preserved
@@ -29,19 +27,12 @@ append_elements-loop-left-preserved t c = record {
 
 pub append_list-append_elements-requires : goal.append_list-append_elements-requires
 append_list-append_elements-requires t c =
-    let falls : most (λ y. size_of y + 1) c.elements.result.now ≤ size_of c.args.list.now = subst (λ (xs : List Object). most (λ y. size_of y + 1) xs ≤ size_of c.args.list.now) (sym c.elements.ensures) (most_elements c.args.list.now) in (
-      omega (arith, falls, c.decreases),
-      (
-        subst (All (IsNumbered (length c.args.texts.now))) (sym c.elements.ensures) (numbered_elements _ c.args.list.now c.requires.numbered),
-        subst (λ (xs : List Object). 0 < length xs) (sym c.elements.ensures) (some_elements c.args.list.now c.requires.list),
-      ),
-    )
+    let falls : most (λ y. size_of y + 1) c.elements.result.now ≤ size_of c.args.list.now = subst (λ (xs : List Object). most (λ y. size_of y + 1) xs ≤ size_of c.args.list.now) (sym c.elements.ensures) (most_elements c.args.list.now) in
+    (omega (arith, falls, c.decreases),
+    subst (λ (xs : List Object). 0 < length xs) (sym c.elements.ensures) (some_elements c.args.list.now c.requires))
 
-pub append_list-append_tail-requires-clause-numbered : goal.append_list-append_tail-requires-clause-numbered
-append_list-append_tail-requires-clause-numbered t c = subst (IsNumbered (length c.args.texts.now)) (sym c.tail.ensures) (numbered_tail _ c.args.list.now c.requires.numbered)
-
-pub append_list-append_tail-requires-clause-atom : goal.append_list-append_tail-requires-clause-atom
-append_list-append_tail-requires-clause-atom t c = subst IsAtom (sym c.tail.ensures) (tail_is_atom c.args.list.now)
+pub append_list-append_tail-requires : goal.append_list-append_tail-requires
+append_list-append_tail-requires t c = subst IsAtom (sym c.tail.ensures) (tail_is_atom c.args.list.now)
 
 pub append_list-returns-in_err-append_tail-clause-err : goal.append_list-returns-in_err-append_tail-clause-err
 append_list-returns-in_err-append_tail-clause-err t c =
@@ -62,4 +53,4 @@ append_list-returns-clause-ok t c =
     (c.in_ok-append_elements.ensures.ok (tail_of x) ∙ elements)
     (c.in_ok-append_tail.ensures.ok ∙ tail)
     last
-    ∙ ap (λ xs. c.args.out.now.items ++ xs) (sym (printed_whole names x c.requires.list))) c.append_bytes-2.ensures.ok
+    ∙ ap (λ xs. c.args.out.now.items ++ xs) (sym (printed_whole names x c.requires))) c.append_bytes-2.ensures.ok
