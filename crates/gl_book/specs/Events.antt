@@ -1,11 +1,11 @@
 -- The event that a form means.
 use Rattle.std.specs.Prelude.{ℕ, zero, suc, ◌+◌, nat_lt, nat_le, ◌==◌, ◌&&◌, not, Bool, true, false, if◌then◌else◌, List, [], ◌∷◌, map, get_or, codes, Option, Some, None, option_map, option_and_then, ℤ, pos, negsuc}
 use Rattle.std.specs.List.{list_any}
-use Rattle.gl_logic.specs.Object.{Object, Int, Symbol, Cons}
+use Rattle.gl_logic.specs.Object.{Object, Int, Symbol, Cons, nil}
 use Rattle.gl_logic.specs.Exp.{Exp}
 use Rattle.shape_spec.specs.ShapeSeen.{ShapeSeen, Integer}
-use Rattle.shape_spec.specs.Indices.{variables_of, width_of}
-use Rattle.gl_book.specs.Theorem.{Theorem}
+use Rattle.shape_spec.specs.Indices.{variables_of}
+use Rattle.gl_decide.specs.Theorem.{Theorem}
 use Rattle.gl_book.specs.Translation.{spells, term_meant}
 
 pub data Event : Type 0 where
@@ -19,6 +19,12 @@ abbrev pub elements : Object → Option (List Object)
 elements (Symbol zero) = Some []
 elements (Cons x y) = option_map (λ xs. x ∷ xs) (elements y)
 elements _ = None
+
+-- what each element means, where each means something
+module _ {A B : Type 0} where
+  abbrev pub all_meant : (A → Option B) → List A → Option (List B)
+  all_meant f [] = Some []
+  all_meant f (x ∷ xs) = option_and_then (λ y. option_map (λ ys. y ∷ ys) (all_meant f xs)) (f x)
 
 -- ---- names
 -- a symbol but NIL and T whose text begins with a letter names a theorem or a variable
@@ -34,36 +40,48 @@ are_different [] = true
 are_different (x ∷ xs) = not (list_any (λ y. y == x) xs) && are_different xs
 
 -- ---- bindings
--- so many numbers from the first on
-abbrev pub numbers_from : ℕ → ℕ → List ℕ
-numbers_from first zero = []
-numbers_from first (suc n) = first ∷ numbers_from (first + 1) n
-
 -- the bits of a natural number, 0 to 127
 abbrev pub bits_meant : Object → Option ℕ
 bits_meant (Int (pos n)) = if nat_lt n 128 then Some n else None
 bits_meant _ = None
 
--- (:nat v n) binds v to the integers of n + 1 bits, from this slot on
-abbrev pub nat_meant : List (List ℕ) → ℕ → List Object → Option (ℕ × ShapeSeen)
-nat_meant names slot (key ∷ v ∷ n ∷ []) = if spells names (codes ":NAT") key then option_and_then (λ name. option_map (λ bits. (name, Integer (numbers_from slot (bits + 1)))) (bits_meant n)) (name_meant names v) else None
-nat_meant names slot _ = None
+-- (:nat v n) says that v is a natural number of n bits
+abbrev pub nat_from : List (List ℕ) → List Object → Option (ℕ × ℕ)
+nat_from names (key ∷ v ∷ n ∷ []) = if spells names (codes ":NAT") key then option_and_then (λ name. option_map (λ bits. (name, bits)) (bits_meant n)) (name_meant names v) else None
+nat_from names _ = None
 
--- the items of (auto-bindings ..), whose slots follow one another
-abbrev pub items_meant : List (List ℕ) → ℕ → List Object → Option (List (ℕ × ShapeSeen))
-items_meant names slot [] = Some []
-items_meant names slot (item ∷ items) = option_and_then (λ b. option_map (λ bs. b ∷ bs) (items_meant names (slot + width_of (b ∷ [])) items)) (option_and_then (nat_meant names slot) (elements item))
+abbrev pub nat_meant : List (List ℕ) → Object → Option (ℕ × ℕ)
+nat_meant names item = option_and_then (nat_from names) (elements item)
+
+-- one index more than bits, for the sign
+abbrev pub total : List (ℕ × ℕ) → ℕ
+total [] = 0
+total (n ∷ nats) = n.1 + 1 + total nats
+
+-- so many numbers from the first on
+abbrev pub numbers_from : ℕ → ℕ → List ℕ
+numbers_from first zero = []
+numbers_from first (suc n) = first ∷ numbers_from (first + 1) n
+
+-- the indices of the variables follow one another
+abbrev pub placed : ℕ → List (ℕ × ℕ) → List (ℕ × ShapeSeen)
+placed first [] = []
+placed first (n ∷ nats) = (n.0, Integer (numbers_from first (n.1 + 1))) ∷ placed (first + (n.1 + 1)) nats
 
 -- different variables, and at most 1,024 indices
-abbrev pub are_bindings : List (ℕ × ShapeSeen) → Bool
-are_bindings bs = are_different (variables_of bs) && nat_le (width_of bs) 1024
+abbrev pub are_bindings : List (ℕ × ℕ) → Bool
+are_bindings nats = nat_le (total nats) 1024 && are_different (map (λ n. n.0) nats)
 
-abbrev pub auto_meant : List (List ℕ) → List Object → Option (List (ℕ × ShapeSeen))
-auto_meant names (key ∷ items) = if spells names (codes "AUTO-BINDINGS") key then option_and_then (λ bs. if are_bindings bs then Some bs else None) (items_meant names 0 items) else None
-auto_meant names [] = None
+abbrev pub placed_meant : List (ℕ × ℕ) → Option (List (ℕ × ShapeSeen))
+placed_meant nats = if are_bindings nats then Some (placed 0 nats) else None
+
+-- (auto-bindings item ..), by its elements
+abbrev pub auto_from : List (List ℕ) → List Object → Option (List (ℕ × ShapeSeen))
+auto_from names (key ∷ items) = if spells names (codes "AUTO-BINDINGS") key then option_and_then placed_meant (all_meant (nat_meant names) items) else None
+auto_from names [] = None
 
 abbrev pub bindings_meant : List (List ℕ) → Object → Option (List (ℕ × ShapeSeen))
-bindings_meant names form = option_and_then (auto_meant names) (elements form)
+bindings_meant names form = option_and_then (auto_from names) (elements form)
 
 -- ---- events
 -- the variables of a theorem's terms are the bound ones
@@ -75,27 +93,32 @@ theorem_meant names n h c b =
       (bindings_meant names b))
       (name_meant names n)
 
+-- the words of a theorem's form
+abbrev pub are_words : List (List ℕ) → Object → Object → Object → Object → Bool
+are_words names head hyp concl bindings = spells names (codes "DEF-GL-THM") head && (spells names (codes ":HYP") hyp && (spells names (codes ":CONCL") concl && spells names (codes ":G-BINDINGS") bindings))
+
 -- (value-triple e) and (def-gl-thm n :hyp h :concl c :g-bindings b), by their elements
 abbrev pub event_from : List (List ℕ) → List Object → Option Event
 event_from names (head ∷ e ∷ []) = if spells names (codes "VALUE-TRIPLE") head then option_map Value (term_meant names [] e) else None
-event_from names (head ∷ n ∷ hyp ∷ h ∷ concl ∷ c ∷ bindings ∷ b ∷ []) =
-    if spells names (codes "DEF-GL-THM") head && spells names (codes ":HYP") hyp && spells names (codes ":CONCL") concl && spells names (codes ":G-BINDINGS") bindings
-    then option_map Claim (theorem_meant names n h c b) else None
+event_from names (head ∷ n ∷ hyp ∷ h ∷ concl ∷ c ∷ bindings ∷ b ∷ []) = if are_words names head hyp concl bindings then option_map Claim (theorem_meant names n h c b) else None
 event_from names _ = None
 
 abbrev pub event_meant : List (List ℕ) → Object → Option Event
 event_meant names form = option_and_then (event_from names) (elements form)
 
 -- ---- books
-abbrev pub events_meant : List (List ℕ) → List Object → Option (List Event)
-events_meant names [] = Some []
-events_meant names (form ∷ forms) = option_and_then (λ e. option_map (λ es. e ∷ es) (events_meant names forms)) (event_meant names form)
-
 abbrev pub names_of : List Event → List ℕ
 names_of [] = []
 names_of (Value t ∷ events) = names_of events
 names_of (Claim thm ∷ events) = thm.name ∷ names_of events
 
+abbrev pub named_apart : List Event → Option (List Event)
+named_apart events = if are_different (names_of events) then Some events else None
+
 -- each form is an event, and the theorems have different names
 abbrev pub book_meant : List (List ℕ) → List Object → Option (List Event)
-book_meant names forms = option_and_then (λ events. if are_different (names_of events) then Some events else None) (events_meant names forms)
+book_meant names forms = option_and_then named_apart (all_meant (event_meant names) forms)
+
+-- the words of a theorem at their places among eight elements from the last to the first
+abbrev pub words_stand : List (List ℕ) → List Object → Bool
+words_stand names es = are_words names (get_or es 7 nil) (get_or es 5 nil) (get_or es 3 nil) (get_or es 1 nil)

@@ -1,5 +1,5 @@
 pub mod Theorem
-pub mod Plain
 pub mod Translation
 pub mod Events
+pub mod NatOf
 pub mod Lines

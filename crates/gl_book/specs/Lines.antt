@@ -8,8 +8,8 @@ use Rattle.gl_base.specs.declared.status.Status.TheVariants as status
 use Rattle.sexp_print.specs.Printed.{name_of, printed}
 use Rattle.gl_book.specs.declared.answer.Answer.{Answer}
 use Rattle.gl_book.specs.declared.answer.Answer.TheVariants as answer
-use Rattle.gl_book.specs.declared.verdict.Verdict.{Verdict}
-use Rattle.gl_book.specs.declared.verdict.Verdict.TheVariants as verdict
+use Rattle.gl_decide.specs.declared.verdict.Verdict.{Verdict}
+use Rattle.gl_decide.specs.declared.verdict.Verdict.TheVariants as verdict
 
 -- words, a name, and words
 abbrev pub named_line : List (List ℕ) → List ℕ → ℕ → List ℕ → List ℕ

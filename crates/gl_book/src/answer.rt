@@ -1,6 +1,6 @@
 //! Answers to events.
 
-use super::verdict::Verdict;
+use gl_decide::Verdict;
 use gl_logic::{TextId, Tree};
 
 /// The answer to one event of a book.

@@ -4,7 +4,7 @@ ghost use Rattle.std.specs.Prelude.{◌≡◌, count_by, IfOk};
 ghost use Rattle.gl_book.specs.Lines.{done_line, last_line, is_proved, is_vacuous, is_refuted, is_undecided, status_of};
 
 use super::answer::Answer;
-use super::verdict::Verdict;
+use gl_decide::Verdict;
 use gl_base::status::Status;
 use gl_logic::NoMemory;
 use std::alloc::Global;

@@ -3,12 +3,15 @@
 
 mod answer;
 mod counts;
+mod event;
 mod line_list;
 mod lines;
+mod nat;
+mod nats;
+mod parts;
 mod spelling;
 mod translate;
-mod verdict;
 
 pub use answer::Answer;
+pub use event::Event;
 pub use translate::term_of_form;
-pub use verdict::Verdict;

@@ -6,7 +6,7 @@ ghost use Rattle.gl_book.specs.Lines.{named_line, input_lines, verdict_lines, an
 
 use super::answer::Answer;
 use super::line_list::Lines;
-use super::verdict::Verdict;
+use gl_decide::Verdict;
 use gl_logic::{NoMemory, TextId, Texts, Tree};
 use sexp_print::print;
 use shape_spec::Inputs;
@@ -23,9 +23,17 @@ pub fn add_answer(
 {
     match answer {
         Answer::Value(value) => add_value(alloc, value, texts, lines),
-        Answer::NoValue => lines.push(b"VALUE undecided memory\n".to_vec(alloc)?),
+        Answer::NoValue => lines.push(memory_line(alloc)?),
         Answer::Decided(name, verdict) => add_verdict(alloc, *name, verdict, texts, lines),
     }
+}
+
+fn memory_line(alloc: Global) -> Result<Vec<u8>, NoMemory>
+    ensures { IfOk result (λ v. v.items ≡ codes "VALUE undecided memory" ++ 10 ∷ []) }
+{
+    let mut bytes = Vec::new(alloc);
+    bytes.extend_from_slice(b"VALUE undecided memory\n")?;
+    Ok(bytes)
 }
 
 fn add_value(

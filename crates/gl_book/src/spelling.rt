@@ -5,7 +5,7 @@ ghost use Rattle.std.specs.Prelude.{◌==◌};
 ghost use Rattle.std.specs.List.{list_any};
 ghost use Rattle.gl_logic.specs.Object.{nil};
 ghost use Rattle.gl_book.specs.Translation.{spells as is_spelled, prim_named as named_prim};
-ghost use Rattle.gl_book.specs.Plain.{IsIn, IsKnown};
+ghost use Rattle.gl_decide.specs.Plain.{IsIn, IsKnown};
 
 use gl_logic::{Names, Prim, TextId, Texts, Tree, TreeKind};
 

@@ -1,0 +1,139 @@
+//! Forms to events.
+
+ghost use Rattle.std.specs.Prelude.{◌≡◌, [], ◌∷◌, ◌&&◌, length, get_or, reverse, codes, IfOk, option_map};
+ghost use Rattle.shape_spec.specs.Indices.{variables_of};
+ghost use Rattle.gl_decide.specs.TheoremOf.{theorem_of};
+
+ghost use Rattle.gl_book.specs.Events.{event_meant, event_from, theorem_meant, words_stand};
+ghost use Rattle.gl_book.specs.EventOf.{event_of};
+
+use super::event::Event;
+use super::nats::bindings_of_form;
+use super::parts::{name_of_form, parts_of};
+use super::spelling::spells;
+use super::translate::term_of_form;
+use gl_logic::{Names, NoMemory, Texts, Tree};
+use shape_spec::{Bindings, FnSet, Mode, Thm};
+use std::alloc::Global;
+
+/// The event that a form means, and None where it means none.
+pub fn event_of_form(
+    alloc: Global,
+    form: &Tree,
+    texts: &Texts,
+) -> Result<Option<Event>, NoMemory>
+    ensures { IfOk result (λ e. option_map event_of e ≡ event_meant texts.now form.now) }
+{
+    match parts_of(form) {
+        Some(parts) => event_of_parts(alloc, parts, texts),
+        None => Ok(None),
+    }
+}
+
+/// From the elements of a form, which stand from the last to the first.
+fn event_of_parts(
+    alloc: Global,
+    parts: &[Tree],
+    texts: &Texts,
+) -> Result<Option<Event>, NoMemory>
+    ensures { IfOk result (λ e. option_map event_of e ≡ event_from texts.now (reverse parts.now)) }
+{
+    if parts.len() == 2 {
+        value(alloc, &parts[1], &parts[0], texts)
+    } else if parts.len() == 8 {
+        claim(alloc, parts, texts)
+    } else {
+        Ok(None)
+    }
+}
+
+/// `(value-triple e)`.
+fn value(
+    alloc: Global,
+    head: &Tree,
+    form: &Tree,
+    texts: &Texts,
+) -> Result<Option<Event>, NoMemory>
+    ensures { IfOk result (λ e. option_map event_of e ≡ event_from texts.now (head.now ∷ form.now ∷ [])) }
+{
+    if !spells(texts, b"VALUE-TRIPLE", head) {
+        return Ok(None);
+    }
+    let scope = Names::new(alloc);
+    match term_of_form(alloc, form, &scope, texts)? {
+        Some(term) => Ok(Some(Event::Value(term))),
+        None => Ok(None),
+    }
+}
+
+/// `(def-gl-thm n :hyp h :concl c :g-bindings b)`, whose eight elements stand from the last to the first.
+fn claim(alloc: Global, parts: &[Tree], texts: &Texts) -> Result<Option<Event>, NoMemory>
+    requires { length parts.now ≡ 8 }
+    ensures { IfOk result (λ e. option_map event_of e ≡ event_from texts.now (reverse parts.now)) }
+{
+    if !has_words(parts, texts) {
+        return Ok(None);
+    }
+    match theorem(alloc, &parts[6], &parts[4], &parts[2], &parts[0], texts)? {
+        Some(thm) => Ok(Some(Event::Claim(thm))),
+        None => Ok(None),
+    }
+}
+
+/// Whether the words of a theorem stand at their places.
+fn has_words(parts: &[Tree], texts: &Texts) -> bool
+    requires { length parts.now ≡ 8 }
+    ensures { result ≡ words_stand texts.now parts.now }
+{
+    spells(texts, b"DEF-GL-THM", &parts[7])
+        && spells(texts, b":HYP", &parts[5])
+        && spells(texts, b":CONCL", &parts[3])
+        && spells(texts, b":G-BINDINGS", &parts[1])
+}
+
+/// The theorem of its name, its two terms and its bindings.
+fn theorem(
+    alloc: Global,
+    name: &Tree,
+    hyp: &Tree,
+    concl: &Tree,
+    bindings: &Tree,
+    texts: &Texts,
+) -> Result<Option<Thm>, NoMemory>
+    ensures { IfOk result (λ t. option_map theorem_of t ≡ theorem_meant texts.now name.now hyp.now concl.now bindings.now) }
+{
+    let Some(name) = name_of_form(name, texts) else {
+        return Ok(None);
+    };
+    let Some(bindings) = bindings_of_form(alloc, bindings, texts)? else {
+        return Ok(None);
+    };
+    let scope = variables(alloc, &bindings)?;
+    let Some(hyp) = term_of_form(alloc, hyp, &scope, texts)? else {
+        return Ok(None);
+    };
+    let Some(concl) = term_of_form(alloc, concl, &scope, texts)? else {
+        return Ok(None);
+    };
+    Ok(Some(Thm {
+        name,
+        hyp,
+        concl,
+        bindings,
+        hyp_clk: 1_000_000,
+        concl_clk: 1_000_000,
+        mode: Mode::Bdd,
+        memoized: FnSet::new(alloc),
+    }))
+}
+
+/// The bound variables.
+fn variables(alloc: Global, bindings: &Bindings) -> Result<Names, NoMemory>
+    ensures { IfOk result (λ ns. ns ≡ variables_of bindings.now) }
+{
+    let mut names = Names::new(alloc);
+    for i in 0..bindings.len() {
+        names.push(bindings.variable(i))?;
+    }
+    Ok(names)
+}

@@ -1,0 +1,67 @@
+//! The parts of forms.
+
+ghost use Rattle.std.specs.Prelude.{◌≡◌, ◌<◌, ◌==◌, Some, None, length, get_or, reverse, map, IfOk, MatchOption, IfSome, option_map};
+ghost use Rattle.std.specs.List.{list_any};
+ghost use Rattle.gl_book.specs.Events.{elements, name_meant, bits_meant, are_different, is_name as name_is};
+
+use super::spelling::is_nil;
+use gl_logic::{TextId, Texts, Tree, TreeKind};
+
+/// The elements of a proper list from the last to the first, and None for anything else.
+pub fn parts_of(form: &Tree) -> Option<&[Tree]>
+    ensures { MatchOption result (elements form.now ≡ None) (λ es. elements form.now ≡ Some (reverse es.now)) }
+{
+    if is_nil(form.tail()) {
+        Some(form.elements())
+    } else {
+        None
+    }
+}
+
+/// The name of a theorem or a variable.
+pub fn name_of_form(form: &Tree, texts: &Texts) -> Option<TextId>
+    ensures { option_map (λ t. t.number) result ≡ name_meant texts.now form.now }
+{
+    match form.kind() {
+        TreeKind::Symbol(text) if is_name(text, texts) => Some(text),
+        _ => None,
+    }
+}
+
+fn is_name(text: TextId, texts: &Texts) -> bool
+    ensures { result ≡ name_is texts.now text.number }
+{
+    let bytes = texts.text(text);
+    let first = if bytes.is_empty() { 0 } else { bytes[0] };
+    1 < text.number && 65 <= first && first <= 90
+}
+
+/// How many bits a natural number has, 0 to 127.
+pub fn bits_of_form(form: &Tree) -> Option<u32>
+    ensures bits { result ≡ bits_meant form.now }
+    ensures small { IfSome result (λ n. n < 128) }
+{
+    match form.kind() {
+        TreeKind::Int(bits) if 0 <= bits && bits < 128 => Some(bits as u32),
+        _ => None,
+    }
+}
+
+/// Whether no number stands twice.
+pub fn all_different(numbers: &[u64]) -> bool
+    ensures { result ≡ are_different numbers.now }
+{
+    for i in 0..numbers.len() {
+        let number = numbers[i];
+        if has(&numbers[i + 1..], number) {
+            return false;
+        }
+    }
+    true
+}
+
+fn has(numbers: &[u64], number: u64) -> bool
+    ensures { result ≡ list_any (λ y. y == number) numbers.now }
+{
+    numbers.iter().any(|y| *y == number)
+}
