@@ -1,6 +1,7 @@
 -- What the elements of a list mean, one more at a time.
 use Rattle.std.proofs.Common.{◌≡◌, ◌∙◌, ap, sym, refl, ℕ, zero, suc, ◌<◌, ◌+◌, List, [], ◌∷◌, ◌++◌, reverse, Option, Some, None, append_assoc, take, drop, length, get_or, add-one, arith}
-use Rattle.std.specs.Prelude.{option_map, option_and_then}
+use Rattle.std.specs.Prelude.{option_map, option_and_then, slice_get}
+use Rattle.std.proofs.lemmas.Option.{get_or_from_slice_get, slice_get_within}
 use Rattle.std.proofs.lemmas.List.{take_all, take_more, append-nil, reverse-append}
 use Rattle.std.proofs.Math.Seq.{drop-cons}
 use Rattle.gl_book.specs.Events.{all_meant}
@@ -53,3 +54,7 @@ drop_next xs i x h at = let e : suc i ≡ i + 1 = omega arith in drop-cons xs i 
 
 pub drop_at : {A : Type 0} (xs : List A) (i : ℕ) (x d : A) → i < length xs → x ≡ get_or xs i d → drop i xs ≡ x ∷ drop (i + 1) xs
 drop_at xs i x d h at = let e : suc i ≡ i + 1 = omega arith in drop-cons xs i d h ∙ (ap (λ y. y ∷ drop (suc i) xs) (sym at) ∙ ap (λ n. x ∷ drop n xs) e)
+
+-- the elements up to one that is known by its place
+pub take_next : {A : Type 0} (xs : List A) (i : ℕ) (x : A) → slice_get xs i ≡ Some x → take (i + 1) xs ≡ take i xs ++ x ∷ []
+take_next xs i x at = take_more xs i x (slice_get_within xs i x at) ∙ ap (λ y. take i xs ++ y ∷ []) (get_or_from_slice_get xs i x x at)

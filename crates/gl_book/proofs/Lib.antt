@@ -6,3 +6,6 @@ pub mod AllMeant
 pub mod ProperLists
 pub mod NatLists
 pub mod Placing
+pub mod Eight
+pub mod Books
+pub mod Joined

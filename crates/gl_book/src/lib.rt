@@ -2,10 +2,13 @@
 #![tactic(auto)]
 
 mod answer;
+mod book;
 mod counts;
 mod event;
+mod events;
 mod line_list;
 mod lines;
+mod put_lines;
 mod nat;
 mod nats;
 mod parts;
