@@ -1,6 +1,6 @@
 -- Events and their names, one more at a time; events of today's language.
-use Rattle.std.proofs.Common.{◌≡◌, ◌∙◌, ap, sym, refl, subst, ℕ, zero, suc, ◌<◌, ◌≤◌, ◌+◌, List, [], ◌∷◌, ◌++◌, map, Option, Some, None, Bool, true, false, cond, take, drop, length, get_or, append_assoc, arith}
-use Rattle.std.specs.Prelude.{option_map, option_and_then, slice_get, All, IfSome}
+use Rattle.std.proofs.Common.{◌≡◌, ◌∙◌, ap, sym, refl, subst, ℕ, zero, suc, ◌<◌, ◌≤◌, ◌+◌, List, [], ◌∷◌, ◌++◌, map, Option, Some, None, take, drop, length, get_or, arith}
+use Rattle.std.specs.Prelude.{option_map, slice_get, All, IfSome}
 use Rattle.std.proofs.lemmas.List.{take_all, take_more, map-append}
 use Rattle.std.proofs.lemmas.List.Elements.{All-nil}
 use Rattle.std.proofs.lemmas.Option.{get_or_from_slice_get, slice_get_within, slice_get-map, option_and_then_some}
@@ -77,7 +77,7 @@ plain_from names [] e h = none_is IsPlainEvent e h
 plain_from names (x0 ∷ []) e h = none_is IsPlainEvent e h
 plain_from names (x0 ∷ x1 ∷ []) e h =
     either IsPlainEvent (spells names (codes "VALUE-TRIPLE") x0) (option_map Value (term_meant names [] x1)) None e
-      (λ _ k. mapped Value (term_meant names [] x1) IsPlainEvent e k (λ t is. term_plain [] names x1 t is)) (λ _. none_is IsPlainEvent e) h
+    (λ _ k. mapped Value (term_meant names [] x1) IsPlainEvent e k (λ t is. term_plain [] names x1 t is)) (λ _. none_is IsPlainEvent e) h
 plain_from names (x0 ∷ x1 ∷ x2 ∷ []) e h = none_is IsPlainEvent e h
 plain_from names (x0 ∷ x1 ∷ x2 ∷ x3 ∷ []) e h = none_is IsPlainEvent e h
 plain_from names (x0 ∷ x1 ∷ x2 ∷ x3 ∷ x4 ∷ []) e h = none_is IsPlainEvent e h
@@ -85,14 +85,14 @@ plain_from names (x0 ∷ x1 ∷ x2 ∷ x3 ∷ x4 ∷ x5 ∷ []) e h = none_is Is
 plain_from names (x0 ∷ x1 ∷ x2 ∷ x3 ∷ x4 ∷ x5 ∷ x6 ∷ []) e h = none_is IsPlainEvent e h
 plain_from names (x0 ∷ x1 ∷ x2 ∷ x3 ∷ x4 ∷ x5 ∷ x6 ∷ x7 ∷ []) e h =
     either IsPlainEvent (are_words names x0 x2 x4 x6) (option_map Claim (theorem_meant names x1 x3 x5 x7)) None e
-      (λ _ k. mapped Claim (theorem_meant names x1 x3 x5 x7) IsPlainEvent e k (λ thm is. plain_claim names x1 x3 x5 x7 thm is)) (λ _. none_is IsPlainEvent e) h
+    (λ _ k. mapped Claim (theorem_meant names x1 x3 x5 x7) IsPlainEvent e k (λ thm is. plain_claim names x1 x3 x5 x7 thm is)) (λ _. none_is IsPlainEvent e) h
 plain_from names (x0 ∷ x1 ∷ x2 ∷ x3 ∷ x4 ∷ x5 ∷ x6 ∷ x7 ∷ x8 ∷ es) e h = none_is IsPlainEvent e h
 
 plain_event : (names : List (List ℕ)) (x : Object) (e : Event) → event_meant names x ≡ Some e → IsPlainEvent e
 plain_event names x e h = option_and_then_some (event_from names) (elements x) e h (λ es _ k. plain_from names es e k)
 
 All-unmapped : (es : List program.Event) → All IsPlainEvent (map event_of es) → All (λ e. IsPlainEvent (event_of e)) es
-All-unmapped es h i d l = subst IsPlainEvent (get_or-map event_of es i d) (h i (event_of d) (omega (arith, l, length-map es event_of)))
+All-unmapped es h i d l = subst IsPlainEvent (get_or-map event_of es i d (event_of d) l) (h i (event_of d) (omega (arith, l, length-map es event_of)))
 
 -- what a book's events keep
 pub plain_named : {T : Type 0} (items : T → List program.Event) (names : List (List ℕ)) (forms : List Object) (events : List Event) (o : Option T) → Some events ≡ all_meant (event_meant names) forms

@@ -1,8 +1,8 @@
 -- Forms of two elements, of eight, and of any other count, which stand from the last to the first.
-use Rattle.std.proofs.Common.{◌≡◌, ◌∙◌, ap, ap₂, sym, refl, ℕ, zero, suc, ◌<◌, List, [], ◌∷◌, reverse, Option, Some, None, Bool, true, false, cond, length, get_or, arith}
+use Rattle.std.proofs.Common.{◌≡◌, ◌∙◌, ap, sym, refl, ℕ, zero, suc, ◌<◌, List, [], ◌∷◌, reverse, None, true, false, cond, length, get_or, arith}
 use Rattle.std.specs.Prelude.{option_map}
 use Rattle.gl_logic.specs.Object.{Object, nil}
-use Rattle.gl_book.specs.Events.{Event, Claim, event_from, theorem_meant, words_stand}
+use Rattle.gl_book.specs.Events.{Claim, event_from, theorem_meant, words_stand}
 
 pub two : (es : List Object) (a b : Object) → length es ≡ 2 → a ≡ get_or es 1 a → b ≡ get_or es 0 b → reverse es ≡ a ∷ b ∷ []
 two [] a b h p q = absurd (omega (arith, h))

@@ -1,5 +1,5 @@
 -- Forms, by their heads and arguments.
-use Rattle.std.proofs.Common.{◌≡◌, ◌∙◌, ap, sym, refl, subst, ℕ, zero, suc, ◌<◌, ◌+◌, List, [], ◌∷◌, ◌++◌, Option, Some, None, Bool, true, false, cond, append_assoc, take, length, get_or, arith}
+use Rattle.std.proofs.Common.{◌≡◌, ◌∙◌, ap, sym, refl, ℕ, zero, suc, ◌<◌, ◌+◌, List, [], ◌∷◌, ◌++◌, Option, Some, None, Bool, true, false, cond, append_assoc, take, length, get_or, arith}
 use Rattle.std.specs.Option.{option_map}
 use Rattle.std.specs.Prelude.{option_and_then}
 use Rattle.std.proofs.lemmas.List.{take_all, append-nil}
@@ -108,7 +108,7 @@ module _ (names : List (List ℕ)) (scope : List ℕ) (head : Object) where
   pub improper_form : (es : List Object) (t : Object) → IsAtom t → (t ≡ nil → ⊥) → term_meant names scope (Cons head (conses es t)) ≡ None
   improper_form es t a h =
       neither (spells names (codes "QUOTE") head) _ _ (improper_quote es t a h)
-        (ap (option_and_then (call_meant names head)) (no_terms names scope es t (no_list names scope t a h)))
+      (ap (option_and_then (call_meant names head)) (no_terms names scope es t (no_list names scope t a h)))
 
   pub quote_form : (rest : Object) → spells names (codes "QUOTE") head ≡ true → term_meant names scope (Cons head rest) ≡ quote_meant rest
   quote_form rest h = ap (λ b. cond b (quote_meant rest) (option_and_then (call_meant names head) (terms_meant names scope rest))) h

@@ -9,3 +9,6 @@ pub mod Placing
 pub mod Eight
 pub mod Books
 pub mod Joined
+pub mod Reports
+pub mod Transcripts
+pub mod Ends

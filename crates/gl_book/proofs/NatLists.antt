@@ -1,11 +1,11 @@
 -- Natural variables and their indices.
-use Rattle.std.proofs.Common.{◌≡◌, ◌∙◌, ap, ap₂, sym, refl, subst, ℕ, zero, suc, ◌<◌, ◌≤◌, ◌+◌, List, [], ◌∷◌, ◌++◌, map, Bool, true, false, not, ◌&&◌, ◌||◌, take, drop, length, get_or, add-one, append_assoc, arith}
-use Rattle.std.specs.Prelude.{◌≢◌, ◌==◌}
+use Rattle.std.proofs.Common.{◌≡◌, ◌∙◌, ap, sym, refl, ℕ, zero, suc, ◌<◌, ◌≤◌, ◌+◌, List, [], ◌∷◌, ◌++◌, map, Bool, true, false, not, ◌&&◌, ◌||◌, take, drop, length, get_or, add-one, arith}
+use Rattle.std.specs.Prelude.{◌==◌}
 use Rattle.std.specs.List.{list_any}
 use Rattle.std.proofs.lemmas.List.{take_more, map-append}
 use Rattle.std.proofs.lemmas.Bool.{eqb-false}
-use Rattle.shape_spec.specs.ShapeSeen.{ShapeSeen, Integer}
-use Rattle.shape_spec.specs.Indices.{variables_of, indices_of, indices_in, width_of, IsNotIn, AreApart, AllBelow}
+use Rattle.shape_spec.specs.ShapeSeen.{Integer}
+use Rattle.shape_spec.specs.Indices.{variables_of, indices_of, width_of, IsNotIn, AreApart, AllBelow}
 use Rattle.gl_book.specs.declared.nat.Nat.{Nat}
 use Rattle.gl_book.specs.NatOf.{nat_of, nats_of}
 use Rattle.gl_book.specs.Events.{total, numbers_from, placed, are_different}
@@ -66,7 +66,7 @@ placed_more first [] n = let a : first ≡ first + 0 = omega arith in ap (λ k. 
 placed_more first (m ∷ ns) n =
     let a : first + (m.1 + 1) + total ns ≡ first + (m.1 + 1 + total ns) = omega arith in
     ap (λ bs. (m.0, Integer (numbers_from first (m.1 + 1))) ∷ bs)
-      (placed_more (first + (m.1 + 1)) ns n ∙ ap (λ k. placed (first + (m.1 + 1)) ns ++ (n.0, Integer (numbers_from k (n.1 + 1))) ∷ []) a)
+    (placed_more (first + (m.1 + 1)) ns n ∙ ap (λ k. placed (first + (m.1 + 1)) ns ++ (n.0, Integer (numbers_from k (n.1 + 1))) ∷ []) a)
 
 pub total_append : (ms ns : List (ℕ × ℕ)) → total (ms ++ ns) ≡ total ms + total ns
 total_append [] ns = omega arith

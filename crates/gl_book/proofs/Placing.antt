@@ -1,18 +1,17 @@
 -- One more variable in its place.
-use Rattle.std.proofs.Common.{◌≡◌, ◌∙◌, ap, ap₂, sym, refl, subst, ℕ, ◌<◌, ◌≤◌, ◌+◌, List, [], ◌∷◌, ◌++◌, map, Bool, true, false, ◌&&◌, take, drop, length, get_or, arith}
-use Rattle.std.specs.Prelude.{nat_le}
+use Rattle.std.proofs.Common.{◌≡◌, ◌∙◌, ap, ap₂, sym, subst, ℕ, ◌<◌, ◌≤◌, ◌+◌, List, [], ◌∷◌, ◌++◌, map, true, take, drop, length, get_or, arith}
 use Rattle.std.proofs.lemmas.List.{take-append-drop, map-append}
 use Rattle.std.proofs.lemmas.Bool.{leb-true}
 use Rattle.shape_spec.specs.ShapeSeen.{ShapeSeen, Integer}
-use Rattle.shape_spec.specs.Indices.{variables_of, indices_of, indices_in, width_of, IsNotIn, AreApart, AllBelow, IsIntegerShape}
+use Rattle.shape_spec.specs.Indices.{variables_of, indices_of, width_of, IsNotIn, AreApart, AllBelow, IsIntegerShape}
 use Rattle.gl_book.specs.declared.nat.Nat.{Nat}
 use Rattle.gl_book.specs.NatOf.{nat_of, nats_of}
 use Rattle.gl_book.specs.Events.{total, numbers_from, placed, are_different, are_bindings}
 use Rattle.gl_book.proofs.AllMeant.{drop_next}
-use Rattle.gl_book.proofs.NatLists.{both, total_next, nats_next, numbers_append, numbers_apart, numbers_below, numbers_length, placed_indices, placed_variables, placed_width, placed_more, total_append, stands_alone}
+use Rattle.gl_book.proofs.NatLists.{both, nats_next, numbers_append, numbers_apart, numbers_below, numbers_length, placed_indices, placed_variables, placed_width, placed_more, total_append, stands_alone}
 
 module _ (ns : List Nat) (fits : are_bindings (nats_of ns) ≡ true) (i : ℕ) (n : Nat) (h : i < length ns) (at : n ≡ get_or ns i n) (b : List (ℕ × ShapeSeen)) (first : ℕ)
-  (bound : b ≡ placed 0 (nats_of (take i ns))) (next : first ≡ total (nats_of (take i ns))) where
+    (bound : b ≡ placed 0 (nats_of (take i ns))) (next : first ≡ total (nats_of (take i ns))) where
   whole : ns ≡ take i ns ++ n ∷ drop (i + 1) ns
   whole = sym (take-append-drop i ns) ∙ ap (λ ms. take i ns ++ ms) (drop_next ns i n h at)
 

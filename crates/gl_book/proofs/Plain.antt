@@ -1,12 +1,11 @@
 -- What a form means is a term of today's language.
-use Rattle.std.proofs.Common.{◌≡◌, ◌∙◌, ap, sym, refl, subst, ℕ, zero, suc, List, [], ◌∷◌, Option, Some, None, Bool, true, false, cond, length, arith}
-use Rattle.std.specs.Prelude.{option_and_then, nat_lt, ◌==◌, bytes_eq, get_or, codes, IfSome}
+use Rattle.std.proofs.Common.{◌≡◌, sym, refl, subst, ℕ, zero, suc, List, [], ◌∷◌, Option, Some, None, Bool, true, false, cond, length}
+use Rattle.std.specs.Prelude.{option_and_then, nat_lt, ◌==◌, codes, IfSome}
 use Rattle.std.specs.Option.{option_map}
 use Rattle.std.specs.List.{list_any}
-use Rattle.std.proofs.lemmas.Bool.{cases_Bool}
 use Rattle.std.proofs.lemmas.Option.{option_and_then_some}
 use Rattle.gl_logic.specs.Object.{Object, Int, Character, Symbol, Text, Cons}
-use Rattle.gl_logic.specs.Exp.{Exp, Var, Const, If, Prim, Last, More}
+use Rattle.gl_logic.specs.Exp.{Exp, Var, Const, If, Prim}
 use Rattle.gl_logic.specs.TermOf.{exps_of}
 use Rattle.gl_logic.specs.PrimValue.{prim_arity}
 use Rattle.gl_logic.specs.declared.prim.Primitive as primitive
@@ -74,9 +73,9 @@ module _ (scope : List ℕ) where
     term_plain names (Text n) t e = absurd cc
     term_plain names (Cons head rest) t e =
         either (IsPlain scope) (spells names (codes "QUOTE") head) (quote_meant rest) (option_and_then (call_meant names head) (terms_meant names scope rest)) t
-          (λ _. quote_plain rest t)
-          (λ _ q. option_and_then_some (call_meant names head) (terms_meant names scope rest) t q (λ ts is. call_plain names head ts t (terms_plain names rest ts is)))
-          e
+        (λ _. quote_plain rest t)
+        (λ _ q. option_and_then_some (call_meant names head) (terms_meant names scope rest) t q (λ ts is. call_plain names head ts t (terms_plain names rest ts is)))
+        e
 
     terms_plain : (names : List (List ℕ)) (x : Object) (ts : List Exp) → terms_meant names scope x ≡ Some ts → ArePlain scope (exps_of ts)
     terms_plain names (Int z) ts e = absurd cc

@@ -1,5 +1,4 @@
 -- The event that a value of the program stands for.
-use Rattle.std.specs.Prelude.{List, map}
 use Rattle.gl_logic.specs.TermOf.{term_of}
 use Rattle.gl_decide.specs.TheoremOf.{theorem_of}
 use Rattle.gl_book.specs.Events.{Event, Value, Claim}

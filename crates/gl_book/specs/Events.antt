@@ -1,5 +1,5 @@
 -- The event that a form means.
-use Rattle.std.specs.Prelude.{ℕ, zero, suc, ◌+◌, nat_lt, nat_le, ◌==◌, ◌&&◌, not, Bool, true, false, if◌then◌else◌, List, [], ◌∷◌, map, get_or, codes, Option, Some, None, option_map, option_and_then, ℤ, pos, negsuc}
+use Rattle.std.specs.Prelude.{ℕ, zero, suc, ◌+◌, nat_lt, nat_le, ◌==◌, ◌&&◌, not, Bool, true, if◌then◌else◌, List, [], ◌∷◌, map, get_or, codes, Option, Some, None, option_map, option_and_then, pos}
 use Rattle.std.specs.List.{list_any}
 use Rattle.gl_logic.specs.Object.{Object, Int, Symbol, Cons, nil}
 use Rattle.gl_logic.specs.Exp.{Exp}
@@ -88,10 +88,10 @@ bindings_meant names form = option_and_then (auto_from names) (elements form)
 abbrev pub theorem_meant : List (List ℕ) → Object → Object → Object → Object → Option Theorem
 theorem_meant names n h c b =
     option_and_then (λ name. option_and_then (λ bs. option_and_then (λ hyp. option_map (λ concl. record { name = name; hyp = hyp; concl = concl; bindings = bs })
-      (term_meant names (variables_of bs) c))
-      (term_meant names (variables_of bs) h))
-      (bindings_meant names b))
-      (name_meant names n)
+    (term_meant names (variables_of bs) c))
+    (term_meant names (variables_of bs) h))
+    (bindings_meant names b))
+    (name_meant names n)
 
 -- the words of a theorem's form
 abbrev pub are_words : List (List ℕ) → Object → Object → Object → Object → Bool

@@ -1,5 +1,5 @@
 -- The transcript of a book.
-use Rattle.std.specs.Prelude.{◌≡◌, ℕ, ◌-◌, ◌≤◌, nat_lt, if◌then◌else◌, Bool, cond, List, [], ◌∷◌, ◌++◌, map, length, take, get_or, All, Option, Some, None, IfSome, option_and_then}
+use Rattle.std.specs.Prelude.{◌≡◌, ℕ, ◌-◌, ◌≤◌, ◌<◌, nat_lt, if◌then◌else◌, Bool, cond, List, [], ◌∷◌, map, length, take, get_or, All, Option, Some, None, IfSome, option_and_then}
 use Rattle.std.specs.List.{concat}
 use Rattle.gl_logic.specs.Object.{Object}
 use Rattle.gl_logic.specs.Numbered.{IsNumbered}
@@ -74,10 +74,22 @@ WritesTranscript most bytes last_only old new s = (lines : List (List ℕ)) × I
 abbrev pub WritesFront : ℕ → List ℕ → Bool → Option (List ℕ) → Option (List ℕ) → Type 0
 WritesFront most bytes last_only old new = (lines : List (List ℕ)) × (s : Status) × (n : ℕ) × IsTranscript most bytes lines s × Grows old new (take n (told last_only lines))
 
--- what a run over these bytes has written when it ends with a status
+-- a status that a transcript gives
+abbrev pub IsReported : Status → Type 0
+IsReported status.ReadFault = ⊥
+IsReported status.WriteFault = ⊥
+IsReported status.NoMemory = ⊥
+IsReported status.Usage = ⊥
+IsReported s = Unit {0}
+
+-- some lines, and a status that a transcript gives
+abbrev pub IsWhole : List (List ℕ) → Status → Type 0
+IsWhole lines s = (0 < length lines) × IsReported s
+
+-- what a run over these bytes has written when it ends with a status: where memory was refused, nothing
 abbrev pub EndsWith : ℕ → List ℕ → Bool → Option (List ℕ) → Option (List ℕ) → Status → Type 0
 EndsWith most bytes last_only old new status.ReadFault = ⊥
 EndsWith most bytes last_only old new status.Usage = ⊥
 EndsWith most bytes last_only old new status.WriteFault = WritesFront most bytes last_only old new
-EndsWith most bytes last_only old new status.NoMemory = WritesFront most bytes last_only old new
+EndsWith most bytes last_only old new status.NoMemory = old ≡ new
 EndsWith most bytes last_only old new s = WritesTranscript most bytes last_only old new s

@@ -1,8 +1,8 @@
 -- The term that a form means.
-use Rattle.std.specs.Prelude.{ℕ, zero, Bool, true, false, nat_lt, ◌==◌, ◌||◌, if◌then◌else◌, List, [], ◌∷◌, length, get_or, codes, bytes_eq, Option, Some, None, option_and_then}
+use Rattle.std.specs.Prelude.{ℕ, zero, Bool, false, nat_lt, ◌==◌, if◌then◌else◌, List, [], ◌∷◌, length, get_or, codes, bytes_eq, Option, Some, None, option_and_then}
 use Rattle.std.specs.List.{list_any}
 use Rattle.gl_logic.specs.Object.{Object, Int, Symbol, Cons}
-use Rattle.gl_logic.specs.Exp.{Exp, Exps, Var, Const, If, Prim}
+use Rattle.gl_logic.specs.Exp.{Exp, Var, Const, If, Prim}
 use Rattle.gl_logic.specs.TermOf.{exps_of}
 use Rattle.gl_logic.specs.PrimValue.{prim_arity}
 use Rattle.gl_logic.specs.declared.prim.Primitive as primitive

@@ -2,10 +2,11 @@
 
 ghost use Rattle.std.specs.Prelude.{◌≡◌, count_by, IfOk};
 ghost use Rattle.gl_book.specs.Lines.{done_line, last_line, is_proved, is_vacuous, is_refuted, is_undecided, status_of};
+ghost use Rattle.gl_book.specs.Transcript.{IsReported};
 
 use super::answer::Answer;
-use gl_decide::Verdict;
 use gl_base::status::Status;
+use gl_decide::Verdict;
 use gl_logic::NoMemory;
 use std::alloc::Global;
 
@@ -38,7 +39,10 @@ fn undecided(answer: &Answer) -> bool
         Answer::Value(_) => false,
         Answer::NoValue => true,
         Answer::Decided(_, verdict) => {
-            matches!(verdict, Verdict::Uncovered(_) | Verdict::Unbuilt | Verdict::Memory)
+            matches!(
+                verdict,
+                Verdict::Uncovered(_) | Verdict::Unbuilt | Verdict::Memory
+            )
         }
     }
 }
@@ -90,13 +94,16 @@ pub fn done(
 ) -> Result<Vec<u8>, NoMemory>
     ensures { IfOk result (λ v. v.items ≡ done_line proved vacuous refuted undecided) }
 {
-    let line = format!(in alloc; "DONE proved={proved} vacuous={vacuous} refuted={refuted} undecided={undecided}\n")?;
+    let line = format!(in alloc;
+        "DONE proved={proved} vacuous={vacuous} refuted={refuted} undecided={undecided}\n"
+    )?;
     Ok(line.as_bytes().to_vec(alloc)?)
 }
 
 /// The status of a run that wrote these answers.
 pub fn status(answers: &[Answer]) -> Status
-    ensures { result ≡ status_of answers.now }
+    ensures status { result ≡ status_of answers.now }
+    ensures reported { IsReported result }
 {
     if count_refuted(answers) > 0 {
         Status::Refuted

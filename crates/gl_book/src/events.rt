@@ -3,7 +3,6 @@
 ghost use Rattle.std.specs.Prelude.{◌≡◌, [], ◌∷◌, ◌&&◌, length, get_or, reverse, codes, IfOk, option_map};
 ghost use Rattle.shape_spec.specs.Indices.{variables_of};
 ghost use Rattle.gl_decide.specs.TheoremOf.{theorem_of};
-
 ghost use Rattle.gl_book.specs.Events.{event_meant, event_from, theorem_meant, words_stand};
 ghost use Rattle.gl_book.specs.EventOf.{event_of};
 
@@ -17,11 +16,7 @@ use shape_spec::{Bindings, FnSet, Mode, Thm};
 use std::alloc::Global;
 
 /// The event that a form means, and None where it means none.
-pub fn event_of_form(
-    alloc: Global,
-    form: &Tree,
-    texts: &Texts,
-) -> Result<Option<Event>, NoMemory>
+pub fn event_of_form(alloc: Global, form: &Tree, texts: &Texts) -> Result<Option<Event>, NoMemory>
     ensures { IfOk result (λ e. option_map event_of e ≡ event_meant texts.now form.now) }
 {
     match parts_of(form) {
@@ -31,11 +26,7 @@ pub fn event_of_form(
 }
 
 /// From the elements of a form, which stand from the last to the first.
-fn event_of_parts(
-    alloc: Global,
-    parts: &[Tree],
-    texts: &Texts,
-) -> Result<Option<Event>, NoMemory>
+fn event_of_parts(alloc: Global, parts: &[Tree], texts: &Texts) -> Result<Option<Event>, NoMemory>
     ensures { IfOk result (λ e. option_map event_of e ≡ event_from texts.now (reverse parts.now)) }
 {
     if parts.len() == 2 {
@@ -48,12 +39,7 @@ fn event_of_parts(
 }
 
 /// `(value-triple e)`.
-fn value(
-    alloc: Global,
-    head: &Tree,
-    form: &Tree,
-    texts: &Texts,
-) -> Result<Option<Event>, NoMemory>
+fn value(alloc: Global, head: &Tree, form: &Tree, texts: &Texts) -> Result<Option<Event>, NoMemory>
     ensures { IfOk result (λ e. option_map event_of e ≡ event_from texts.now (head.now ∷ form.now ∷ [])) }
 {
     if !spells(texts, b"VALUE-TRIPLE", head) {

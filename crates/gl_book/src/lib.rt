@@ -8,13 +8,15 @@ mod event;
 mod events;
 mod line_list;
 mod lines;
-mod put_lines;
 mod nat;
 mod nats;
 mod parts;
+mod put_lines;
+mod run;
 mod spelling;
+mod transcript;
 mod translate;
 
 pub use answer::Answer;
 pub use event::Event;
-pub use translate::term_of_form;
+pub use run::{run_book, run_text};

@@ -36,12 +36,7 @@ fn memory_line(alloc: Global) -> Result<Vec<u8>, NoMemory>
     Ok(bytes)
 }
 
-fn add_value(
-    alloc: Global,
-    value: &Tree,
-    texts: &Texts,
-    lines: &mut Lines,
-) -> Result<(), NoMemory>
+fn add_value(alloc: Global, value: &Tree, texts: &Texts, lines: &mut Lines) -> Result<(), NoMemory>
     ensures { OnOk result (lines.new ≡ lines.old ++ (codes "VALUE " ++ (printed texts.now value.now ++ 10 ∷ [])) ∷ []) }
 {
     let mut bytes = Vec::new(alloc);

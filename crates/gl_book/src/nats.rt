@@ -49,11 +49,7 @@ fn bindings_of_parts(
 }
 
 /// The variables of items, which stand from the last to the first.
-fn nats_of_items(
-    alloc: Global,
-    items: &[Tree],
-    texts: &Texts,
-) -> Result<Option<Vec<Nat>>, NoMemory>
+fn nats_of_items(alloc: Global, items: &[Tree], texts: &Texts) -> Result<Option<Vec<Nat>>, NoMemory>
     ensures { IfOk result (λ ns. option_map (λ v. nats_of v.items) ns ≡ all_meant (nat_meant texts.now) (reverse items.now)) }
 {
     let mut nats = Vec::new(alloc);

@@ -1,7 +1,8 @@
 //! Lines to a sink.
 
-ghost use Rattle.std.specs.Prelude.{◌≡◌, ℕ, take, OnOk, OnErr};
+ghost use Rattle.std.specs.Prelude.{◌≡◌, ◌<◌, ◌-◌, ℕ, [], length, get_or, take, OnOk, OnErr};
 ghost use Rattle.std.specs.List.{concat};
+ghost use Rattle.gl_book.specs.Transcript.{told};
 ghost use Rattle.gl_base.specs.Outside.{HasCause, Grows};
 
 use super::line_list::Lines;
@@ -19,4 +20,29 @@ pub fn put_lines<K: Sink>(lines: &Lines, out: &mut K) -> Result<(), Failed>
         put_all(out, lines.at(i))?;
     }
     out.flush()
+}
+
+/// Hands over the last line alone, and flushes.
+fn put_last<K: Sink>(lines: &Lines, out: &mut K) -> Result<(), Failed>
+    requires { 0 < length lines.now }
+    ensures ok { OnOk result (Grows (K.written out.old) (K.written out.new) (get_or lines.now (length lines.now - 1) [])) }
+    ensures front { OnErr result ((n : ℕ) × Grows (K.written out.old) (K.written out.new) (take n (get_or lines.now (length lines.now - 1) []))) }
+    ensures cause { HasCause (K.faults out.old) (K.faults out.new) result }
+{
+    put_all(out, lines.at(lines.len() - 1))?;
+    out.flush()
+}
+
+/// Hands over all lines, or the last one alone, and flushes.
+pub fn put_told<K: Sink>(lines: &Lines, last_only: bool, out: &mut K) -> Result<(), Failed>
+    requires { 0 < length lines.now }
+    ensures ok { OnOk result (Grows (K.written out.old) (K.written out.new) (told last_only lines.now)) }
+    ensures front { OnErr result ((n : ℕ) × Grows (K.written out.old) (K.written out.new) (take n (told last_only lines.now))) }
+    ensures cause { HasCause (K.faults out.old) (K.faults out.new) result }
+{
+    if last_only {
+        put_last(lines, out)
+    } else {
+        put_lines(lines, out)
+    }
 }

@@ -1,4 +1,4 @@
-use Rattle.std.proofs.Common.{◌≡◌, ◌∙◌, ap, sym, arith, ◌++◌, ◌∷◌, [], take, length, ◌+◌, ℕ, List, map}
+use Rattle.std.proofs.Common.{◌∙◌, ap, sym, arith, ◌++◌, ◌∷◌, []}
 use Rattle.std.proofs.lemmas.List.{take_all, length-map}
 use Rattle.shape_spec.specs.Indices.{variables_of}
 use Rattle.gl_book.proofs.AllMeant.{take_next}

@@ -1,5 +1,4 @@
-use Rattle.std.proofs.Common.{◌≡◌, ◌∙◌, ap, sym, subst, arith, ◌++◌, ◌∷◌, [], ◌-◌, List, ℕ, take, reverse, Some, length}
-use Rattle.std.specs.Prelude.{option_map}
+use Rattle.std.proofs.Common.{◌≡◌, ◌∙◌, ap, sym, subst, arith, ◌∷◌, [], ◌-◌, List, ℕ, take, reverse, Some}
 use Rattle.std.proofs.lemmas.List.{map-append}
 use Rattle.gl_book.specs.Events.{all_meant, nat_meant}
 use Rattle.gl_book.specs.NatOf.{nat_of, nats_of}

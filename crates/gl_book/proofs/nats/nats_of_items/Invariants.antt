@@ -6,9 +6,9 @@ use Rattle.gl_book.proofs.nats.nats_of_items.Given as goal
 
 abbrev pub invariant-loop-left : goal.invariant-loop-left
 invariant-loop-left l = record {
-    within : l.left ≤ length l.items;
-    comes : onto (nats_of l.nats.items) (all_meant (nat_meant l.texts) (reverse (take l.left l.items))) ≡ all_meant (nat_meant l.texts) (reverse l.items);
-  }
+  within : l.left ≤ length l.items;
+  comes : onto (nats_of l.nats.items) (all_meant (nat_meant l.texts) (reverse (take l.left l.items))) ≡ all_meant (nat_meant l.texts) (reverse l.items);
+}
 
 abbrev pub decreases-loop-left : goal.decreases-loop-left
 decreases-loop-left l = l.left

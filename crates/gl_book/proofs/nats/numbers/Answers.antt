@@ -1,4 +1,4 @@
-use Rattle.std.proofs.Common.{◌≡◌, ◌∙◌, ap, sym, ◌++◌, ◌∷◌, [], ◌+◌, refl}
+use Rattle.std.proofs.Common.{◌∙◌, ap, sym, ◌++◌, ◌∷◌, [], ◌+◌, refl}
 use Rattle.gl_book.proofs.NatLists.{numbers_next}
 use Rattle.gl_book.proofs.nats.numbers.Goals as goal
 

@@ -1,8 +1,6 @@
-use Rattle.std.proofs.Common.{◌≡◌, ◌≤◌, ◌<◌, ◌∙◌, ap, sym, subst, arith, ◌++◌, ◌∷◌, [], ◌+◌, List, ℕ, length}
+use Rattle.std.proofs.Common.{◌≤◌, ◌∙◌, ap, sym, subst, arith, ◌++◌, ◌∷◌, [], ◌+◌, length}
 use Rattle.shape_spec.specs.ShapeSeen.{ShapeSeen, Integer}
-use Rattle.shape_spec.specs.ShapeOf.{shape_of}
 use Rattle.shape_spec.specs.Indices.{indices_of, indices_in, width_of, AreApart, AllBelow, IsIntegerShape}
-use Rattle.gl_book.specs.Events.{numbers_from}
 use Rattle.gl_book.proofs.Placing.{room, fresh, apart, below, few, proper, grown, further}
 use Rattle.gl_book.proofs.nats.placed_bindings.Goals as goal
 

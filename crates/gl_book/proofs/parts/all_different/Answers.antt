@@ -1,4 +1,4 @@
-use Rattle.std.proofs.Common.{◌≡◌, ◌∙◌, sym, arith, rules, refl}
+use Rattle.std.proofs.Common.{◌∙◌, sym, refl}
 use Rattle.gl_book.proofs.ProperLists.{stands_twice, stands_once}
 use Rattle.gl_book.proofs.parts.all_different.Goals as goal
 

@@ -1,4 +1,4 @@
-use Rattle.std.proofs.Common.{◌≡◌, ◌∙◌, ap, sym, Some, reverse, rules}
+use Rattle.std.proofs.Common.{◌∙◌, ap, sym, Some, reverse, rules}
 use Rattle.gl_book.proofs.ProperLists.{proper_elements, improper_elements}
 use Rattle.gl_book.proofs.parts.parts_of.Goals as goal
 

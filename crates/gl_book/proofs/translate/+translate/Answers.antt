@@ -1,17 +1,14 @@
-use Rattle.std.proofs.Common.{◌≡◌, ◌∙◌, ap, sym, refl, subst, rules, arith, length, take, get_or, ◌<◌, ◌≤◌, ◌+◌, ◌*◌, ◌-◌, List, ◌++◌, ◌∷◌, [], map, Some, None, Option, ℕ, zero, suc, true, false}
-use Rattle.std.specs.Prelude.{All, IfOk, option_and_then}
-use Rattle.std.specs.Option.{option_map}
+use Rattle.std.proofs.Common.{◌≡◌, ◌∙◌, ap, sym, subst, rules, arith, length, take, get_or, ◌<◌, ◌≤◌, ◌+◌, ◌-◌, List, ◌∷◌, [], map, Some, None, Option, ℕ, zero, suc}
+use Rattle.std.specs.Prelude.{option_and_then}
 use Rattle.std.proofs.lemmas.List.{map-append}
-use Rattle.std.proofs.lemmas.List.Elements.{All-take}
 use Rattle.std.proofs.lemmas.Result.{IfOk-weaker}
 use Rattle.gl_logic.specs.Object.{Object, Cons, nil}
-use Rattle.gl_logic.specs.Lists.{elements_of, tail_of, conses, IsAtom, size_of}
-use Rattle.gl_logic.specs.Numbered.{IsNumbered}
+use Rattle.gl_logic.specs.Lists.{elements_of, tail_of, conses, size_of}
 use Rattle.gl_logic.specs.TermOf.{term_of}
 use Rattle.gl_logic.specs.Exp.{Exp}
-use Rattle.gl_logic.proofs.Parts.{numbered_elements, tail_is_atom, most_elements}
+use Rattle.gl_logic.proofs.Parts.{tail_is_atom, most_elements}
 use Rattle.sexp_print.proofs.Cons.{some_elements}
-use Rattle.gl_book.specs.Translation.{term_meant, terms_meant, call_meant, quote_meant}
+use Rattle.gl_book.specs.Translation.{term_meant, terms_meant, call_meant}
 use Rattle.gl_book.proofs.Forms.{list_form, term_more, term_missing, all_terms, improper_form, quote_form, call_form, prepended}
 use Rattle.gl_book.proofs.translate.+translate.Goals as goal
 use denote.Param.Weighed.{most}

@@ -19,9 +19,9 @@ decreases-terms_of_forms l = 3 * most (λ y. size_of y + 1) l.forms.now
 -- the terms so far, in front of those still to come, are those of the whole
 abbrev pub invariant-terms_of_forms-loop-left : goal.invariant-terms_of_forms-loop-left
 invariant-terms_of_forms-loop-left l = record {
-    within : l.left ≤ length l.forms;
-    comes : prepended (map term_of l.terms.items) (terms_meant l.texts l.scope (conses (take l.left l.forms) nil)) ≡ terms_meant l.texts l.scope (conses l.forms nil);
-  }
+  within : l.left ≤ length l.forms;
+  comes : prepended (map term_of l.terms.items) (terms_meant l.texts l.scope (conses (take l.left l.forms) nil)) ≡ terms_meant l.texts l.scope (conses l.forms nil);
+}
 
 abbrev pub decreases-terms_of_forms-loop-left : goal.decreases-terms_of_forms-loop-left
 decreases-terms_of_forms-loop-left l = l.left

@@ -1,5 +1,5 @@
-use Rattle.std.proofs.Common.{◌≡◌, ◌∙◌, ap, sym, Some}
-use Rattle.gl_logic.specs.Object.{Object, Cons, nil}
+use Rattle.std.proofs.Common.{◌∙◌, ap, sym, Some}
+use Rattle.gl_logic.specs.Object.{Object}
 use Rattle.gl_logic.specs.Exp.{Const}
 use Rattle.gl_book.specs.Translation.{quote_meant}
 use Rattle.gl_book.proofs.Forms.{no_quote, one_quote}
