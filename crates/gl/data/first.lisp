@@ -1,0 +1,1 @@
+(value-triple (car (cons 'a 2)))

@@ -1,0 +1,3 @@
+pub mod StandIn
+pub mod Usage
+pub mod Words

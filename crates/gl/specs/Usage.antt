@@ -1,0 +1,6 @@
+-- What is written where the words are no command.
+use Rattle.std.specs.Prelude.{ℕ, List, [], ◌∷◌, ◌++◌, codes}
+
+-- the line, with the newline that ends it
+abbrev pub usage_line : List ℕ
+usage_line = codes "USAGE gl BOOK" ++ 10 ∷ []

@@ -1,0 +1,150 @@
+//! The outside as the program meets it: real files, and standard output.
+
+ghost use Rattle.std.specs.Prelude.{◌≤◌, ◌<◌, length, None, is_some, IfOk};
+ghost use Rattle.gl_base.specs.Outside.{HasCause};
+
+use gl_base::failed::Failed;
+use gl_base::shelf::Shelf;
+use gl_base::sink::Sink;
+use std::fs;
+use std::io::{ErrorKind, Read, Write};
+use std::rt::Files;
+
+/// Files by their paths. It tells no bytes.
+#[derive(Drop)]
+pub struct FileShelf<'a, R: Files> {
+    rt: &'a R,
+    file: Option<R::File>,
+    faults: u64,
+}
+
+impl<'a, R: Files> FileShelf<'a, R> {
+    /// No file is open.
+    pub fn new(rt: &'a R) -> FileShelf<'a, R> {
+        FileShelf {
+            rt,
+            file: None,
+            faults: 0,
+        }
+    }
+}
+
+impl<'a, R: Files> Shelf for FileShelf<'a, R> {
+    ghost holds = { λ _ _. None };
+
+    ghost rest = { λ _. None };
+
+    ghost is_open = { λ s. is_some s.file };
+
+    ghost faults = { λ s. s.faults };
+
+    fn open(&mut self, name: &str) -> Result<(), Failed> {
+        self.file = None;
+        match fs::open(self.rt, name) {
+            Ok(file) => {
+                self.file = Some(file);
+                Ok(())
+            }
+            Err(_) => {
+                self.faults = self.faults.saturating_add(1);
+                Err(Failed)
+            }
+        }
+    }
+
+    fn read(&mut self, buf: &mut [u8]) -> Result<usize, Failed> {
+        let Some(file) = &mut self.file else {
+            unreachable!()
+        };
+        read_some(file, &mut self.faults, buf)
+    }
+}
+
+/// Reads once more where a signal came between. Each error counts.
+pub(crate) fn read_some<F: Read>(
+    file: &mut F,
+    faults: &mut u64,
+    buf: &mut [u8],
+) -> Result<usize, Failed>
+    ensures within { IfOk result (λ n. n ≤ length buf.new) }
+    ensures cause { HasCause faults.old faults.new result }
+{
+    let _count = *faults;
+    for _ in 0..u64::MAX {
+        match file.read(buf) {
+            Ok(count) => return Ok(count),
+            Err(error) => {
+                *faults = faults.saturating_add(1);
+                if error.kind() != ErrorKind::Interrupted {
+                    return Err(Failed);
+                }
+            }
+        }
+    }
+    *faults = faults.saturating_add(1);
+    Err(Failed)
+}
+
+/// A writer, such as standard output. It tells no bytes.
+#[derive(Drop)]
+pub struct WriterSink<W: Write + Drop> {
+    writer: W,
+    faults: u64,
+}
+
+impl<W: Write + Drop> WriterSink<W> {
+    /// Nothing is written.
+    pub fn new(writer: W) -> WriterSink<W> {
+        WriterSink { writer, faults: 0 }
+    }
+
+    /// The writer.
+    pub fn into_writer(self) -> W {
+        self.writer
+    }
+}
+
+impl<W: Write + Drop> Sink for WriterSink<W> {
+    ghost written = { λ _. None };
+
+    ghost faults = { λ s. s.faults };
+
+    fn write(&mut self, piece: &[u8]) -> Result<usize, Failed> {
+        write_some(&mut self.writer, &mut self.faults, piece)
+    }
+
+    fn flush(&mut self) -> Result<(), Failed> {
+        match self.writer.flush() {
+            Ok(()) => Ok(()),
+            Err(_) => {
+                self.faults = self.faults.saturating_add(1);
+                Err(Failed)
+            }
+        }
+    }
+}
+
+/// Writes once more where a signal came between. Each error counts, and so does a write that takes nothing.
+fn write_some<W: Write>(writer: &mut W, faults: &mut u64, piece: &[u8]) -> Result<usize, Failed>
+    ensures within { IfOk result (λ n. (0 < n) × (n ≤ length piece.now)) }
+    ensures cause { HasCause faults.old faults.new result }
+{
+    let _count = *faults;
+    for _ in 0..u64::MAX {
+        match writer.write(piece) {
+            Ok(count) if count > 0 => return Ok(count),
+            Ok(_) => {
+                *faults = faults.saturating_add(1);
+                return Err(Failed);
+            }
+            Err(error) => {
+                *faults = faults.saturating_add(1);
+                if error.kind() != ErrorKind::Interrupted {
+                    return Err(Failed);
+                }
+            }
+        }
+    }
+    *faults = faults.saturating_add(1);
+    Err(Failed)
+}

@@ -1,0 +1,36 @@
+//! `gl BOOK`: a book's transcript on standard output.
+#![tactic(auto)]
+
+mod adapters;
+mod run;
+mod stand_in;
+#[cfg(test)]
+mod tests;
+mod usage;
+mod words;
+
+use adapters::{FileShelf, WriterSink};
+use gl_base::status::Status;
+use run::run;
+use std::io;
+use std::process::ExitCode;
+use std::rt::{Env, Files};
+use std::thread::Threads;
+use usage::refuse_words;
+use words::{WordsEnd, words_of};
+
+fn main(rt: HostRuntime) -> ExitCode {
+    ExitCode::from(status_of(&rt).code())
+}
+
+/// Runs the command of the process.
+fn status_of<R: Files + Print + Env + AllocGlobal + Threads + Sync>(rt: &R) -> Status {
+    let mut out = WriterSink::new(io::writer(rt));
+    let words = match words_of(rt) {
+        Ok(words) => words,
+        Err(WordsEnd::Memory) => return Status::NoMemory,
+        Err(WordsEnd::NoText) => return refuse_words(&mut out),
+    };
+    let mut shelf = FileShelf::new(rt);
+    run(rt, rt.alloc(), words.as_slice(), &mut shelf, &mut out)
+}

@@ -1,0 +1,3 @@
+mod adapters;
+mod books;
+mod rows;

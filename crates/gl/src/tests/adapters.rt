@@ -1,0 +1,102 @@
+use crate::adapters::{FileShelf, WriterSink, read_some};
+use gl_base::failed::Failed;
+use gl_base::shelf::Shelf;
+use gl_base::sink::Sink;
+use std::io::{ErrorKind, Read, Write};
+use std::test::Fail;
+use std::{fs, io};
+
+#[test]
+fn real_file(rt: HostRuntime) -> Result<(), Fail> {
+    let name = "gl_adapters_test.lisp";
+    fs::write(&rt, name, "(a b)")?;
+    let mut shelf = FileShelf::new(&rt);
+    let mut piece = [0u8; 3];
+    assert!(rt; shelf.open("gl_adapters_no_such_file.lisp").is_err());
+    assert!(rt; shelf.open(name).is_ok());
+    assert_eq!(rt; shelf.read(&mut piece), Ok(3));
+    assert_eq!(rt; piece.as_slice(), b"(a ".as_slice());
+    assert_eq!(rt; shelf.read(&mut piece), Ok(2));
+    assert_eq!(rt; &piece[..2], b"b)".as_slice());
+    assert_eq!(rt; shelf.read(&mut piece), Ok(0));
+    fs::remove_file(&rt, name)?;
+    Ok(())
+}
+
+/// A reader and writer of two bytes at a time: its first call is interrupted, its third takes nothing and its fourth
+/// fails.
+#[derive(Drop)]
+struct Uneven {
+    taken: Vec<u8>,
+    calls: u64,
+}
+
+impl Write for Uneven {
+    fn write(&mut self, buf: &[u8]) -> io::Result<usize> {
+        self.calls = self.calls.saturating_add(1);
+        match self.calls {
+            1 => Err(io::Error::from(ErrorKind::Interrupted)),
+            3 => Ok(0),
+            4 => Err(io::Error::from(ErrorKind::Other)),
+            _ => self.taken.write(&buf[..buf.len().min(2)]),
+        }
+    }
+
+    fn flush(&mut self) -> io::Result<()> {
+        Err(io::Error::from(ErrorKind::Other))
+    }
+}
+
+impl Read for Uneven {
+    fn read(&mut self, buf: &mut [u8]) -> io::Result<usize> {
+        self.calls = self.calls.saturating_add(1);
+        match self.calls {
+            1 => Err(io::Error::from(ErrorKind::Interrupted)),
+            3 => Ok(0),
+            4 => Err(io::Error::from(ErrorKind::Other)),
+            _ => self.taken.as_slice().read(buf),
+        }
+    }
+}
+
+#[test]
+fn uneven_writer(rt: HostRuntime) -> Result<(), Fail> {
+    let mut sink = WriterSink::new(Uneven {
+        taken: Vec::new(rt.alloc()),
+        calls: 0,
+    });
+    assert_eq!(rt; sink.write(b"abc"), Ok(2));
+    assert_eq!(rt; sink.write(b"c"), Err(Failed));
+    assert_eq!(rt; sink.write(b"c"), Err(Failed));
+    assert_eq!(rt; sink.write(b"c"), Ok(1));
+    assert_eq!(rt; sink.flush(), Err(Failed));
+    assert_eq!(rt; sink.into_writer().taken.as_slice(), b"abc".as_slice());
+    Ok(())
+}
+
+#[test]
+fn uneven_reader(rt: HostRuntime) -> Result<(), Fail> {
+    let mut reader = Uneven {
+        taken: b"ab".to_vec(rt.alloc())?,
+        calls: 0,
+    };
+    let mut faults = 0;
+    let mut piece = [0u8; 3];
+    assert_eq!(rt; read_some(&mut reader, &mut faults, &mut piece), Ok(2));
+    assert_eq!(rt; &piece[..2], b"ab".as_slice());
+    assert_eq!(rt; faults, 1);
+    assert_eq!(rt; read_some(&mut reader, &mut faults, &mut piece), Ok(0));
+    assert_eq!(rt;
+        read_some(&mut reader, &mut faults, &mut piece),
+        Err(Failed)
+    );
+    assert_eq!(rt; faults, 2);
+    Ok(())
+}
+
+#[test]
+fn standard_output(rt: HostRuntime) {
+    let mut sink = WriterSink::new(io::writer(&rt));
+    assert_eq!(rt; sink.write(b"written\n"), Ok(8));
+    assert_eq!(rt; sink.flush(), Ok(()));
+}

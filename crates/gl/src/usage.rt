@@ -1,0 +1,25 @@
+//! Words that are no command.
+
+ghost use Rattle.std.specs.Prelude.{◌≡◌, ◌≤◌, ◌⊎◌};
+ghost use Rattle.gl_base.specs.Outside.{Rose, Grows, GrowsByFront};
+ghost use Rattle.gl.specs.Usage.{usage_line};
+
+use gl_base::sink::{Sink, put_all};
+use gl_base::status::Status;
+
+/// How a command is written.
+const USAGE: &[u8] = b"USAGE gl BOOK\n";
+
+/// Writes the usage line, and nothing else. No flush follows.
+pub fn refuse_words<K: Sink>(out: &mut K) -> Status
+    ensures answer { (result ≡ Status.Usage) ⊎ (result ≡ Status.WriteFault) }
+    ensures usage { result ≡ Status.Usage → Grows (K.written out.old) (K.written out.new) usage_line }
+    ensures cause { result ≡ Status.WriteFault → Rose (K.faults out.old) (K.faults out.new) }
+    ensures front { result ≡ Status.WriteFault → GrowsByFront (K.written out.old) (K.written out.new) usage_line }
+    ensures later { K.faults out.old ≤ K.faults out.new }
+{
+    match put_all(out, USAGE) {
+        Ok(()) => Status::Usage,
+        Err(_) => Status::WriteFault,
+    }
+}
