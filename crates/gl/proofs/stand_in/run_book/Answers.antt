@@ -1,4 +1,4 @@
-use Rattle.std.proofs.Common.{arith}
+use Rattle.std.proofs.Common.{arith, refl}
 use Rattle.gl.specs.StandIn.{front}
 use Rattle.gl.proofs.stand_in.run_book.Goals as goal
 
@@ -22,3 +22,6 @@ returns-clause-write_front g c = λ e. absurd cc
 
 pub returns-clause-memory_front : goal.returns-clause-memory_front
 returns-clause-memory_front g c = λ e. front _ _
+
+pub returns-clause-no_write_fault : goal.returns-clause-no_write_fault
+returns-clause-no_write_fault g c = λ e. refl
