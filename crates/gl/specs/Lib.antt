@@ -1,3 +1,2 @@
-pub mod StandIn
 pub mod Usage
 pub mod Words

@@ -60,7 +60,7 @@ impl<'a, R: Files> Shelf for FileShelf<'a, R> {
     }
 }
 
-/// Reads once more where a signal came between. Each error counts.
+/// Reads once more where a signal came between, and counts each other error.
 pub(crate) fn read_some<F: Read>(
     file: &mut F,
     faults: &mut u64,
@@ -74,8 +74,8 @@ pub(crate) fn read_some<F: Read>(
         match file.read(buf) {
             Ok(count) => return Ok(count),
             Err(error) => {
-                *faults = faults.saturating_add(1);
                 if error.kind() != ErrorKind::Interrupted {
+                    *faults = faults.saturating_add(1);
                     return Err(Failed);
                 }
             }
@@ -124,7 +124,7 @@ impl<W: Write + Drop> Sink for WriterSink<W> {
     }
 }
 
-/// Writes once more where a signal came between. Each error counts, and so does a write that takes nothing.
+/// Writes once more where a signal came between, and counts each other error and a write that takes nothing.
 fn write_some<W: Write>(writer: &mut W, faults: &mut u64, piece: &[u8]) -> Result<usize, Failed>
     ensures within { IfOk result (λ n. (0 < n) × (n ≤ length piece.now)) }
     ensures cause { HasCause faults.old faults.new result }
@@ -138,8 +138,8 @@ fn write_some<W: Write>(writer: &mut W, faults: &mut u64, piece: &[u8]) -> Resul
                 return Err(Failed);
             }
             Err(error) => {
-                *faults = faults.saturating_add(1);
                 if error.kind() != ErrorKind::Interrupted {
+                    *faults = faults.saturating_add(1);
                     return Err(Failed);
                 }
             }

@@ -3,7 +3,6 @@
 
 mod adapters;
 mod run;
-mod stand_in;
 #[cfg(test)]
 mod tests;
 mod usage;

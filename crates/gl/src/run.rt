@@ -1,19 +1,18 @@
 //! The whole program, over any shelf and any sink.
 
-ghost use Rattle.std.specs.Prelude.{◌≡◌, ◌≤◌, ◌<◌, ◌⊎◌, map, string_bytes, IsNone, IfNone, IfSome};
+ghost use Rattle.std.specs.Prelude.{◌≡◌, ◌≢◌, ◌⊎◌, false, map, string_bytes, IsNone, IfNone, IfSome};
 ghost use Rattle.gl_base.specs.Outside.{Rose, Grows, GrowsByFront};
-ghost use Rattle.gl_base.specs.Status.{code_of};
-ghost use Rattle.gl.specs.StandIn.{Writes, WritesFront};
+ghost use Rattle.gl_book.specs.Transcript.{EndsWith};
 ghost use Rattle.gl.specs.Usage.{usage_line};
 ghost use Rattle.gl.specs.Words.{book_named};
 
-use crate::stand_in::run_book;
 use crate::usage::refuse_words;
 use crate::words::book_of;
 use gl_base::limits::Limits;
 use gl_base::shelf::Shelf;
 use gl_base::sink::Sink;
 use gl_base::status::Status;
+use gl_book::run_book;
 use std::alloc::Global;
 use std::thread::Threads;
 
@@ -34,15 +33,15 @@ pub fn run<R: Threads + Sync, S: Shelf, K: Sink>(
     ensures usage_front { IfNone (book_named (map string_bytes words.now)) (result ≡ Status.WriteFault → GrowsByFront (K.written out.old) (K.written out.new) usage_line) }
     ensures unread { IfNone (book_named (map string_bytes words.now)) (shelf.new ≡ shelf.old) }
 
-    // The words name a book.
-    ensures transcript { IfSome (book_named (map string_bytes words.now)) (λ name. code_of result < 4 → Writes (S.holds shelf.old name) (K.written out.old) (K.written out.new) (code_of result)) }
-    ensures write_front { IfSome (book_named (map string_bytes words.now)) (λ name. result ≡ Status.WriteFault → WritesFront (S.holds shelf.old name) (K.written out.old) (K.written out.new)) }
-    ensures memory_front { IfSome (book_named (map string_bytes words.now)) (λ name. result ≡ Status.NoMemory → WritesFront (S.holds shelf.old name) (K.written out.old) (K.written out.new)) }
+    // The words name a book: what was written is its transcript with this status, a front of it where a write
+    // failed, and nothing where memory was refused.
+    ensures transcript { IfSome (book_named (map string_bytes words.now)) (λ name. IfSome (S.holds shelf.old name) (λ text. (result ≡ Status.ReadFault) ⊎ EndsWith 12 text false (K.written out.old) (K.written out.new) result)) }
 
     // Why the run failed.
     ensures read_fault { result ≡ Status.ReadFault → Rose (S.faults shelf.old) (S.faults shelf.new) }
     ensures unwritten { result ≡ Status.ReadFault → K.written out.new ≡ K.written out.old }
     ensures write_fault { result ≡ Status.WriteFault → Rose (K.faults out.old) (K.faults out.new) }
+    ensures no_write_fault { result ≢ Status.WriteFault → K.faults out.new ≡ K.faults out.old }
 {
     match book_of(words) {
         Some(name) => run_book(rt, alloc, name, &Limits::usual(), shelf, out),

@@ -16,7 +16,7 @@ pub fn refuse_words<K: Sink>(out: &mut K) -> Status
     ensures usage { result ≡ Status.Usage → Grows (K.written out.old) (K.written out.new) usage_line }
     ensures cause { result ≡ Status.WriteFault → Rose (K.faults out.old) (K.faults out.new) }
     ensures front { result ≡ Status.WriteFault → GrowsByFront (K.written out.old) (K.written out.new) usage_line }
-    ensures later { K.faults out.old ≤ K.faults out.new }
+    ensures stayed { result ≡ Status.Usage → K.faults out.new ≡ K.faults out.old }
 {
     match put_all(out, USAGE) {
         Ok(()) => Status::Usage,
