@@ -27,9 +27,10 @@ append_elements-loop-left-preserved t c = record {
 
 pub append_list-append_elements-requires : goal.append_list-append_elements-requires
 append_list-append_elements-requires t c =
-    let falls : most (λ y. size_of y + 1) c.elements.result.now ≤ size_of c.args.list.now = subst (λ (xs : List Object). most (λ y. size_of y + 1) xs ≤ size_of c.args.list.now) (sym c.elements.ensures) (most_elements c.args.list.now) in
-    (omega (arith, falls, c.decreases),
-    subst (λ (xs : List Object). 0 < length xs) (sym c.elements.ensures) (some_elements c.args.list.now c.requires))
+    let falls : most (λ y. size_of y + 1) c.elements.result.now ≤ size_of c.args.list.now = subst (λ (xs : List Object). most (λ y. size_of y + 1) xs ≤ size_of c.args.list.now) (sym c.elements.ensures) (most_elements c.args.list.now) in (
+      omega (arith, falls, c.decreases),
+      subst (λ (xs : List Object). 0 < length xs) (sym c.elements.ensures) (some_elements c.args.list.now c.requires),
+    )
 
 pub append_list-append_tail-requires : goal.append_list-append_tail-requires
 append_list-append_tail-requires t c = subst IsAtom (sym c.tail.ensures) (tail_is_atom c.args.list.now)
