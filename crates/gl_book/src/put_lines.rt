@@ -19,7 +19,7 @@ pub fn put_lines<K: Sink>(lines: &Lines, out: &mut K) -> Result<(), Failed>
     for i in 0..lines.len() {
         put_all(out, lines.at(i))?;
     }
-    out.flush()
+    flush(out)
 }
 
 /// Hands over the last line alone, and flushes.
@@ -30,7 +30,7 @@ fn put_last<K: Sink>(lines: &Lines, out: &mut K) -> Result<(), Failed>
     ensures cause { HasCause (K.faults out.old) (K.faults out.new) result }
 {
     put_all(out, lines.at(lines.len() - 1))?;
-    out.flush()
+    flush(out)
 }
 
 /// Hands over all lines, or the last one alone, and flushes.
@@ -45,4 +45,12 @@ pub fn put_told<K: Sink>(lines: &Lines, last_only: bool, out: &mut K) -> Result<
     } else {
         put_lines(lines, out)
     }
+}
+
+/// Flushes a sink.
+fn flush<K: Sink>(sink: &mut K) -> Result<(), Failed>
+    ensures same { K.written sink.new ≡ K.written sink.old }
+    ensures cause { HasCause (K.faults sink.old) (K.faults sink.new) result }
+{
+    sink.flush()
 }
