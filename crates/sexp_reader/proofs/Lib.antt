@@ -7,3 +7,4 @@ pub mod Steps
 pub mod Shifted
 pub mod Rows
 pub mod Spelled
+pub mod Sizes
