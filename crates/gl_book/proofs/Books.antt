@@ -50,7 +50,7 @@ none_left (x ∷ xs) (suc i) h = none_left xs i (omega (arith, h))
 
 -- ---- events of today's language
 -- a map of what is there
-mapped : {A B : Type 0} (f : A → B) (o : Option A) (P : B → Type 0) (r : B) → option_map f o ≡ Some r → ((x : A) → o ≡ Some x → P (f x)) → P r
+pub mapped : {A B : Type 0} (f : A → B) (o : Option A) (P : B → Type 0) (r : B) → option_map f o ≡ Some r → ((x : A) → o ≡ Some x → P (f x)) → P r
 mapped f None P r e h = none_is P r e
 mapped f (Some x) P r e h = is_it P (f x) r (h x refl) e
 
@@ -91,8 +91,8 @@ plain_from names (x0 ∷ x1 ∷ x2 ∷ x3 ∷ x4 ∷ x5 ∷ x6 ∷ x7 ∷ x8 ∷
 plain_event : (names : List (List ℕ)) (x : Object) (e : Event) → event_meant names x ≡ Some e → IsPlainEvent e
 plain_event names x e h = option_and_then_some (event_from names) (elements x) e h (λ es _ k. plain_from names es e k)
 
-All-unmapped : (es : List program.Event) → All IsPlainEvent (map event_of es) → All (λ e. IsPlainEvent (event_of e)) es
-All-unmapped es h i d l = subst IsPlainEvent (get_or-map event_of es i d (event_of d) l) (h i (event_of d) (omega (arith, l, length-map es event_of)))
+pub All-unmapped : (P : Event → Type 0) (es : List program.Event) → All P (map event_of es) → All (λ e. P (event_of e)) es
+All-unmapped P es h i d l = subst P (get_or-map event_of es i d (event_of d) l) (h i (event_of d) (omega (arith, l, length-map es event_of)))
 
 -- what a book's events keep
 pub plain_named : {T : Type 0} (items : T → List program.Event) (names : List (List ℕ)) (forms : List Object) (events : List Event) (o : Option T) → Some events ≡ all_meant (event_meant names) forms
@@ -100,4 +100,4 @@ pub plain_named : {T : Type 0} (items : T → List program.Event) (names : List 
 plain_named items names forms events None are h = tt
 plain_named items names forms events (Some v) are h =
     let all = all_of IsPlainEvent (event_meant names) (plain_event names) forms events (sym are) in
-    All-unmapped (items v) (either (All IsPlainEvent) (are_different (names_of events)) (Some events) None (map event_of (items v)) (λ _. is_it (All IsPlainEvent) events (map event_of (items v)) all) (λ _. none_is (All IsPlainEvent) (map event_of (items v))) (sym h))
+    All-unmapped IsPlainEvent (items v) (either (All IsPlainEvent) (are_different (names_of events)) (Some events) None (map event_of (items v)) (λ _. is_it (All IsPlainEvent) events (map event_of (items v)) all) (λ _. none_is (All IsPlainEvent) (map event_of (items v))) (sym h))

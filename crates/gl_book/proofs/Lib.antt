@@ -8,6 +8,9 @@ pub mod NatLists
 pub mod Placing
 pub mod Eight
 pub mod Books
+pub mod SmallTerms
+pub mod SmallValues
+pub mod Printable
 pub mod Joined
 pub mod Reports
 pub mod Transcripts

@@ -10,7 +10,7 @@ use Rattle.sexp_reader.specs.Reads.{reading}
 use Rattle.gl_book.specs.Events.{Event, book_meant}
 use Rattle.gl_book.specs.Transcript.{most_bytes, trees_of, IsReport, IsTranscript}
 
-not_long : (n : ℕ) → n ≤ most_bytes → nat_lt most_bytes n ≡ false
+pub not_long : (n : ℕ) → n ≤ most_bytes → nat_lt most_bytes n ≡ false
 not_long n h = grind (arith, h)
 
 module _ (most : ℕ) (names : List (List ℕ)) (bytes : List ℕ) (lines : List (List ℕ)) (s : Status) (table : IsTable names) where

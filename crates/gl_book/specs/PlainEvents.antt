@@ -1,5 +1,9 @@
--- Events whose terms are of today's language.
+-- Events whose terms are of today's language, and whose values can be printed.
 use Rattle.std.specs.Prelude.{[]}
+use Rattle.gl_logic.specs.Object.{Object}
+use Rattle.gl_logic.specs.Parts.{IsLarge}
+use Rattle.gl_logic.specs.Evaluate.{HasValue}
+use Rattle.gl_logic.specs.Wide.{IsWide}
 use Rattle.shape_spec.specs.Indices.{variables_of}
 use Rattle.gl_decide.specs.Plain.{IsPlain}
 use Rattle.gl_book.specs.Events.{Event, Value, Claim}
@@ -7,3 +11,8 @@ use Rattle.gl_book.specs.Events.{Event, Value, Claim}
 abbrev pub IsPlainEvent : Event → Type 0
 IsPlainEvent (Value t) = IsPlain [] t
 IsPlainEvent (Claim thm) = IsPlain (variables_of thm.bindings) thm.hyp × IsPlain (variables_of thm.bindings) thm.concl
+
+-- no value on the way to a value leaves 128 bits, and the value is not too large to print
+abbrev pub IsPrintable : Event → Type 0
+IsPrintable (Value t) = ¬ IsWide [] [] t × ((x : Object) → HasValue [] [] t x → ¬ IsLarge x)
+IsPrintable (Claim thm) = Unit {0}

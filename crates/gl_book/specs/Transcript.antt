@@ -4,7 +4,9 @@ use Rattle.std.specs.List.{concat}
 use Rattle.gl_logic.specs.Object.{Object}
 use Rattle.gl_logic.specs.Numbered.{IsNumbered}
 use Rattle.gl_logic.specs.Names.{IsTable}
+use Rattle.gl_logic.specs.Parts.{IsLarge}
 use Rattle.gl_logic.specs.Evaluate.{HasValue}
+use Rattle.gl_logic.specs.Wide.{IsWide}
 use Rattle.gl_base.specs.Outside.{Grows}
 use Rattle.gl_base.specs.declared.status.Status.{Status}
 use Rattle.gl_base.specs.declared.status.Status.TheVariants as status
@@ -17,9 +19,9 @@ use Rattle.gl_book.specs.declared.answer.Answer.{Answer}
 use Rattle.gl_book.specs.declared.answer.Answer.TheVariants as answer
 
 -- ---- answers
--- a value is the term's by the definitions alone; where memory is refused there is none
+-- a value is the term's by the definitions alone, no value on the way leaves 128 bits, and it is not too large to print; where memory is refused there is none
 abbrev pub IsProperValue : Event → Answer → Type 0
-IsProperValue (Value t) (answer.Value x) = HasValue [] [] t x
+IsProperValue (Value t) (answer.Value x) = HasValue [] [] t x × (¬ IsWide [] [] t × ¬ IsLarge x)
 IsProperValue (Value t) answer.NoValue = Unit {0}
 IsProperValue _ _ = ⊥
 

@@ -1,9 +1,9 @@
 //! The transcript of a text.
 
-ghost use Rattle.std.specs.Prelude.{◌≡◌, ◌<◌, ℕ, List, length, map, All, IfOk};
+ghost use Rattle.std.specs.Prelude.{◌≡◌, ◌<◌, ℕ, List, length, map, All, IfOk, IfSome};
 ghost use Rattle.gl_book.specs.Events.{book_meant};
 ghost use Rattle.gl_book.specs.EventOf.{event_of};
-ghost use Rattle.gl_book.specs.PlainEvents.{IsPlainEvent};
+ghost use Rattle.gl_book.specs.PlainEvents.{IsPlainEvent, IsPrintable};
 ghost use Rattle.gl_book.specs.Lines.{transcript_lines, status_of, refused_lines};
 ghost use Rattle.gl_book.specs.Transcript.{IsTranscript, IsReport, AreProper, IsProperAnswer, IsWhole, most_bytes, trees_of};
 ghost use Rattle.gl_base.specs.declared.status.Status.TheVariants.{BookRefused};
@@ -63,6 +63,7 @@ fn book_transcript(
     limits: &Limits,
     texts: &Texts,
 ) -> Result<Report, NoMemory>
+    requires { IfSome (book_meant texts.now (trees_of forms.now)) (λ events. All IsPrintable events) }
     ensures report { IfOk result (λ t. IsReport limits.now.enum_bits texts.now (book_meant texts.now (trees_of forms.now)) t.lines t.status) }
     ensures whole { IfOk result (λ t. IsWhole t.lines t.status) }
 {
@@ -95,7 +96,8 @@ fn answered(
     limits: &Limits,
     texts: &Texts,
 ) -> Result<Report, NoMemory>
-    requires { All (λ e. IsPlainEvent (event_of e)) events.now }
+    requires plain { All (λ e. IsPlainEvent (event_of e)) events.now }
+    requires printable { All (λ e. IsPrintable (event_of e)) events.now }
     ensures whole { IfOk result (λ t. IsWhole t.lines t.status) }
     ensures report { IfOk result (λ t. (answers : List Answer) × AreProper limits.now.enum_bits (map event_of events.now) answers × (t.lines ≡ transcript_lines texts.now answers) × (t.status ≡ status_of answers)) }
 {
@@ -109,7 +111,8 @@ fn answered(
 
 /// An answer to each event.
 fn answers_of(alloc: Global, events: &[Event], limits: &Limits) -> Result<Vec<Answer>, NoMemory>
-    requires { All (λ e. IsPlainEvent (event_of e)) events.now }
+    requires plain { All (λ e. IsPlainEvent (event_of e)) events.now }
+    requires printable { All (λ e. IsPrintable (event_of e)) events.now }
     ensures { IfOk result (λ v. AreProper limits.now.enum_bits (map event_of events.now) v.items) }
 {
     let mut answers = Vec::new(alloc);
@@ -121,7 +124,8 @@ fn answers_of(alloc: Global, events: &[Event], limits: &Limits) -> Result<Vec<An
 
 /// The answer to one event.
 fn answer_of(alloc: Global, event: &Event, limits: &Limits) -> Answer
-    requires { IsPlainEvent (event_of event.now) }
+    requires plain { IsPlainEvent (event_of event.now) }
+    requires printable { IsPrintable (event_of event.now) }
     ensures { IsProperAnswer limits.now.enum_bits (event_of event.now) result }
 {
     match event {

@@ -4,7 +4,14 @@ use Rattle.std.proofs.lemmas.Result.{IfOk-weaker}
 use Rattle.sexp_reader.specs.declared.ends.End.{End}
 use Rattle.sexp_reader.specs.Reads.{Reads}
 use Rattle.gl_book.proofs.Transcripts.{of_bad, of_forms}
+use Rattle.gl_book.proofs.Printable.{book_of_forms}
 use Rattle.gl_book.proofs.transcript.transcript.Goals as goal
+
+pub book_transcript-requires : goal.book_transcript-requires
+book_transcript-requires c =
+    let names = c.forms.new.texts in
+    let read = subst (λ (e : End). Reads names c.args.text.now c.in_ok-read.read.list e) c.in-Clean.is (c.in_ok-read.ensures.reads names ([], sym (append-nil names))) in
+    book_of_forms names c.args.text.now c.in_ok-read.read.list c.if-text-gt-MOST_BYTES.false read
 
 pub returns-in-Clean-clause-transcript : goal.returns-in-Clean-clause-transcript
 returns-in-Clean-clause-transcript c =
