@@ -1,6 +1,6 @@
 //! The outside as the program meets it: real files, and standard output.
 
-ghost use Rattle.std.specs.Prelude.{◌≤◌, ◌<◌, length, None, is_some, IfOk};
+ghost use Rattle.std.specs.Prelude.{◌≡◌, ◌≤◌, ◌<◌, length, None, is_some, IfOk};
 ghost use Rattle.gl_base.specs.Outside.{HasCause};
 
 use gl_base::failed::Failed;
@@ -20,7 +20,10 @@ pub struct FileShelf<'a, R: Files> {
 
 impl<'a, R: Files> FileShelf<'a, R> {
     /// No file is open.
-    pub fn new(rt: &'a R) -> FileShelf<'a, R> {
+    pub fn new(rt: &'a R) -> FileShelf<'a, R>
+        ensures closed { result.file ≡ None }
+        ensures faults { result.faults ≡ 0 }
+    {
         FileShelf {
             rt,
             file: None,
@@ -94,12 +97,17 @@ pub struct WriterSink<W: Write + Drop> {
 
 impl<W: Write + Drop> WriterSink<W> {
     /// Nothing is written.
-    pub fn new(writer: W) -> WriterSink<W> {
+    pub fn new(writer: W) -> WriterSink<W>
+        ensures writer { result.writer ≡ writer }
+        ensures faults { result.faults ≡ 0 }
+    {
         WriterSink { writer, faults: 0 }
     }
 
     /// The writer.
-    pub fn into_writer(self) -> W {
+    pub fn into_writer(self) -> W
+        ensures { result ≡ self.writer }
+    {
         self.writer
     }
 }

@@ -1,3 +1,4 @@
 mod adapters;
 mod books;
 mod rows;
+mod vectors;

@@ -1,6 +1,6 @@
 ghost use Rattle.std.specs.Prelude.{◌<◌, Some};
 
-use super::rows::{outcome, shelf_of, words_in};
+use super::rows::{each_gives, outcome, shelf_of, words_in};
 use crate::run::run;
 use gl_base::failed::Failed;
 use gl_base::memory_sink::MemorySink;
@@ -79,8 +79,7 @@ fn refused_books(rt: HostRuntime) -> Result<(), Fail> {
 
 #[test]
 fn books_of_theorems(rt: HostRuntime) -> Result<(), Fail> {
-    let alloc = rt.alloc();
-    for (book, want, want_code) in [
+    let rows = [
         (
             "(def-gl-thm small :hyp (unsigned-byte-p 4 x) :concl (< x 15) :g-bindings (auto-bindings (:nat x 4)))",
             "REFUTED SMALL\n  X = 15\nDONE proved=0 vacuous=0 refuted=1 undecided=0\n",
@@ -106,12 +105,8 @@ fn books_of_theorems(rt: HostRuntime) -> Result<(), Fail> {
             "UNDECIDED WIDE unbuilt\nDONE proved=0 vacuous=0 refuted=0 undecided=1\n",
             3,
         ),
-    ] {
-        let (bytes, code) = outcome(&rt, "b", book, Vec::new(alloc), Vec::new(alloc))?;
-        assert_eq!(rt; bytes.as_slice(), want.as_bytes(), "{book}");
-        assert_eq!(rt; code, want_code, "{book}");
-    }
-    Ok(())
+    ];
+    each_gives(&rt, &rows)
 }
 
 #[test]

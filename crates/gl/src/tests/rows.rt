@@ -2,6 +2,7 @@ use crate::run::run;
 use gl_base::memory_shelf::MemoryShelf;
 use gl_base::memory_sink::MemorySink;
 use std::alloc::{AllocError, Global};
+use std::process::Abort;
 use std::test::Fail;
 use std::thread::Threads;
 
@@ -21,6 +22,20 @@ pub fn outcome<R: AllocGlobal + Threads + Sync>(
     let words = words_in(alloc, words)?;
     let status = run(rt, alloc, words.as_slice(), &mut shelf, &mut out);
     Ok((out.bytes().to_vec(alloc)?, status.code()))
+}
+
+/// Runs each book, and compares its transcript and the code of its status.
+pub fn each_gives<R: AllocGlobal + Threads + Sync + Abort>(
+    rt: &R,
+    rows: &[(&str, &str, u8)],
+) -> Result<(), Fail> {
+    let alloc = rt.alloc();
+    for (book, want, want_code) in rows.iter().copied() {
+        let (bytes, code) = outcome(rt, "b", book, Vec::new(alloc), Vec::new(alloc))?;
+        assert_eq!(rt; bytes.as_slice(), want.as_bytes(), "{book}");
+        assert_eq!(rt; code, want_code, "{book}");
+    }
+    Ok(())
 }
 
 pub fn shelf_of(alloc: Global, book: &str, fails: Vec<u64>) -> Result<MemoryShelf, Fail> {
