@@ -10,7 +10,7 @@ module _ {B : Type 0} where
   abbrev pub onto : List B → Option (List B) → Option (List B)
   onto done o = option_map (λ ys. done ++ ys) o
 
-  put_behind : (done : List B) (y : B) (o : Option (List B)) → onto done (option_map (λ ys. y ∷ ys) o) ≡ onto (done ++ y ∷ []) o
+  pub put_behind : (done : List B) (y : B) (o : Option (List B)) → onto done (option_map (λ ys. y ∷ ys) o) ≡ onto (done ++ y ∷ []) o
   put_behind done y None = refl
   put_behind done y (Some ys) = ap Some (sym (append_assoc done (y ∷ []) ys))
 

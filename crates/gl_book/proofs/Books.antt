@@ -1,12 +1,13 @@
--- Events and their names, one more at a time; events of today's language.
-use Rattle.std.proofs.Common.{◌≡◌, ◌∙◌, ap, sym, refl, subst, ℕ, zero, suc, ◌<◌, ◌≤◌, ◌+◌, List, [], ◌∷◌, ◌++◌, map, Option, Some, None, take, drop, length, get_or, arith}
-use Rattle.std.specs.Prelude.{option_map, slice_get, All, IfSome}
-use Rattle.std.proofs.lemmas.List.{take_all, take_more, map-append}
-use Rattle.std.proofs.lemmas.List.Elements.{All-nil}
+-- The events of a book's forms, one more at a time; events of today's language.
+use Rattle.std.proofs.Common.{◌≡◌, ◌∙◌, ap, sym, refl, subst, ℕ, zero, suc, ◌≤◌, ◌+◌, true, false, cond, List, [], ◌∷◌, ◌++◌, map, Option, Some, None, drop, length, arith}
+use Rattle.std.specs.Prelude.{option_map, option_and_then, slice_get, All, IfSome, if◌then◌else◌}
+use Rattle.std.specs.List.{AllByRecursion}
+use Rattle.std.proofs.lemmas.List.{append-nil}
+use Rattle.std.proofs.lemmas.List.Elements.{All-nil, All-cons}
 use Rattle.std.proofs.lemmas.Option.{get_or_from_slice_get, slice_get_within, slice_get-map, option_and_then_some}
 use Rattle.gl_logic.specs.Object.{Object}
 use Rattle.sexp_reader.specs.declared.list.Form.{Form}
-use Rattle.gl_book.specs.Events.{Event, Value, Claim, names_of, all_meant, event_meant, event_from, elements}
+use Rattle.gl_book.specs.Events.{Event, Value, Claim, event_meant, event_from, elements, may_follow, next_state, events_from, book_meant}
 use Rattle.gl_book.specs.EventOf.{event_of}
 use Rattle.gl_book.specs.Transcript.{trees_of}
 use Rattle.gl_book.specs.declared.event.Event as program
@@ -15,26 +16,38 @@ use Rattle.std.proofs.lemmas.List.{get_or-map, length-map}
 use Rattle.shape_spec.specs.Indices.{variables_of}
 use Rattle.gl_decide.specs.Theorem.{Theorem}
 use Rattle.gl_book.specs.Translation.{spells, term_meant}
-use Rattle.gl_book.specs.Events.{theorem_meant, name_meant, bindings_meant, are_words, named_apart, are_different}
+use Rattle.gl_book.specs.Events.{theorem_meant, name_meant, bindings_meant, are_words}
 use Rattle.gl_book.specs.PlainEvents.{IsPlainEvent}
-use Rattle.gl_book.proofs.AllMeant.{drop_at}
+use Rattle.gl_book.proofs.AllMeant.{onto, put_behind, drop_at}
 use Rattle.gl_book.proofs.Plain.{term_plain, either, is_it, none_is}
 
-names_append : (xs ys : List Event) → names_of (xs ++ ys) ≡ names_of xs ++ names_of ys
-names_append [] ys = refl
-names_append (Value t ∷ xs) ys = names_append xs ys
-names_append (Claim thm ∷ xs) ys = ap (λ ns. thm.name ∷ ns) (names_append xs ys)
+-- ---- the walk over the forms, one more at a time
+module _ (names : List (List ℕ)) where
+  -- what an event in front of these forms makes of them
+  abbrev in_front : List ℕ → List Object → Event → Option (List Event)
+  in_front state forms e = if may_follow state e then option_map (λ es. e ∷ es) (events_from names (next_state state e) forms) else None
 
-pub names_next : (events : List program.Event) (i : ℕ) (e : program.Event) (old new : List ℕ) → i < length events → e ≡ get_or events i e
-    → old ≡ names_of (map event_of (take i events)) → new ≡ old ++ names_of (event_of e ∷ []) → new ≡ names_of (map event_of (take (i + 1) events))
-names_next events i e old new h at before one =
-    let more : take (i + 1) events ≡ take i events ++ e ∷ [] = take_more events i e h ∙ ap (λ f. take i events ++ f ∷ []) (sym at) in
-    one ∙ (ap (λ ns. ns ++ names_of (event_of e ∷ [])) before
-    ∙ (sym (names_append (map event_of (take i events)) (event_of e ∷ []))
-    ∙ ap names_of (sym (map-append event_of (take i events) (e ∷ [])) ∙ ap (map event_of) (sym more))))
+  module _ (state : List ℕ) (forms xs : List Object) (form : Object) (done : List Event) (whole : Option (List Event)) where
+    pub walk_more : (e : Event) → xs ≡ form ∷ forms → Some e ≡ event_meant names form → true ≡ may_follow state e
+        → onto done (events_from names state xs) ≡ whole → onto (done ++ e ∷ []) (events_from names (next_state state e) forms) ≡ whole
+    walk_more e is one may comes =
+        sym (put_behind done e (events_from names (next_state state e) forms))
+        ∙ (ap (λ b. onto done (cond b (option_map (λ es. e ∷ es) (events_from names (next_state state e) forms)) None)) may
+        ∙ (ap (λ o. onto done (option_and_then (in_front state forms) o)) one
+        ∙ (ap (λ zs. onto done (events_from names state zs)) (sym is) ∙ comes)))
 
-pub names_all : (events : List program.Event) (i : ℕ) (names : List ℕ) → length events ≤ i → names ≡ names_of (map event_of (take i events)) → names ≡ names_of (map event_of events)
-names_all events i names h e = e ∙ ap (λ es. names_of (map event_of es)) (take_all i events h)
+    pub walk_missing : xs ≡ form ∷ forms → None ≡ event_meant names form → onto done (events_from names state xs) ≡ whole → None ≡ whole
+    walk_missing is one comes = ap (λ o. onto done (option_and_then (in_front state forms) o)) one ∙ (ap (λ zs. onto done (events_from names state zs)) (sym is) ∙ comes)
+
+    pub walk_taken : (e : Event) → xs ≡ form ∷ forms → Some e ≡ event_meant names form → false ≡ may_follow state e
+        → onto done (events_from names state xs) ≡ whole → None ≡ whole
+    walk_taken e is one may comes =
+        ap (λ b. onto done (cond b (option_map (λ es. e ∷ es) (events_from names (next_state state e) forms)) None)) may
+        ∙ (ap (λ o. onto done (option_and_then (in_front state forms) o)) one
+        ∙ (ap (λ zs. onto done (events_from names state zs)) (sym is) ∙ comes))
+
+  pub walk_done : (state : List ℕ) (xs : List Object) (done : List Event) (whole : Option (List Event)) → xs ≡ [] → onto done (events_from names state xs) ≡ whole → Some done ≡ whole
+  walk_done state xs done whole is comes = ap Some (sym (append-nil done)) ∙ (ap (λ zs. onto done (events_from names state zs)) (sym is) ∙ comes)
 
 -- the trees from a form on
 pub trees_next : (forms : List Form) (i : ℕ) (form : Form) → slice_get forms i ≡ Some form → drop i (trees_of forms) ≡ form.tree ∷ drop (i + 1) (trees_of forms)
@@ -54,15 +67,15 @@ pub mapped : {A B : Type 0} (f : A → B) (o : Option A) (P : B → Type 0) (r :
 mapped f None P r e h = none_is P r e
 mapped f (Some x) P r e h = is_it P (f x) r (h x refl) e
 
-All-cons : {A : Type 0} (P : A → Type 0) (x : A) (xs : List A) → P x → All P xs → All P (x ∷ xs)
-All-cons P x xs h k zero d l = h
-All-cons P x xs h k (suc i) d l = k i d (omega (arith, l))
-
-all_of : {A B : Type 0} (P : B → Type 0) (f : A → Option B) → ((x : A) (y : B) → f x ≡ Some y → P y) → (xs : List A) (ys : List B) → all_meant f xs ≡ Some ys → All P ys
-all_of P f h [] ys e = is_it (All P) [] ys (All-nil P) e
-all_of P f h (x ∷ xs) ys e =
-    option_and_then_some (λ y. option_map (λ zs. y ∷ zs) (all_meant f xs)) (f x) ys e (λ y one k.
-    mapped (λ zs. y ∷ zs) (all_meant f xs) (All P) ys k (λ zs rest. All-cons P y zs (h x y one) (all_of P f h xs zs rest)))
+-- what each form's event has, each event of the forms has
+pub all_walked : (names : List (List ℕ)) (P : Event → Type 0) (Q : Object → Type 0) → ((x : Object) (e : Event) → Q x → event_meant names x ≡ Some e → P e)
+    → (state : List ℕ) (forms : List Object) (events : List Event) → AllByRecursion Q forms → events_from names state forms ≡ Some events → All P events
+all_walked names P Q h state [] events q e = is_it (All P) [] events (All-nil P) e
+all_walked names P Q h state (form ∷ forms) events q e =
+    option_and_then_some (in_front names state forms) (event_meant names form) events e (λ one is k.
+    either (All P) (may_follow state one) (option_map (λ es. one ∷ es) (events_from names (next_state state one) forms)) None events
+    (λ _ m. mapped (λ es. one ∷ es) (events_from names (next_state state one) forms) (All P) events m (λ es rest. All-cons P one es (h form one q.0 is) (all_walked names P Q h (next_state state one) forms es q.1 rest)))
+    (λ _. none_is (All P) events) k)
 
 plain_claim : (names : List (List ℕ)) (n h c b : Object) (thm : Theorem) → theorem_meant names n h c b ≡ Some thm → IsPlainEvent (Claim thm)
 plain_claim names n h c b thm e =
@@ -94,10 +107,13 @@ plain_event names x e h = option_and_then_some (event_from names) (elements x) e
 pub All-unmapped : (P : Event → Type 0) (es : List program.Event) → All P (map event_of es) → All (λ e. P (event_of e)) es
 All-unmapped P es h i d l = subst P (get_or-map event_of es i d (event_of d) l) (h i (event_of d) (omega (arith, l, length-map es event_of)))
 
--- what a book's events keep
-pub plain_named : {T : Type 0} (items : T → List program.Event) (names : List (List ℕ)) (forms : List Object) (events : List Event) (o : Option T) → Some events ≡ all_meant (event_meant names) forms
-    → option_map (λ v. map event_of (items v)) o ≡ named_apart events → IfSome o (λ v. All (λ e. IsPlainEvent (event_of e)) (items v))
-plain_named items names forms events None are h = tt
-plain_named items names forms events (Some v) are h =
-    let all = all_of IsPlainEvent (event_meant names) (plain_event names) forms events (sym are) in
-    All-unmapped IsPlainEvent (items v) (either (All IsPlainEvent) (are_different (names_of events)) (Some events) None (map event_of (items v)) (λ _. is_it (All IsPlainEvent) events (map event_of (items v)) all) (λ _. none_is (All IsPlainEvent) (map event_of (items v))) (sym h))
+-- each event of a book is of today's language
+any_form : (forms : List Object) → AllByRecursion (λ _. Unit {0}) forms
+any_form [] = tt
+any_form (form ∷ forms) = (tt, any_form forms)
+
+pub plain_walked : {T : Type 0} (items : T → List program.Event) (names : List (List ℕ)) (forms : List Object) (o : Option T)
+    → option_map (λ v. map event_of (items v)) o ≡ book_meant names forms → IfSome o (λ v. All (λ e. IsPlainEvent (event_of e)) (items v))
+plain_walked items names forms None are = tt
+plain_walked items names forms (Some v) are =
+    All-unmapped IsPlainEvent (items v) (all_walked names IsPlainEvent (λ _. Unit {0}) (λ x e _ h. plain_event names x e h) [] forms (map event_of (items v)) (any_form forms) (sym are))

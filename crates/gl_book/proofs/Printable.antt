@@ -4,7 +4,6 @@ use Rattle.std.specs.Prelude.{option_map, option_and_then, codes, All, IfSome, n
 use Rattle.std.specs.List.{AllByRecursion}
 use Rattle.std.proofs.lemmas.Bool.{ltb-false}
 use Rattle.std.proofs.lemmas.Option.{option_and_then_some}
-use Rattle.std.proofs.lemmas.List.Elements.{All-nil, All-cons}
 use Rattle.gl_logic.specs.Object.{Object, Int, Character, Symbol, Text, Cons}
 use Rattle.gl_logic.specs.Parts.{IsLarge}
 use Rattle.gl_logic.specs.Exp.{Exp}
@@ -12,13 +11,13 @@ use Rattle.sexp_reader.specs.declared.list.Form.{Form}
 use Rattle.sexp_reader.specs.Reads.{reading}
 use Rattle.sexp_reader.proofs.Sizes.{IsSmall, reading_small}
 use Rattle.gl_book.specs.Translation.{spells, term_meant}
-use Rattle.gl_book.specs.Events.{Event, Value, Claim, elements, all_meant, event_from, event_meant, theorem_meant, are_words, names_of, are_different, named_apart, book_meant}
+use Rattle.gl_book.specs.Events.{Event, Value, Claim, elements, event_from, event_meant, theorem_meant, are_words, book_meant}
 use Rattle.gl_book.specs.PlainEvents.{IsPrintable}
 use Rattle.gl_book.specs.Transcript.{most_bytes, trees_of, events_of_book}
 use Rattle.gl_book.proofs.Plain.{term_plain, either, is_it, none_is}
 use Rattle.gl_book.specs.EventOf.{event_of}
 use Rattle.gl_book.specs.declared.event.Event as program
-use Rattle.gl_book.proofs.Books.{mapped, All-unmapped}
+use Rattle.gl_book.proofs.Books.{mapped, All-unmapped, all_walked}
 use Rattle.gl_book.proofs.Transcripts.{not_long}
 use Rattle.gl_book.proofs.SmallTerms.{term_within}
 use Rattle.gl_book.proofs.SmallValues.{stays_narrow, value_small_of}
@@ -65,16 +64,12 @@ module _ (names : List (List ℕ)) (n : ℕ) (most : n ≤ 1000000) where
   printable_event : (x : Object) (e : Event) → IsSmall n 1000 x → event_meant names x ≡ Some e → IsPrintable e
   printable_event x e s h = option_and_then_some (event_from names) (elements x) e h (λ es is k. printable_from es e (elements_small n 1000 x es s is) k)
 
-  printable_events : (forms : List Form) (events : List Event) → AllByRecursion (λ (f : Form). IsSmall n 1000 f.tree) forms → all_meant (event_meant names) (trees_of forms) ≡ Some events → All IsPrintable events
-  printable_events [] events s h = is_it (All IsPrintable) [] events (All-nil IsPrintable) h
-  printable_events (form ∷ forms) events s h =
-      option_and_then_some (λ y. option_map (λ zs. y ∷ zs) (all_meant (event_meant names) (trees_of forms))) (event_meant names form.tree) events h (λ y one k.
-      mapped (λ zs. y ∷ zs) (all_meant (event_meant names) (trees_of forms)) (All IsPrintable) events k (λ zs rest. All-cons IsPrintable y zs (printable_event form.tree y s.0 one) (printable_events forms zs s.1 rest)))
+  trees_small : (forms : List Form) → AllByRecursion (λ (f : Form). IsSmall n 1000 f.tree) forms → AllByRecursion (IsSmall n 1000) (trees_of forms)
+  trees_small [] s = tt
+  trees_small (form ∷ forms) s = (s.0, trees_small forms s.1)
 
   printable_forms : (forms : List Form) (events : List Event) → AllByRecursion (λ (f : Form). IsSmall n 1000 f.tree) forms → book_meant names (trees_of forms) ≡ Some events → All IsPrintable events
-  printable_forms forms events s h =
-      option_and_then_some named_apart (all_meant (event_meant names) (trees_of forms)) events h (λ all is k.
-      either (All IsPrintable) (are_different (names_of all)) (Some all) None events (λ _. is_it (All IsPrintable) all events (printable_events forms all s is)) (λ _. none_is (All IsPrintable) events) k)
+  printable_forms forms events s h = all_walked names IsPrintable (IsSmall n 1000) printable_event [] (trees_of forms) events (trees_small forms s) h
 
 -- the law: the events of a book can be printed
 pub book_printable : (names : List (List ℕ)) (bytes : List ℕ) (events : List Event) → events_of_book names bytes ≡ Some events → All IsPrintable events

@@ -1,5 +1,5 @@
 -- The event that a form means.
-use Rattle.std.specs.Prelude.{ℕ, zero, suc, ◌+◌, nat_lt, nat_le, ◌==◌, ◌&&◌, not, Bool, true, if◌then◌else◌, List, [], ◌∷◌, map, get_or, codes, Option, Some, None, option_map, option_and_then, pos}
+use Rattle.std.specs.Prelude.{ℕ, zero, suc, ◌+◌, nat_lt, nat_le, ◌==◌, ◌&&◌, not, Bool, true, if◌then◌else◌, List, [], ◌∷◌, ◌++◌, map, get_or, codes, Option, Some, None, option_map, option_and_then, pos}
 use Rattle.std.specs.List.{list_any}
 use Rattle.gl_logic.specs.Object.{Object, Int, Symbol, Cons, nil}
 use Rattle.gl_logic.specs.Exp.{Exp}
@@ -107,17 +107,25 @@ abbrev pub event_meant : List (List ℕ) → Object → Option Event
 event_meant names form = option_and_then (event_from names) (elements form)
 
 -- ---- books
-abbrev pub names_of : List Event → List ℕ
-names_of [] = []
-names_of (Value t ∷ events) = names_of events
-names_of (Claim thm ∷ events) = thm.name ∷ names_of events
+-- the walk over the forms keeps the names of the theorems so far
+abbrev pub next_state : List ℕ → Event → List ℕ
+next_state state (Value t) = state
+next_state state (Claim thm) = state ++ thm.name ∷ []
 
-abbrev pub named_apart : List Event → Option (List Event)
-named_apart events = if are_different (names_of events) then Some events else None
+-- no theorem takes the name of an earlier one
+abbrev pub may_follow : List ℕ → Event → Bool
+may_follow state (Value t) = true
+may_follow state (Claim thm) = not (list_any (λ name. thm.name == name) state)
 
--- each form is an event, and the theorems have different names
+-- the events of forms from a state on, where each form means one that may follow
+abbrev pub events_from : List (List ℕ) → List ℕ → List Object → Option (List Event)
+events_from names state [] = Some []
+events_from names state (form ∷ forms) =
+    option_and_then (λ e. if may_follow state e then option_map (λ es. e ∷ es) (events_from names (next_state state e) forms) else None) (event_meant names form)
+
+-- a book's first form stands behind no theorem
 abbrev pub book_meant : List (List ℕ) → List Object → Option (List Event)
-book_meant names forms = option_and_then named_apart (all_meant (event_meant names) forms)
+book_meant names forms = events_from names [] forms
 
 -- the words of a theorem at their places among eight elements from the last to the first
 abbrev pub words_stand : List (List ℕ) → List Object → Bool
