@@ -69,6 +69,17 @@ fn refused_books(rt: HostRuntime) -> Result<(), Fail> {
         "(value-triple (car 1 2))",
         "value-triple",
         "(value-triple #)",
+        // options in another order, one missing, a name that is none
+        "(def-gl-thm n :concl t :hyp t :g-bindings (auto-bindings))",
+        "(def-gl-thm n :hyp t :concl t)",
+        "(def-gl-thm t :hyp t :concl t :g-bindings (auto-bindings))",
+        // two theorems of one name, a variable bound twice, one that is not bound
+        "(def-gl-thm n :hyp t :concl t :g-bindings (auto-bindings)) (def-gl-thm N :hyp t :concl t :g-bindings (auto-bindings))",
+        "(def-gl-thm n :hyp t :concl t :g-bindings (auto-bindings (:nat x 1) (:nat x 1)))",
+        "(def-gl-thm n :hyp t :concl (< y 1) :g-bindings (auto-bindings (:nat x 1)))",
+        // 128 bits, and 1,025 indices
+        "(def-gl-thm n :hyp t :concl t :g-bindings (auto-bindings (:nat x 128)))",
+        "(def-gl-thm n :hyp t :concl t :g-bindings (auto-bindings (:nat a 127) (:nat b 127) (:nat c 127) (:nat d 127) (:nat e 127) (:nat f 127) (:nat g 127) (:nat h 127) (:nat i 0)))",
     ] {
         let (bytes, code) = outcome(&rt, "b", book, Vec::new(alloc), Vec::new(alloc))?;
         assert_eq!(rt; bytes.as_slice(), REFUSED_LINES.as_bytes(), "{book}");
@@ -103,6 +114,12 @@ fn books_of_theorems(rt: HostRuntime) -> Result<(), Fail> {
         (
             "(def-gl-thm wide :hyp (unsigned-byte-p 12 x) :concl (< x 4096) :g-bindings (auto-bindings (:nat x 12)))",
             "UNDECIDED WIDE unbuilt\nDONE proved=0 vacuous=0 refuted=0 undecided=1\n",
+            3,
+        ),
+        // 1,024 indices
+        (
+            "(def-gl-thm n :hyp t :concl t :g-bindings (auto-bindings (:nat a 127) (:nat b 127) (:nat c 127) (:nat d 127) (:nat e 127) (:nat f 127) (:nat g 127) (:nat h 127)))",
+            "UNDECIDED N unbuilt\nDONE proved=0 vacuous=0 refuted=0 undecided=1\n",
             3,
         ),
     ];
