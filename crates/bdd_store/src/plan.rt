@@ -41,6 +41,7 @@ pub fn conjunction_of(x: Edge, y: Edge) -> Option<Edge>
 pub fn under(t: Edge, x: Edge) -> Edge
     ensures truth { (values : List Bool) → HasConstant values → truth_at values t ≡ true → truth_at values result ≡ truth_at values x }
     ensures drawn { IsDrawn t x x result }
+    ensures constant { node_of x ≡ node_of t → node_of result ≡ 0 }
 {
     if x.node() != t.node() {
         return x;

@@ -1,4 +1,5 @@
 mod adapters;
 mod books;
 mod rows;
+mod texts;
 mod vectors;

@@ -145,3 +145,21 @@ fn decided_before_the_scan(rt: HostRuntime) -> Result<(), Fail> {
     assert_eq!(rt; decided(alloc, hyp, concl, &limits(2))?, ("unbuilt", 0));
     Ok(())
 }
+
+#[test]
+fn value_of_a_term(rt: HostRuntime) -> Result<(), Fail> {
+    let alloc = rt.alloc();
+    let mut env = Inputs::new(alloc);
+    env.push(X, Tree::int(5))?;
+    // (if (< x 6) (cons x x) nil)
+    let pair = call(alloc, Prim::Cons, Term::Var(X), Term::Var(X))?;
+    let term = both(alloc, below(alloc, X, 6)?, pair)?;
+    let all = bindings(alloc)?;
+    if is_plain(&term, &all) {
+        let value = value_of(alloc, &term, &env)?;
+        assert!(rt; value.same(&Tree::pair(alloc, Tree::int(5), Tree::int(5))?));
+    } else {
+        assert!(rt; false);
+    }
+    Ok(())
+}

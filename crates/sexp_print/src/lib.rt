@@ -5,3 +5,6 @@ mod atoms;
 mod lists;
 
 pub use lists::print;
+
+#[cfg(test)]
+mod tests;

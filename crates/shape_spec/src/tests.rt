@@ -61,3 +61,16 @@ fn functions_in_order(rt: HostRuntime) -> Result<(), Fail> {
     assert_eq!(rt; *functions.at(1), FnId { number: 2 });
     Ok(())
 }
+
+#[test]
+fn input_of_an_assignment(rt: HostRuntime) -> Result<(), Fail> {
+    let b = bindings(rt.alloc())?;
+    let count = bit_count(&b);
+    assert!(rt; count == 3);
+    // index 7 alone is true, and it has rank 1
+    let mut values = Assignment::new(rt.alloc(), count)?;
+    values.set(1, true);
+    let input = input_of(rt.alloc(), &b, &values)?;
+    assert!(rt; has_values(&rt, &input, 0, -1));
+    Ok(())
+}
