@@ -1,4 +1,12 @@
 pub mod Scope
+pub mod Simple
+pub mod Walks
+pub mod Conses
+pub mod Look
+pub mod Truth
+pub mod Bound
+pub mod Counted
+pub mod Decided
 pub mod Forms
 pub mod Plain
 pub mod Inputs

@@ -10,7 +10,7 @@ use Rattle.gl_logic.specs.TermOf.{exps_of}
 use Rattle.gl_logic.specs.PrimValue.{prim_arity}
 use Rattle.gl_logic.specs.declared.prim.Primitive as primitive
 use Rattle.gl_book.specs.Translation.{spells, prim_named, symbol_meant, quote_meant, if_meant, applied, call_meant, term_meant, terms_meant}
-use Rattle.gl_decide.specs.Plain.{IsPlain, ArePlain, IsKnown}
+use Rattle.gl_book.specs.Plain.{IsPlain, ArePlain, IsKnown}
 
 -- a choice by a test, of which either side is known
 pub either : {A : Type 0} (P : A → Type 0) (b : Bool) (x y : Option A) (r : A) → (b ≡ true → x ≡ Some r → P r) → (b ≡ false → y ≡ Some r → P r) → cond b x y ≡ Some r → P r

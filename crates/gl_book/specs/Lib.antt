@@ -1,3 +1,6 @@
+pub mod Plain
+pub mod PlainValue
+pub mod Scans
 pub mod Translation
 pub mod Events
 pub mod EventOf

@@ -5,7 +5,7 @@ use Rattle.gl_logic.specs.Parts.{IsLarge}
 use Rattle.gl_logic.specs.Evaluate.{HasValue}
 use Rattle.gl_logic.specs.Wide.{IsWide}
 use Rattle.shape_spec.specs.Indices.{variables_of}
-use Rattle.gl_decide.specs.Plain.{IsPlain}
+use Rattle.gl_book.specs.Plain.{IsPlain}
 use Rattle.gl_book.specs.Events.{Event, Value, Claim}
 
 abbrev pub IsPlainEvent : Event → Type 0

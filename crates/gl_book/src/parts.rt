@@ -4,7 +4,7 @@ ghost use Rattle.std.specs.Prelude.{◌≡◌, ◌<◌, ◌==◌, Some, None, le
 ghost use Rattle.std.specs.List.{list_any};
 ghost use Rattle.gl_book.specs.Events.{elements, name_meant, bits_meant, are_different, is_name as name_is};
 
-use super::spelling::is_nil;
+use super::nil::is_nil;
 use gl_logic::{TextId, Texts, Tree, TreeKind};
 
 /// The elements of a proper list from the last to the first, and None for anything else.

@@ -1,11 +1,10 @@
 //! What symbols spell.
 
-ghost use Rattle.std.specs.Prelude.{◌≡◌, ◌↔◌, ◌<◌, length, IsTrue, IfSome};
+ghost use Rattle.std.specs.Prelude.{◌≡◌, ◌<◌, length, IfSome};
 ghost use Rattle.std.specs.Prelude.{◌==◌};
 ghost use Rattle.std.specs.List.{list_any};
-ghost use Rattle.gl_logic.specs.Object.{nil};
 ghost use Rattle.gl_book.specs.Translation.{spells as is_spelled, prim_named as named_prim};
-ghost use Rattle.gl_decide.specs.Plain.{IsIn, IsKnown};
+ghost use Rattle.gl_book.specs.Plain.{IsIn, IsKnown};
 
 use gl_logic::{Names, Prim, TextId, Texts, Tree, TreeKind};
 
@@ -15,16 +14,6 @@ pub fn spells(texts: &Texts, word: &[u8], object: &Tree) -> bool
 {
     match object.kind() {
         TreeKind::Symbol(text) => texts.text(text) == word,
-        _ => false,
-    }
-}
-
-/// Whether an object is NIL, the end of a proper list.
-pub fn is_nil(object: &Tree) -> bool
-    ensures { IsTrue result ↔ object.now ≡ nil }
-{
-    match object.kind() {
-        TreeKind::Symbol(text) => text.number == 0,
         _ => false,
     }
 }

@@ -10,9 +10,10 @@ ghost use Rattle.gl_logic.specs.Exp.{Const};
 ghost use Rattle.gl_logic.specs.TermOf.{term_of};
 ghost use Rattle.gl_book.specs.Translation.{term_meant, terms_meant, symbol_meant, quote_meant, call_meant, if_meant};
 ghost use Rattle.gl_logic.specs.PrimValue.{prim_arity};
-ghost use Rattle.gl_decide.specs.Plain.{IsPlain, IsKnown};
+ghost use Rattle.gl_book.specs.Plain.{IsPlain, IsKnown};
 
-use super::spelling::{contains, is_nil, prim_named, spells};
+use super::nil::is_nil;
+use super::spelling::{contains, prim_named, spells};
 use gl_logic::{Names, NoMemory, Prim, Term, TextId, Texts, Tree, TreeKind};
 use std::alloc::Global;
 

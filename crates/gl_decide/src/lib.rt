@@ -1,17 +1,7 @@
-//! Theorems decided by running every input.
+//! Verdicts on theorems.
 #![tactic(auto)]
 
-mod decide;
-mod plain;
-mod primitives;
-mod scan;
+pub mod laws;
 mod verdict;
-mod walker;
 
-pub use decide::decide_theorem;
-pub use plain::is_plain;
 pub use verdict::Verdict;
-pub use walker::value_of;
-
-#[cfg(test)]
-mod tests;

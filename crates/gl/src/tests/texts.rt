@@ -3,6 +3,7 @@ ghost use Rattle.std.specs.Prelude.{◌≤◌};
 use gl_base::limits::Limits;
 use gl_base::memory_sink::MemorySink;
 use gl_book::run_text;
+use std::alloc::{AllocError, Global};
 use std::test::Fail;
 
 /// A value, and a theorem of five indices.
@@ -56,6 +57,76 @@ fn whole_or_by_the_last_line(rt: HostRuntime) -> Result<(), Fail> {
         let status = run_text(&rt, alloc, TEXT.as_bytes(), &limits, last_only, &mut out);
         assert_eq!(rt; out.bytes(), want.as_bytes(), "last only: {last_only}");
         assert_eq!(rt; status.code(), want_code, "last only: {last_only}");
+    }
+    Ok(())
+}
+
+/// A theorem of `x` with two indices and `y` with one.
+fn theorem(alloc: Global, hyp: &str, concl: &str) -> Result<String, AllocError> {
+    format!(in alloc;
+        "(def-gl-thm th :hyp {hyp} :concl {concl} :g-bindings (auto-bindings (:nat x 1) (:nat y 0)))"
+    )
+}
+
+#[test]
+fn decided_within_few_indices(rt: HostRuntime) -> Result<(), Fail> {
+    let alloc = rt.alloc();
+    for (enum_bits, hyp, concl, want, want_code) in [
+        (
+            3,
+            "(if (unsigned-byte-p 1 x) (< x 2) nil)",
+            "(< x 2)",
+            "PROVED TH\nDONE proved=1 vacuous=0 refuted=0 undecided=0\n",
+            0,
+        ),
+        (
+            3,
+            "(if (unsigned-byte-p 1 x) (< x 0) nil)",
+            "(< x 2)",
+            "VACUOUS TH\nDONE proved=0 vacuous=1 refuted=0 undecided=0\n",
+            0,
+        ),
+        (
+            3,
+            "(if (unsigned-byte-p 1 x) (< x 2) nil)",
+            "(< x 1)",
+            "REFUTED TH\n  X = 1\n  Y = 0\nDONE proved=0 vacuous=0 refuted=1 undecided=0\n",
+            1,
+        ),
+        (
+            3,
+            "(if (unsigned-byte-p 1 x) (< x 2) nil)",
+            "(< x 0)",
+            "REFUTED TH\n  X = 0\n  Y = 0\nDONE proved=0 vacuous=0 refuted=1 undecided=0\n",
+            1,
+        ),
+        (
+            3,
+            "(< y 1)",
+            "(< x 2)",
+            "UNDECIDED TH uncovered X\nDONE proved=0 vacuous=0 refuted=0 undecided=1\n",
+            3,
+        ),
+        (
+            2,
+            "(unsigned-byte-p 1 x)",
+            "(< x 2)",
+            "UNDECIDED TH unbuilt\nDONE proved=0 vacuous=0 refuted=0 undecided=1\n",
+            3,
+        ),
+    ] {
+        let text = theorem(alloc, hyp, concl)?;
+        let mut out = MemorySink::new(alloc, 200, Vec::new(alloc))?;
+        let status = run_text(
+            &rt,
+            alloc,
+            text.as_bytes(),
+            &limits(enum_bits),
+            false,
+            &mut out,
+        );
+        assert_eq!(rt; out.bytes(), want.as_bytes(), "{hyp} {concl}");
+        assert_eq!(rt; status.code(), want_code, "{hyp} {concl}");
     }
     Ok(())
 }

@@ -41,14 +41,14 @@ term_of_list-returns-then-not-is_nil t c =
     let es = c.elements-elements.result.now in
     let some : 0 < length es = subst (λ (xs : List Object). 0 < length xs) (sym c.elements-elements.ensures) (some_elements c.args.list.now c.requires) in
     let is = whole c.args.list.now es c.index-elements-count.result c.elements-elements.ensures some c.index-elements-count.is in
-    let other : tail_of c.args.list.now ≡ nil → ⊥ = λ n. absurd (let q = c.is_nil.ensures.1 (c.tail.ensures ∙ n) in search (rules, q, c.if-not-is_nil.true)) in
+    let other : tail_of c.args.list.now ≡ nil → ⊥ = λ n. absurd (let q = c.is_nil.ensures.nil.1 (c.tail.ensures ∙ n) in search (rules, q, c.if-not-is_nil.true)) in
     sym (ap (term_meant c.args.texts.now c.args.scope.now) is ∙ improper_form c.args.texts.now c.args.scope.now c.index-elements-count.result (take (length es - 1) es) (tail_of c.args.list.now) (tail_is_atom c.args.list.now) other)
 
 pub term_of_list-returns-then-spells : goal.term_of_list-returns-then-spells
 term_of_list-returns-then-spells t c =
     let es = c.elements-elements.result.now in
     let some : 0 < length es = subst (λ (xs : List Object). 0 < length xs) (sym c.elements-elements.ensures) (some_elements c.args.list.now c.requires) in
-    let is = proper c.args.list.now es c.index-elements-count.result c.elements-elements.ensures some c.index-elements-count.is c.tail.result.now c.tail.ensures (search (rules, c.is_nil.ensures.0, c.if-not-is_nil.false)) in
+    let is = proper c.args.list.now es c.index-elements-count.result c.elements-elements.ensures some c.index-elements-count.is c.tail.result.now c.tail.ensures (search (rules, c.is_nil.ensures.nil.0, c.if-not-is_nil.false)) in
     let meant = ap (term_meant c.args.texts.now c.args.scope.now) is ∙ quote_form c.args.texts.now c.args.scope.now c.index-elements-count.result _ (sym c.spells.ensures ∙ c.if-spells.true) in
     IfOk-weaker c.quotation.result _ _ (λ o h. h ∙ sym meant) c.quotation.ensures
 
@@ -56,7 +56,7 @@ pub term_of_list-returns-in-Some : goal.term_of_list-returns-in-Some
 term_of_list-returns-in-Some t c =
     let es = c.elements-elements.result.now in
     let some : 0 < length es = subst (λ (xs : List Object). 0 < length xs) (sym c.elements-elements.ensures) (some_elements c.args.list.now c.requires) in
-    let is = proper c.args.list.now es c.index-elements-count.result c.elements-elements.ensures some c.index-elements-count.is c.tail.result.now c.tail.ensures (search (rules, c.is_nil.ensures.0, c.if-not-is_nil.false)) in
+    let is = proper c.args.list.now es c.index-elements-count.result c.elements-elements.ensures some c.index-elements-count.is c.tail.result.now c.tail.ensures (search (rules, c.is_nil.ensures.nil.0, c.if-not-is_nil.false)) in
     let meant = ap (term_meant c.args.texts.now c.args.scope.now) is ∙ call_form c.args.texts.now c.args.scope.now c.index-elements-count.result _ (sym c.spells.ensures ∙ c.if-spells.false) in
     let terms = rw c.in-Some.is at c.in_ok-terms.ensures in
     let called = meant ∙ ap (option_and_then (call_meant c.args.texts.now c.index-elements-count.result)) (sym terms) in
@@ -66,7 +66,7 @@ pub term_of_list-returns-in-None : goal.term_of_list-returns-in-None
 term_of_list-returns-in-None t c =
     let es = c.elements-elements.result.now in
     let some : 0 < length es = subst (λ (xs : List Object). 0 < length xs) (sym c.elements-elements.ensures) (some_elements c.args.list.now c.requires) in
-    let is = proper c.args.list.now es c.index-elements-count.result c.elements-elements.ensures some c.index-elements-count.is c.tail.result.now c.tail.ensures (search (rules, c.is_nil.ensures.0, c.if-not-is_nil.false)) in
+    let is = proper c.args.list.now es c.index-elements-count.result c.elements-elements.ensures some c.index-elements-count.is c.tail.result.now c.tail.ensures (search (rules, c.is_nil.ensures.nil.0, c.if-not-is_nil.false)) in
     let meant = ap (term_meant c.args.texts.now c.args.scope.now) is ∙ call_form c.args.texts.now c.args.scope.now c.index-elements-count.result _ (sym c.spells.ensures ∙ c.if-spells.false) in
     let terms = rw c.in-None.is at c.in_ok-terms.ensures in
     no_terms_no_call c.args.texts.now c.index-elements-count.result _ terms ∙ sym meant

@@ -1,0 +1,5 @@
+use Rattle.gl_decide.proofs.Agreement.{one_verdict}
+use Rattle.gl_decide.proofs.laws.one_verdict.Goals as goal
+
+pub returns : goal.returns
+returns c = one_verdict
