@@ -1,4 +1,3 @@
-pub mod Scope
 pub mod Simple
 pub mod Walks
 pub mod Conses
@@ -13,6 +12,7 @@ pub mod Inputs
 pub mod AllMeant
 pub mod ProperLists
 pub mod NatLists
+pub mod Different
 pub mod Placing
 pub mod Eight
 pub mod Books

@@ -2,7 +2,7 @@
 use Rattle.std.proofs.Common.{◌≡◌, ◌∙◌, ap, sym, refl, ℕ, zero, suc, ◌<◌, ◌≤◌, ◌+◌, List, [], ◌∷◌, ◌++◌, map, Bool, true, false, not, ◌&&◌, ◌||◌, take, drop, length, get_or, add-one, arith}
 use Rattle.std.specs.Prelude.{◌==◌}
 use Rattle.std.specs.List.{list_any}
-use Rattle.std.proofs.lemmas.List.{take_more, map-append}
+use Rattle.std.proofs.lemmas.List.{take_more, take-append-drop, map-append}
 use Rattle.std.proofs.lemmas.Bool.{eqb-false}
 use Rattle.shape_spec.specs.ShapeSeen.{Integer}
 use Rattle.shape_spec.specs.Indices.{variables_of, indices_of, width_of, IsNotIn, AreApart, AllBelow}
@@ -17,6 +17,9 @@ total_next ns i n h at = ap (λ ms. total (nats_of ms)) (drop_next ns i n h at)
 
 pub nats_next : (ns : List Nat) (i : ℕ) (n : Nat) → i < length ns → n ≡ get_or ns i n → nats_of (take (i + 1) ns) ≡ nats_of (take i ns) ++ nat_of n ∷ []
 nats_next ns i n h at = ap nats_of (take_more ns i n h ∙ ap (λ m. take i ns ++ m ∷ []) (sym at)) ∙ map-append nat_of (take i ns) (n ∷ [])
+
+pub nats_split : (ns : List Nat) (i : ℕ) (n : Nat) → i < length ns → n ≡ get_or ns i n → nats_of ns ≡ nats_of (take i ns) ++ nat_of n ∷ nats_of (drop (i + 1) ns)
+nats_split ns i n h at = ap nats_of (sym (take-append-drop i ns) ∙ ap (λ ms. take i ns ++ ms) (drop_next ns i n h at)) ∙ map-append nat_of (take i ns) (n ∷ drop (i + 1) ns)
 
 -- ---- numbers
 pub numbers_more : (first n : ℕ) → numbers_from first (suc n) ≡ numbers_from first n ++ (first + n) ∷ []
@@ -77,15 +80,15 @@ pub both : (a b : Bool) → (a && b) ≡ true → (a ≡ true) × (b ≡ true)
 both true b e = (refl, e)
 both false b e = absurd cc
 
-not_true : (a : Bool) → not a ≡ true → a ≡ false
+pub not_true : (a : Bool) → not a ≡ true → a ≡ false
 not_true true e = absurd cc
 not_true false e = refl
 
-first_false : (a b : Bool) → (a || b) ≡ false → a ≡ false
+pub first_false : (a b : Bool) → (a || b) ≡ false → a ≡ false
 first_false true b e = e
 first_false false b e = refl
 
-second_false : (a b : Bool) → (a || b) ≡ false → b ≡ false
+pub second_false : (a b : Bool) → (a || b) ≡ false → b ≡ false
 second_false true b e = absurd cc
 second_false false b e = e
 

@@ -1,22 +1,18 @@
 -- One more variable in its place.
 use Rattle.std.proofs.Common.{◌≡◌, ◌∙◌, ap, ap₂, sym, subst, ℕ, ◌<◌, ◌≤◌, ◌+◌, List, [], ◌∷◌, ◌++◌, map, true, take, drop, length, get_or, arith}
-use Rattle.std.proofs.lemmas.List.{take-append-drop, map-append}
+use Rattle.std.proofs.lemmas.List.{map-append}
 use Rattle.std.proofs.lemmas.Bool.{leb-true}
 use Rattle.shape_spec.specs.ShapeSeen.{ShapeSeen, Integer}
 use Rattle.shape_spec.specs.Indices.{variables_of, indices_of, width_of, IsNotIn, AreApart, AllBelow, IsIntegerShape}
 use Rattle.gl_book.specs.declared.nat.Nat.{Nat}
 use Rattle.gl_book.specs.NatOf.{nat_of, nats_of}
 use Rattle.gl_book.specs.Events.{total, numbers_from, placed, are_different, are_bindings}
-use Rattle.gl_book.proofs.AllMeant.{drop_next}
-use Rattle.gl_book.proofs.NatLists.{both, nats_next, numbers_append, numbers_apart, numbers_below, numbers_length, placed_indices, placed_variables, placed_width, placed_more, total_append, stands_alone}
+use Rattle.gl_book.proofs.NatLists.{both, nats_next, nats_split, numbers_append, numbers_apart, numbers_below, numbers_length, placed_indices, placed_variables, placed_width, placed_more, total_append, stands_alone}
 
 module _ (ns : List Nat) (fits : are_bindings (nats_of ns) ≡ true) (i : ℕ) (n : Nat) (h : i < length ns) (at : n ≡ get_or ns i n) (b : List (ℕ × ShapeSeen)) (first : ℕ)
     (bound : b ≡ placed 0 (nats_of (take i ns))) (next : first ≡ total (nats_of (take i ns))) where
-  whole : ns ≡ take i ns ++ n ∷ drop (i + 1) ns
-  whole = sym (take-append-drop i ns) ∙ ap (λ ms. take i ns ++ ms) (drop_next ns i n h at)
-
   seen : nats_of ns ≡ nats_of (take i ns) ++ nat_of n ∷ nats_of (drop (i + 1) ns)
-  seen = ap nats_of whole ∙ map-append nat_of (take i ns) (n ∷ drop (i + 1) ns)
+  seen = nats_split ns i n h at
 
   few_indices : total (nats_of ns) ≤ 1024
   few_indices = leb-true (total (nats_of ns)) 1024 (both _ _ fits).0

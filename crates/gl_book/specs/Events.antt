@@ -115,7 +115,7 @@ next_state state (Claim thm) = state ++ thm.name ∷ []
 -- no theorem takes the name of an earlier one
 abbrev pub may_follow : List ℕ → Event → Bool
 may_follow state (Value t) = true
-may_follow state (Claim thm) = not (list_any (λ name. thm.name == name) state)
+may_follow state (Claim thm) = not (list_any (λ name. name == thm.name) state)
 
 -- the events of forms from a state on, where each form means one that may follow
 abbrev pub events_from : List (List ℕ) → List ℕ → List Object → Option (List Event)

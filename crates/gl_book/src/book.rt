@@ -8,8 +8,8 @@ ghost use Rattle.gl_book.specs.Transcript.{trees_of};
 
 use super::event::Event;
 use super::events::event_of_form;
+use super::name_set::NameSet;
 use gl_logic::{NoMemory, Texts};
-use indexmap::IndexSet;
 use sexp_reader::FormList;
 use std::alloc::Global;
 
@@ -25,11 +25,12 @@ pub fn events_of_forms(
     walked(alloc, forms, texts)
 }
 
+/// The events in the order of the forms, by a walk that keeps the names of the theorems so far.
 fn walked(alloc: Global, forms: &FormList, texts: &Texts) -> Result<Option<Vec<Event>>, NoMemory>
     ensures { IfOk result (λ es. option_map (λ v. map event_of v.items) es ≡ book_meant texts.now (trees_of forms.now)) }
 {
     let mut events = Vec::new(alloc);
-    let mut names = IndexSet::new(alloc);
+    let mut names = NameSet::new(alloc);
     for i in 0..forms.len() {
         let Some(event) = event_of_form(alloc, &forms.at(i).tree, texts)? else {
             return Ok(None);
@@ -43,12 +44,12 @@ fn walked(alloc: Global, forms: &FormList, texts: &Texts) -> Result<Option<Vec<E
 }
 
 /// Puts a theorem's name to those before it. False where it is one of them.
-fn takes_name(event: &Event, names: &mut IndexSet<u64>) -> Result<bool, NoMemory>
-    ensures taken { IfOk result (λ b. b ≡ may_follow names.old.keys (event_of event.now)) }
-    ensures next { IfOk result (λ b. b ≡ true → names.new.keys ≡ next_state names.old.keys (event_of event.now)) }
+fn takes_name(event: &Event, names: &mut NameSet) -> Result<bool, NoMemory>
+    ensures taken { IfOk result (λ b. b ≡ may_follow names.old (event_of event.now)) }
+    ensures next { IfOk result (λ b. b ≡ true → names.new ≡ next_state names.old (event_of event.now)) }
 {
     match event {
         Event::Value(_) => Ok(true),
-        Event::Claim(thm) => Ok(names.insert(thm.name.number)?),
+        Event::Claim(thm) => names.insert(thm.name),
     }
 }

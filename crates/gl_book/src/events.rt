@@ -7,11 +7,12 @@ ghost use Rattle.gl_book.specs.Events.{event_meant, event_from, theorem_meant, w
 ghost use Rattle.gl_book.specs.EventOf.{event_of};
 
 use super::event::Event;
+use super::name_set::NameSet;
 use super::nats::bindings_of_form;
 use super::parts::{name_of_form, parts_of};
 use super::spelling::spells;
 use super::translate::term_of_form;
-use gl_logic::{Names, NoMemory, Texts, Tree};
+use gl_logic::{NoMemory, Texts, Tree};
 use shape_spec::{Bindings, FnSet, Mode, Thm};
 use std::alloc::Global;
 
@@ -45,7 +46,7 @@ fn value(alloc: Global, head: &Tree, form: &Tree, texts: &Texts) -> Result<Optio
     if !spells(texts, b"VALUE-TRIPLE", head) {
         return Ok(None);
     }
-    let scope = Names::new(alloc);
+    let scope = NameSet::new(alloc);
     match term_of_form(alloc, form, &scope, texts)? {
         Some(term) => Ok(Some(Event::Value(term))),
         None => Ok(None),
@@ -113,13 +114,14 @@ fn theorem(
     }))
 }
 
-/// The bound variables.
-fn variables(alloc: Global, bindings: &Bindings) -> Result<Names, NoMemory>
+/// The bound variables, which are different.
+fn variables(alloc: Global, bindings: &Bindings) -> Result<NameSet, NoMemory>
     ensures { IfOk result (λ ns. ns ≡ variables_of bindings.now) }
 {
-    let mut names = Names::new(alloc);
+    bindings.proper();
+    let mut names = NameSet::new(alloc);
     for i in 0..bindings.len() {
-        names.push(bindings.variable(i))?;
+        names.insert(bindings.variable(i))?;
     }
     Ok(names)
 }

@@ -1,4 +1,8 @@
 //! A book's events, from its bytes to its transcript.
+//!
+//! - forms to events: `book`, `events`, `event`, `translate`, `spelling`, `parts`, `nats`, `nat`, `name_set`;
+//! - events to answers: `decide`, `scan`, `walker`, `primitives`, `nil`, `answer`;
+//! - answers to what is written: `transcript`, `lines`, `line_list`, `counts`, `put_lines`, `run`.
 #![tactic(auto)]
 
 mod answer;
@@ -9,6 +13,7 @@ mod event;
 mod events;
 mod line_list;
 mod lines;
+mod name_set;
 mod nat;
 mod nats;
 mod nil;

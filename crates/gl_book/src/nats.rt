@@ -3,11 +3,12 @@
 ghost use Rattle.std.specs.Prelude.{◌≡◌, ◌↔◌, ◌<◌, ◌≤◌, ◌+◌, IsTrue, true, Some, None, length, reverse, map, IfOk, option_map};
 ghost use Rattle.shape_spec.specs.ShapeSeen.{Integer};
 ghost use Rattle.shape_spec.specs.ShapeOf.{shape_of};
-ghost use Rattle.gl_book.specs.Events.{nat_from, nat_meant, all_meant, total, placed, placed_meant, are_bindings, auto_from, bindings_meant, numbers_from};
+ghost use Rattle.gl_book.specs.Events.{nat_from, nat_meant, all_meant, total, placed, placed_meant, are_different, are_bindings, auto_from, bindings_meant, numbers_from};
 ghost use Rattle.gl_book.specs.NatOf.{nat_of, nats_of};
 
+use super::name_set::NameSet;
 use super::nat::Nat;
-use super::parts::{all_different, bits_of_form, name_of_form, parts_of};
+use super::parts::{bits_of_form, name_of_form, parts_of};
 use super::spelling::spells;
 use gl_logic::{NoMemory, Texts, Tree};
 use shape_spec::{Bindings, Shape};
@@ -89,7 +90,7 @@ fn nat_of_parts(parts: &[Tree], texts: &Texts) -> Option<Nat>
 fn bindings_of_nats(alloc: Global, nats: &[Nat]) -> Result<Option<Bindings>, NoMemory>
     ensures { IfOk result (λ b. b ≡ placed_meant (nats_of nats.now)) }
 {
-    if !fit(nats) || !all_different(&variables_of_nats(alloc, nats)?) {
+    if !fit(nats) || !differ(alloc, nats)? {
         return Ok(None);
     }
     Ok(Some(placed_bindings(alloc, nats)?))
@@ -109,14 +110,17 @@ fn fit(nats: &[Nat]) -> bool
     true
 }
 
-fn variables_of_nats(alloc: Global, nats: &[Nat]) -> Result<Vec<u64>, NoMemory>
-    ensures { IfOk result (λ v. v.items ≡ map (λ n. n.0) (nats_of nats.now)) }
+/// Whether no variable stands twice.
+fn differ(alloc: Global, nats: &[Nat]) -> Result<bool, NoMemory>
+    ensures { IfOk result (λ b. b ≡ are_different (map (λ n. n.0) (nats_of nats.now))) }
 {
-    let mut variables = Vec::new(alloc);
+    let mut variables = NameSet::new(alloc);
     for nat in nats {
-        variables.push(nat.variable.number)?;
+        if !variables.insert(nat.variable)? {
+            return Ok(false);
+        }
     }
-    Ok(variables)
+    Ok(true)
 }
 
 fn placed_bindings(alloc: Global, nats: &[Nat]) -> Result<Bindings, NoMemory>

@@ -1,8 +1,7 @@
 //! The parts of forms.
 
-ghost use Rattle.std.specs.Prelude.{◌≡◌, ◌<◌, ◌==◌, Some, None, length, get_or, reverse, map, IfOk, MatchOption, IfSome, option_map};
-ghost use Rattle.std.specs.List.{list_any};
-ghost use Rattle.gl_book.specs.Events.{elements, name_meant, bits_meant, are_different, is_name as name_is};
+ghost use Rattle.std.specs.Prelude.{◌≡◌, ◌<◌, Some, None, reverse, MatchOption, IfSome, option_map};
+ghost use Rattle.gl_book.specs.Events.{elements, name_meant, bits_meant, is_name as name_is};
 
 use super::nil::is_nil;
 use gl_logic::{TextId, Texts, Tree, TreeKind};
@@ -45,23 +44,4 @@ pub fn bits_of_form(form: &Tree) -> Option<u32>
         TreeKind::Int(bits) if 0 <= bits && bits < 128 => Some(bits as u32),
         _ => None,
     }
-}
-
-/// Whether no number stands twice.
-pub fn all_different(numbers: &[u64]) -> bool
-    ensures { result ≡ are_different numbers.now }
-{
-    for i in 0..numbers.len() {
-        let number = numbers[i];
-        if has(&numbers[i + 1..], number) {
-            return false;
-        }
-    }
-    true
-}
-
-fn has(numbers: &[u64], number: u64) -> bool
-    ensures { result ≡ list_any (λ y. y == number) numbers.now }
-{
-    numbers.iter().any(|y| *y == number)
 }

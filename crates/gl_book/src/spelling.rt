@@ -1,12 +1,10 @@
 //! What symbols spell.
 
 ghost use Rattle.std.specs.Prelude.{◌≡◌, ◌<◌, length, IfSome};
-ghost use Rattle.std.specs.Prelude.{◌==◌};
-ghost use Rattle.std.specs.List.{list_any};
 ghost use Rattle.gl_book.specs.Translation.{spells as is_spelled, prim_named as named_prim};
-ghost use Rattle.gl_book.specs.Plain.{IsIn, IsKnown};
+ghost use Rattle.gl_book.specs.Plain.{IsKnown};
 
-use gl_logic::{Names, Prim, TextId, Texts, Tree, TreeKind};
+use gl_logic::{Prim, Texts, Tree, TreeKind};
 
 /// Whether an object is the symbol with this text.
 pub fn spells(texts: &Texts, word: &[u8], object: &Tree) -> bool
@@ -38,16 +36,4 @@ pub fn prim_named(texts: &Texts, head: &Tree) -> Option<Prim>
     } else {
         None
     }
-}
-
-/// Whether a name is one of these.
-pub fn contains(names: &Names, name: TextId) -> bool
-    ensures { result ≡ list_any (λ u. u == name.number) names.now }
-{
-    for i in 0..names.len() {
-        if names.at(i).number == name.number {
-            return true;
-        }
-    }
-    false
 }

@@ -12,9 +12,10 @@ ghost use Rattle.gl_book.specs.Translation.{term_meant, terms_meant, symbol_mean
 ghost use Rattle.gl_logic.specs.PrimValue.{prim_arity};
 ghost use Rattle.gl_book.specs.Plain.{IsPlain, IsKnown};
 
+use super::name_set::NameSet;
 use super::nil::is_nil;
-use super::spelling::{contains, prim_named, spells};
-use gl_logic::{Names, NoMemory, Prim, Term, TextId, Texts, Tree, TreeKind};
+use super::spelling::{prim_named, spells};
+use gl_logic::{NoMemory, Prim, Term, TextId, Texts, Tree, TreeKind};
 use std::alloc::Global;
 
 /// The term that a form means, whose variables are those in scope; None where the form means none.
@@ -23,7 +24,7 @@ use std::alloc::Global;
 pub fn term_of_form(
     alloc: Global,
     form: &Tree,
-    scope: &Names,
+    scope: &NameSet,
     texts: &Texts,
 ) -> Result<Option<Term>, NoMemory>
     ensures meant { IfOk result (λ t. option_map term_of t ≡ term_meant texts.now scope.now form.now) }
@@ -36,7 +37,7 @@ pub fn term_of_form(
 fn translated(
     alloc: Global,
     form: &Tree,
-    scope: &Names,
+    scope: &NameSet,
     texts: &Texts,
 ) -> Result<Option<Term>, NoMemory>
     ensures { IfOk result (λ t. option_map term_of t ≡ term_meant texts.now scope.now form.now) }
@@ -49,12 +50,12 @@ fn translated(
     }
 }
 
-fn term_of_symbol(text: TextId, scope: &Names) -> Option<Term>
+fn term_of_symbol(text: TextId, scope: &NameSet) -> Option<Term>
     ensures { option_map term_of result ≡ symbol_meant scope.now text.number }
 {
     if text.number < 2 {
         Some(Term::Const(Tree::symbol(text)))
-    } else if contains(scope, text) {
+    } else if scope.contains(text) {
         Some(Term::Var(text))
     } else {
         None
@@ -65,7 +66,7 @@ fn term_of_symbol(text: TextId, scope: &Names) -> Option<Term>
 fn term_of_list(
     alloc: Global,
     list: &Tree,
-    scope: &Names,
+    scope: &NameSet,
     texts: &Texts,
 ) -> Result<Option<Term>, NoMemory>
     requires { kind_of list.now ≡ List }
@@ -92,7 +93,7 @@ fn term_of_list(
 fn terms_of_forms(
     alloc: Global,
     forms: &[Tree],
-    scope: &Names,
+    scope: &NameSet,
     texts: &Texts,
 ) -> Result<Option<Vec<Term>>, NoMemory>
     ensures { IfOk result (λ ts. option_map (λ v. map term_of v.items) ts ≡ terms_meant texts.now scope.now (conses forms.now nil)) }

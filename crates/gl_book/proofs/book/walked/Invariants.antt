@@ -6,4 +6,4 @@ use Rattle.gl_book.proofs.AllMeant.{onto}
 use Rattle.gl_book.proofs.book.walked.Given as goal
 
 abbrev pub invariant-loop-i : goal.invariant-loop-i
-invariant-loop-i l = onto (map event_of l.events.items) (events_from l.texts l.names.keys (drop l.i (trees_of l.forms))) ≡ book_meant l.texts (trees_of l.forms)
+invariant-loop-i l = onto (map event_of l.events.items) (events_from l.texts l.names (drop l.i (trees_of l.forms))) ≡ book_meant l.texts (trees_of l.forms)
