@@ -4,17 +4,14 @@ ghost use Rattle.std.specs.Prelude.{◌≡◌, map, List, [], ◌∷◌, ◌++�
 ghost use Rattle.gl_logic.specs.TermOf.{term_of};
 ghost use Rattle.coverage.specs.Conjuncts.{is_nil_term, conjuncts};
 
-use gl_logic::{NoMemory, Term, TreeKind};
+use gl_logic::{NoMemory, Term};
 
 /// Whether a term is the constant NIL.
 fn is_nil(term: &Term) -> bool
     ensures { result ≡ is_nil_term (term_of term.now) }
 {
     match term {
-        Term::Const(tree) => match tree.kind() {
-            TreeKind::Symbol(text) => text.number == 0,
-            _ => false,
-        },
+        Term::Const(tree) => tree.is_nil(),
         _ => false,
     }
 }

@@ -1,6 +1,6 @@
 //! The outside as the program meets it: real files, and standard output.
 
-ghost use Rattle.std.specs.Prelude.{◌≡◌, ◌≤◌, ◌<◌, length, None, is_some, IfOk};
+ghost use Rattle.std.specs.Prelude.{◌≡◌, ◌≤◌, ◌<◌, length, None, false, IfOk};
 ghost use Rattle.gl_base.specs.Outside.{HasCause};
 
 use gl_base::failed::Failed;
@@ -8,9 +8,10 @@ use gl_base::shelf::Shelf;
 use gl_base::sink::Sink;
 use std::fs;
 use std::io::{ErrorKind, Read, Write};
+use std::marker::Model;
 use std::rt::Files;
 
-/// Files by their paths. It tells no bytes.
+/// Files by their paths. It tells no bytes. Contracts see whether a file is open, and the count of faults.
 #[derive(Drop)]
 pub struct FileShelf<'a, R: Files> {
     rt: &'a R,
@@ -18,11 +19,19 @@ pub struct FileShelf<'a, R: Files> {
     faults: u64,
 }
 
+impl<'a, R: Files> Model for FileShelf<'a, R> {
+    ghost use Rattle.std.specs.Prelude.{is_some};
+    ghost use Rattle.gl.specs.Adapters.{FilesSeen};
+
+    ghost Value = { FilesSeen };
+
+    ghost view = { λ s. record { is_open = is_some s.file; faults = s.faults } };
+}
+
 impl<'a, R: Files> FileShelf<'a, R> {
     /// No file is open.
     pub fn new(rt: &'a R) -> FileShelf<'a, R>
-        ensures closed { result.file ≡ None }
-        ensures faults { result.faults ≡ 0 }
+        ensures { result ≡ record { is_open = false; faults = 0 } }
     {
         FileShelf {
             rt,
@@ -37,7 +46,7 @@ impl<'a, R: Files> Shelf for FileShelf<'a, R> {
 
     ghost rest = { λ _. None };
 
-    ghost is_open = { λ s. is_some s.file };
+    ghost is_open = { λ s. s.is_open };
 
     ghost faults = { λ s. s.faults };
 
@@ -88,18 +97,25 @@ pub(crate) fn read_some<F: Read>(
     Err(Failed)
 }
 
-/// A writer, such as standard output. It tells no bytes.
+/// A writer, such as standard output. It tells no bytes. Contracts see the writer, and the count of faults.
 #[derive(Drop)]
 pub struct WriterSink<W: Write + Drop> {
     writer: W,
     faults: u64,
 }
 
+impl<W: Write + Drop> Model for WriterSink<W> {
+    ghost use Rattle.gl.specs.Adapters.{WriterSeen};
+
+    ghost Value = { WriterSeen W };
+
+    ghost view = { λ s. record { writer = s.writer; faults = s.faults } };
+}
+
 impl<W: Write + Drop> WriterSink<W> {
     /// Nothing is written.
     pub fn new(writer: W) -> WriterSink<W>
-        ensures writer { result.writer ≡ writer }
-        ensures faults { result.faults ≡ 0 }
+        ensures { result ≡ record { writer = writer; faults = 0 } }
     {
         WriterSink { writer, faults: 0 }
     }

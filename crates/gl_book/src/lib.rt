@@ -1,7 +1,7 @@
 //! A book's events, from its bytes to its transcript.
 //!
 //! - forms to events: `book`, `events`, `event`, `translate`, `spelling`, `parts`, `nats`, `nat`, `name_set`;
-//! - events to answers: `decide`, `scan`, `walker`, `primitives`, `nil`, `answer`;
+//! - events to answers: `decide`, `scan`, `walker`, `primitives`, `answer`;
 //! - answers to what is written: `transcript`, `lines`, `line_list`, `counts`, `put_lines`, `run`.
 #![tactic(auto)]
 
@@ -16,7 +16,6 @@ mod lines;
 mod name_set;
 mod nat;
 mod nats;
-mod nil;
 mod parts;
 mod primitives;
 mod put_lines;

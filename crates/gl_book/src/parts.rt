@@ -3,14 +3,13 @@
 ghost use Rattle.std.specs.Prelude.{◌≡◌, ◌<◌, Some, None, reverse, MatchOption, IfSome, option_map};
 ghost use Rattle.gl_book.specs.Events.{elements, name_meant, bits_meant, is_name as name_is};
 
-use super::nil::is_nil;
 use gl_logic::{TextId, Texts, Tree, TreeKind};
 
 /// The elements of a proper list from the last to the first, and None for anything else.
 pub fn parts_of(form: &Tree) -> Option<&[Tree]>
     ensures { MatchOption result (elements form.now ≡ None) (λ es. elements form.now ≡ Some (reverse es.now)) }
 {
-    if is_nil(form.tail()) {
+    if form.tail().is_nil() {
         Some(form.elements())
     } else {
         None

@@ -8,7 +8,6 @@ ghost use Rattle.gl_logic.specs.PrimValue.{prim_value, integer_in, both_integers
 ghost use Rattle.gl_logic.specs.Bytes.{is_unsigned_byte};
 ghost use Rattle.gl_book.specs.Plain.{IsKnown};
 
-use super::nil::nil_object;
 use gl_logic::{NoMemory, Prim, TextId, Tree, TreeKind};
 use int_prims::test_int;
 use std::alloc::Global;
@@ -38,7 +37,7 @@ fn first_part(alloc: Global, tree: &Tree) -> Result<Tree, NoMemory>
 {
     match tree.elements().last() {
         Some(first) => first.copy(alloc),
-        None => Ok(nil_object()),
+        None => Ok(Tree::nil()),
     }
 }
 
@@ -48,7 +47,7 @@ fn second_part(alloc: Global, tree: &Tree) -> Result<Tree, NoMemory>
 {
     let elements = tree.elements();
     if elements.is_empty() {
-        return Ok(nil_object());
+        return Ok(Tree::nil());
     }
     behind(alloc, &elements[..elements.len() - 1], tree.tail())
 }
@@ -96,7 +95,7 @@ pub fn apply(alloc: Global, prim: Prim, values: &[Tree]) -> Result<Tree, NoMemor
     requires { IsKnown prim }
     ensures { IfOk result (λ t. t ≡ prim_value prim values.now) }
 {
-    let absent = nil_object();
+    let absent = Tree::nil();
     let x = argument(values, 0, &absent);
     let y = argument(values, 1, &absent);
     match prim {

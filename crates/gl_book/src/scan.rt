@@ -8,7 +8,6 @@ ghost use Rattle.gl_decide.specs.Theorem.{input_at};
 ghost use Rattle.gl_decide.specs.TheoremOf.{theorem_of};
 ghost use Rattle.gl_book.specs.Scans.{is_true, IsProperTrial, IsProperOutcome};
 
-use super::nil::is_nil;
 use super::walker::value;
 use gl_logic::{NoMemory, Term};
 use shape_spec::{Inputs, Thm, bit_count, input_numbered};
@@ -42,7 +41,7 @@ fn is_met(alloc: Global, term: &Term, env: &Inputs) -> Result<bool, NoMemory>
     ensures { IfOk result (λ b. b ≡ is_true (term_of term.now) env.now) }
 {
     let value = value(alloc, term, env)?;
-    Ok(!is_nil(&value))
+    Ok(!value.is_nil())
 }
 
 /// Tries the input of a number.

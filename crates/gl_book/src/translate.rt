@@ -13,7 +13,6 @@ ghost use Rattle.gl_logic.specs.PrimValue.{prim_arity};
 ghost use Rattle.gl_book.specs.Plain.{IsPlain, IsKnown};
 
 use super::name_set::NameSet;
-use super::nil::is_nil;
 use super::spelling::{prim_named, spells};
 use gl_logic::{NoMemory, Prim, Term, TextId, Texts, Tree, TreeKind};
 use std::alloc::Global;
@@ -76,7 +75,7 @@ fn term_of_list(
     let count = elements.len() - 1;
     let head = &elements[count];
     let arguments = &elements[..count];
-    if !is_nil(list.tail()) {
+    if !list.tail().is_nil() {
         Ok(None)
     } else if spells(texts, b"QUOTE", head) {
         quotation(alloc, arguments)

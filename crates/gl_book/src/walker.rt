@@ -7,7 +7,6 @@ ghost use Rattle.gl_logic.specs.TermOf.{term_of, terms_of};
 ghost use Rattle.gl_book.specs.Plain.{IsPlain};
 ghost use Rattle.gl_book.specs.PlainValue.{IsSimple, AreSimple, plain_value, plain_values};
 
-use super::nil::{is_nil, nil_object};
 use super::primitives::apply;
 use gl_logic::{NoMemory, Term, TextId, Tree};
 use shape_spec::Inputs;
@@ -35,7 +34,7 @@ pub fn value(alloc: Global, term: &Term, env: &Inputs) -> Result<Tree, NoMemory>
         Term::Const(tree) => tree.copy(alloc),
         Term::If(test, then, otherwise) => {
             let test = value(alloc, test, env)?;
-            if is_nil(&test) {
+            if test.is_nil() {
                 value(alloc, otherwise, env)
             } else {
                 value(alloc, then, env)
@@ -74,5 +73,5 @@ fn object_of(alloc: Global, name: TextId, env: &Inputs) -> Result<Tree, NoMemory
         }
         i += 1;
     }
-    Ok(nil_object())
+    Ok(Tree::nil())
 }

@@ -1,7 +1,8 @@
 //! Objects that own their parts.
 
 ghost use Rattle.std.specs.Prelude.{◌≡◌, ◌↔◌, IfOk, IsTrue};
-ghost use Rattle.gl_logic.specs.Object.{Int, Character, Symbol, Text, Cons};
+ghost use Rattle.gl_logic.specs.Object.{Int, Character, Symbol, Text, Cons, nil};
+ghost use Rattle.gl_logic.specs.ObjectEq.{is_nil as nil_told};
 ghost use Rattle.gl_logic.specs.Lists.{elements_of, tail_of};
 ghost use Rattle.gl_logic.specs.Kind.{kind_of};
 
@@ -96,6 +97,13 @@ impl Tree {
         }
     }
 
+    /// The symbol NIL, which is false, and the end of a proper list.
+    pub fn nil() -> Tree
+        ensures { result ≡ nil }
+    {
+        Tree::symbol(TextId { number: 0 })
+    }
+
     /// The cons of two objects, in constant time. Both are lost where memory runs out.
     pub fn pair(alloc: Global, first: Tree, rest: Tree) -> Result<Tree, NoMemory>
         ensures { IfOk result (λ t. t ≡ Cons first rest) }
@@ -148,6 +156,17 @@ impl Tree {
         match &self.node {
             Node::List(_, tail) => tail,
             _ => self,
+        }
+    }
+
+    /// Whether the object is NIL.
+    pub fn is_nil(&self) -> bool
+        ensures told { result ≡ nil_told self.now }
+        ensures nil { IsTrue result ↔ self.now ≡ nil }
+    {
+        match &self.node {
+            Node::Symbol(text) => text.number == 0,
+            _ => false,
         }
     }
 

@@ -1,8 +1,7 @@
 //! Objects that are no conses.
 
-ghost use Rattle.std.specs.Prelude.{◌≡◌, ◌↔◌, ◌∷◌, [], ◌++◌, codes, OnOk, OnErr, IsTrue};
+ghost use Rattle.std.specs.Prelude.{◌≡◌, ◌∷◌, [], ◌++◌, codes, OnOk, OnErr};
 ghost use Rattle.std.specs.Fmt.{decimal, signed_decimal};
-ghost use Rattle.gl_logic.specs.Object.{nil};
 ghost use Rattle.gl_logic.specs.Lists.{IsAtom};
 ghost use Rattle.sexp_print.specs.Printed.{atom_printed, rest_printed, escaped, character_printed, BeginsWith};
 
@@ -39,20 +38,11 @@ pub fn append_tail(
     ensures ok { OnOk result (out.new.items ≡ out.old.items ++ rest_printed texts.now tail.now) }
     ensures err { OnErr result (BeginsWith out.old.items out.new.items) }
 {
-    if is_nil(tail) {
+    if tail.is_nil() {
         return Ok(());
     }
     append_bytes(b" . ", out)?;
     append_atom(alloc, tail, texts, out)
-}
-
-fn is_nil(tree: &Tree) -> bool
-    ensures { IsTrue result ↔ tree.now ≡ nil }
-{
-    match tree.kind() {
-        TreeKind::Symbol(text) => text.number == 0,
-        _ => false,
-    }
 }
 
 /// Appends an integer in decimal.

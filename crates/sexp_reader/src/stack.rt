@@ -47,7 +47,7 @@ impl Item {
     fn quoted(self, alloc: Global, quote: TextId, place: Place) -> Result<Option<Item>, NoMemory>
         ensures { IfOk result (λ item. item ≡ quote_at quote.number place self) }
     {
-        let end = Tree::symbol(TextId { number: 0 });
+        let end = Tree::nil();
         let form = Tree::pair(alloc, self.form.tree, end)?;
         let whole = Tree::pair(alloc, Tree::symbol(quote), form)?;
         Ok(Item::around(place, whole, self.depth))
@@ -83,7 +83,7 @@ impl OpenList {
         ensures { IfOk result (λ item. item ≡ item_around self.place (listed self.elements.items nil) self.deepest) }
     {
         let mut elements = self.elements;
-        let mut tree = Tree::symbol(TextId { number: 0 });
+        let mut tree = Tree::nil();
         while let Some(element) = elements.pop() {
             tree = Tree::pair(alloc, element, tree)?;
         }

@@ -1,4 +1,4 @@
-use Rattle.std.proofs.Common.{◌≡◌, ◌∙◌, ◌++◌, ap, refl, length, ℕ, [], ◌∷◌, List, subst, sym, None}
+use Rattle.std.proofs.Common.{◌≡◌, ◌∙◌, ◌++◌, ap, length, ℕ, [], ◌∷◌, List, subst, sym, None}
 use Rattle.gl_logic.specs.TermOf.{term_of}
 use Rattle.gl_logic.specs.Exp.{Exp, Last, More}
 use Rattle.gl_logic.specs.Exp as exp
