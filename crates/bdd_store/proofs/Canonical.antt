@@ -15,23 +15,23 @@ use Rattle.bdd_store.proofs.Dependence.{agree}
 abbrev pub with_value : (ℕ → Bool) → ℕ → Bool → ℕ → Bool
 with_value a v b k = cond (eqb k v) b (a k)
 
-at_itself : (a : ℕ → Bool) (v : ℕ) (b : Bool) → with_value a v b v ≡ b
+pub at_itself : (a : ℕ → Bool) (v : ℕ) (b : Bool) → with_value a v b v ≡ b
 at_itself a v b = ap (λ t. cond t b (a v)) (eq-eqb v v refl)
 
 off : (k v : ℕ) → v < k → eqb k v ≡ false
 off k v h = grind (arith, nat_tests)
 
-at_later : (a : ℕ → Bool) (v : ℕ) (b : Bool) (k : ℕ) → v < k → with_value a v b k ≡ a k
+pub at_later : (a : ℕ → Bool) (v : ℕ) (b : Bool) (k : ℕ) → v < k → with_value a v b k ≡ a k
 at_later a v b k h = ap (λ t. cond t b (a k)) (off k v h)
 
-xor_cancel : (f p q : Bool) → xor f p ≡ xor f q → p ≡ q
+pub xor_cancel : (f p q : Bool) → xor f p ≡ xor f q → p ≡ q
 xor_cancel true true true h = refl
 xor_cancel true true false h = sym h
 xor_cancel true false true h = sym h
 xor_cancel true false false h = refl
 xor_cancel false p q h = h
 
-flag_cancel : (f g : Bool) → xor f true ≡ xor g true → f ≡ g
+pub flag_cancel : (f g : Bool) → xor f true ≡ xor g true → f ≡ g
 flag_cancel true true h = refl
 flag_cancel true false h = absurd (false≢true h)
 flag_cancel false true h = absurd (false≢true (sym h))
@@ -43,7 +43,7 @@ xor_twice true false q h = ap not h
 xor_twice false p q h = h
 
 -- edges of one node with one flag are one
-same_number : (e f : Edge) → node_of e ≡ node_of f → is_flipped e ≡ is_flipped f → e.number ≡ f.number
+pub same_number : (e f : Edge) → node_of e ≡ node_of f → is_flipped e ≡ is_flipped f → e.number ≡ f.number
 same_number e f same flag = elim (cases_eq (e.number % 2) 1) [
   | inl odd ↦ omega (arith, same, odd, eqb-true (f.number % 2) 1 (sym flag ∙ eq-eqb (e.number % 2) 1 odd))
   | inr even ↦ elim (cases_eq (f.number % 2) 1) [
@@ -52,13 +52,13 @@ same_number e f same flag = elim (cases_eq (e.number % 2) 1) [
   ]
 ]
 
-regular_flag : (e : Edge) → e.number % 2 ≡ 0 → is_flipped e ≡ false
+pub regular_flag : (e : Edge) → e.number % 2 ≡ 0 → is_flipped e ≡ false
 regular_flag e h = ap (λ k. eqb k 1) h
 
 pub same_edge : (e f : Edge) → e.number ≡ f.number → e ≡ f
 same_edge e f h = λ i. record { number = h i }
 
-same_node : (n m : Node) → n.variable ≡ m.variable → n.high.number ≡ m.high.number → n.low.number ≡ m.low.number → n ≡ m
+pub same_node : (n m : Node) → n.variable ≡ m.variable → n.high.number ≡ m.high.number → n.low.number ≡ m.low.number → n ≡ m
 same_node n m v h l = λ i. record { variable = v i; high = record { number = h i }; low = record { number = l i } }
 
 module _ (nodes : List Node) (width : ℕ) (o : IsOrdered nodes width) where
@@ -66,7 +66,7 @@ module _ (nodes : List Node) (width : ℕ) (o : IsOrdered nodes width) where
   SaysSame e f = (a : ℕ → Bool) → truth_of nodes e a ≡ truth_of nodes f a
 
   -- where every variable is true, an edge is false exactly where it is complemented
-  all_true : (bound : ℕ) (e : Edge) → node_of e < bound → node_of e < length nodes → truth_of nodes e (λ _. true) ≡ xor (is_flipped e) true
+  pub all_true : (bound : ℕ) (e : Edge) → node_of e < bound → node_of e < length nodes → truth_of nodes e (λ _. true) ≡ xor (is_flipped e) true
   all_true zero e small live = absurd (omega (arith, small))
   all_true (suc bound) e small live = elim (cases_eq (node_of e) 0) [
     | inl is ↦ constant-says nodes width o e is (λ _. true)
@@ -84,7 +84,7 @@ module _ (nodes : List Node) (width : ℕ) (o : IsOrdered nodes width) where
       (sym (all_true (suc (node_of e)) e (omega arith) e_live) ∙ same (λ _. true) ∙ all_true (suc (node_of f)) f (omega arith) f_live)
 
   -- what an edge says where its own variable is true, and where it is false
-  high-says : (e : Edge) → 0 < node_of e → node_of e < length nodes → (a : ℕ → Bool) → truth_of nodes e (with_value a (node_at nodes (node_of e)).variable true) ≡ xor (is_flipped e) (truth_of nodes (node_at nodes (node_of e)).high a)
+  pub high-says : (e : Edge) → 0 < node_of e → node_of e < length nodes → (a : ℕ → Bool) → truth_of nodes e (with_value a (node_at nodes (node_of e)).variable true) ≡ xor (is_flipped e) (truth_of nodes (node_at nodes (node_of e)).high a)
   high-says e positive live a =
       let n = node_at nodes (node_of e) in
       let branch : IsBranch nodes width (node_of e) n = o.branches (node_of e) positive live in
@@ -93,7 +93,7 @@ module _ (nodes : List Node) (width : ℕ) (o : IsOrdered nodes width) where
       ∙ (λ i. xor (is_flipped e) (cond (at_itself a n.variable true i) (truth_of nodes n.high b) (truth_of nodes n.low b)))
       ∙ ap (xor (is_flipped e)) (agree nodes width o n.high (omega (arith, branch.high_below)) b a (λ k from to. at_later a n.variable true k (omega (arith, from, branch.above_high))))
 
-  low-says : (e : Edge) → 0 < node_of e → node_of e < length nodes → (a : ℕ → Bool) → truth_of nodes e (with_value a (node_at nodes (node_of e)).variable false) ≡ xor (is_flipped e) (truth_of nodes (node_at nodes (node_of e)).low a)
+  pub low-says : (e : Edge) → 0 < node_of e → node_of e < length nodes → (a : ℕ → Bool) → truth_of nodes e (with_value a (node_at nodes (node_of e)).variable false) ≡ xor (is_flipped e) (truth_of nodes (node_at nodes (node_of e)).low a)
   low-says e positive live a =
       let n = node_at nodes (node_of e) in
       let branch : IsBranch nodes width (node_of e) n = o.branches (node_of e) positive live in
@@ -103,7 +103,7 @@ module _ (nodes : List Node) (width : ℕ) (o : IsOrdered nodes width) where
       ∙ ap (xor (is_flipped e)) (agree nodes width o n.low (omega (arith, branch.low_below)) b a (λ k from to. at_later a n.variable false k (omega (arith, from, branch.above_low))))
 
   -- what an edge past a variable says whatever its value is
-  later-says : (f : Edge) → node_of f < length nodes → (v : ℕ) → v < top_of nodes f → (b : Bool) (a : ℕ → Bool) → truth_of nodes f (with_value a v b) ≡ truth_of nodes f a
+  pub later-says : (f : Edge) → node_of f < length nodes → (v : ℕ) → v < top_of nodes f → (b : Bool) (a : ℕ → Bool) → truth_of nodes f (with_value a v b) ≡ truth_of nodes f a
   later-says f live v h b a = agree nodes width o f live (with_value a v b) a (λ k from to. at_later a v b k (omega (arith, from)))
 
   -- the regular edge of a node

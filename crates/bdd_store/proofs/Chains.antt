@@ -5,11 +5,13 @@ use Rattle.std.proofs.lemmas.Bool.{cases_eq}
 use Rattle.bdd_store.specs.declared.node.Node.{Node}
 use Rattle.bdd_store.specs.Nodes.{node_at}
 use Rattle.bdd_store.specs.Inside.{bucket_of, IsChained}
+use Rattle.bdd_store.specs.Hashes.{hash_of}
+use Rattle.bdd_store.proofs.Spread.{spread_below}
 use Rattle.bdd_store.proofs.Pushes.{node-before, node-last, number_cases}
 
 pub bucket-below : (count : ℕ) (n : Node) → 0 < count → bucket_of count n < count
-unfolding bucket_of
-bucket-below count n h = omega arith
+unfolding bucket_of hash_of
+bucket-below count n h = spread_below (hash_of n.variable n.high.number n.low.number) count (omega arith) h
 
 module _ (count : ℕ) (nodes : List Node) (next heads : List ℕ) (n : Node) (c : IsChained count nodes next heads) (some : 0 < length nodes) where
   longer : List ℕ

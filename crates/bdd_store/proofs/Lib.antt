@@ -2,8 +2,11 @@ pub mod Canonical
 pub mod Chains
 pub mod Dependence
 pub mod Drawn
+pub mod Finished
+pub mod Held
 pub mod Nodes
 pub mod Plans
 pub mod Pushes
 pub mod Room
+pub mod Spread
 pub mod Stores

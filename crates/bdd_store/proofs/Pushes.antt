@@ -7,8 +7,8 @@ use Rattle.bfr_store.specs.Edges.{node_of}
 use Rattle.bfr_store.proofs.Values.{truth-append}
 use Rattle.bdd_store.specs.declared.node.Node.{Node}
 use Rattle.bdd_store.specs.declared.entry.Entry.{Entry}
-use Rattle.bdd_store.specs.Nodes.{Diagrams, Extends, past, constant_node, node_at, node_value, top_of, truth_of}
-use Rattle.bdd_store.specs.Inside.{IsBranch, IsOrdered, IsDistinct, IsAnswer, IsComputed}
+use Rattle.bdd_store.specs.Nodes.{Diagrams, past, constant_node, node_at, node_value, top_of, truth_of}
+use Rattle.bdd_store.specs.Inside.{Extends, IsBranch, IsOrdered, IsDistinct, IsAnswer, IsComputed}
 
 module _ (nodes : List Node) (n : Node) where
   pub node-before : (i : ℕ) → i < length nodes → node_at (nodes ++ n ∷ []) i ≡ node_at nodes i
@@ -79,14 +79,16 @@ module _ (nodes : List Node) (n : Node) where
     answers = λ i d h. answer-push (get_or entries i d) (p.answers i d h);
   }
 
-pub extends-push : (old : Diagrams) (n : Node) → Extends old (record old { nodes = old.nodes ++ n ∷ [] })
-extends-push old n = record {
+pub extends-push : (old : Diagrams) (n : Node) → IsOrdered old.nodes old.width → IsDistinct old.nodes → IsBranch old.nodes old.width (length old.nodes) n → ((i : ℕ) → i < length old.nodes → node_at old.nodes i ≢ n) → Extends old (record old { nodes = old.nodes ++ n ∷ [] })
+extends-push old n o d branch absent = record {
   stays = λ e h. omega (arith, h, length_push old.nodes n);
   same = λ e a h. truth-before old.nodes n e a h;
   tops = λ e h. top-before old.nodes n e h;
   same_limit = refl;
   same_width = refl;
   no_fewer = omega (arith, length_push old.nodes n);
+  ordered = ordered-push old.nodes n old.width o branch;
+  distinct = distinct-push old.nodes n d absent;
 }
 
 -- one call after another
@@ -98,6 +100,8 @@ extends-then a b c p q = record {
   same_limit = q.same_limit ∙ p.same_limit;
   same_width = q.same_width ∙ p.same_width;
   no_fewer = omega (arith, p.no_fewer, q.no_fewer);
+  ordered = q.ordered;
+  distinct = q.distinct;
 }
 
 -- a greater width

@@ -1,10 +1,10 @@
 -- The whole store, with a node more.
-use Rattle.std.proofs.Common.{◌≡◌, ◌≢◌, ℕ, ◌<◌, ◌≤◌, List, [], ◌∷◌, ◌++◌, length, get_or, set, ap, sym, subst, arith, length-set}
+use Rattle.std.proofs.Common.{◌≡◌, ◌≢◌, ℕ, ◌+◌, ◌<◌, ◌≤◌, List, [], ◌∷◌, ◌++◌, length, get_or, set, refl, ap, sym, subst, arith, length-set}
 use Rattle.std.proofs.lemmas.List.{length_push, get_or_read}
 use Rattle.bdd_store.specs.declared.node.Node.{Node}
 use Rattle.bdd_store.specs.declared.entry.Entry.{Entry}
-use Rattle.bdd_store.specs.Nodes.{node_at}
-use Rattle.bdd_store.specs.Inside.{IsBranch, bucket_of, IsChained, IsStore}
+use Rattle.bdd_store.specs.Nodes.{constant_node, node_at}
+use Rattle.bdd_store.specs.Inside.{IsBranch, IsOrdered, IsDistinct, AreAnswers, bucket_of, IsChained, IsStore}
 use Rattle.bdd_store.proofs.Chains.{chained-push}
 use Rattle.bdd_store.proofs.Pushes.{ordered-push, distinct-push, computed-push}
 
@@ -33,3 +33,24 @@ store-pushed nodes seen nodes' next next' heads entries limit limit' width width
     let branch' : IsBranch nodes width (length nodes) n = subst (λ ns. IsBranch ns width (length ns) n) (sym nodes_are) (subst (λ w. IsBranch seen w (length seen) n) (sym width_is) branch) in
     let absent' : (i : ℕ) → i < length nodes → node_at nodes i ≢ n = subst (λ (ns : List Node). (i : ℕ) → i < length ns → node_at ns i ≢ n) (sym nodes_are) absent in
     rw (nodes'_are, next'_are, head_read, number_is, bucket_is, count_is) (store-push nodes next heads entries limit width n s room' branch' absent')
+
+-- other tables, that say as much of the same nodes
+pub store-other : (nodes : List Node) (next heads : List ℕ) (entries : List Entry) (limit width count : ℕ) → IsOrdered nodes width → IsDistinct nodes → length nodes ≤ limit + 1 →
+    IsChained count nodes next heads → AreAnswers nodes entries → 0 < length entries → IsStore nodes next heads entries limit width
+store-other nodes next heads entries limit width count ordered distinct room chained answers some = record {
+  ordered = ordered;
+  distinct = distinct;
+  chained = subst (λ k. IsChained k nodes next heads) (sym chained.buckets) chained;
+  computed = record { some = some; answers = answers };
+  room = room;
+}
+
+-- a new store
+first-ordered : (nodes : List Node) → nodes ≡ constant_node ∷ [] → IsOrdered nodes 0
+first-ordered nodes is = rw is (record { some = omega arith; first = refl; branches = λ i positive within. absurd (omega arith); narrow = omega arith })
+
+pub store-first : (nodes : List Node) (next heads : List ℕ) (entries : List Entry) (limit count : ℕ) → nodes ≡ constant_node ∷ [] →
+    IsChained count nodes next heads → AreAnswers nodes entries → 0 < length entries → IsStore nodes next heads entries limit 0
+store-first nodes next heads entries limit count is chained answers some =
+    let one : length nodes ≡ 1 = ap length is in
+    store-other nodes next heads entries limit 0 count (first-ordered nodes is) (λ i j i_in j_in same. omega (arith, one)) (omega (arith, one)) chained answers some

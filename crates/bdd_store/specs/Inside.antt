@@ -1,9 +1,11 @@
 -- What a store keeps true of its nodes and its tables.
-use Rattle.std.specs.Prelude.{ℕ, Bool, cond, min, ◌+◌, ◌*◌, ◌%◌, ◌≡◌, ◌≢◌, ◌≤◌, ◌<◌, List, length, get_or}
+use Rattle.std.specs.Prelude.{ℕ, Bool, cond, min, ◌+◌, ◌*◌, ◌/◌, ◌%◌, ◌^◌, ◌≡◌, ◌≢◌, ◌≤◌, ◌<◌, List, length, get_or}
+use Rattle.bfr_store.specs.declared.edge.Edge.{Edge}
 use Rattle.bfr_store.specs.Edges.{node_of}
 use Rattle.bdd_store.specs.declared.node.Node.{Node}
 use Rattle.bdd_store.specs.declared.entry.Entry.{Entry}
-use Rattle.bdd_store.specs.Nodes.{past, constant_node, node_at, top_of, truth_of}
+use Rattle.bdd_store.specs.Hashes.{hash_of}
+use Rattle.bdd_store.specs.Nodes.{Diagrams, IsLive, past, constant_node, node_at, top_of, truth_of}
 
 -- a node that may have this number: its edges differ, its high edge is not complemented, and both lead to nodes with
 -- smaller numbers and greater variables
@@ -26,9 +28,20 @@ pub record IsOrdered (nodes : List Node) (width : ℕ) : Type 0 where
 abbrev pub IsDistinct : List Node → Type 0
 IsDistinct nodes = (i j : ℕ) → i < length nodes → j < length nodes → node_at nodes i ≡ node_at nodes j → i ≡ j
 
+-- what the calls of a store leave as it was; the nodes are still in order, and no two are equal
+pub record Extends (old new : Diagrams) : Type 0 where
+  pub stays : (e : Edge) → IsLive old e → IsLive new e
+  pub same : (e : Edge) (a : ℕ → Bool) → IsLive old e → truth_of new.nodes e a ≡ truth_of old.nodes e a
+  pub tops : (e : Edge) → IsLive old e → top_of new.nodes e ≡ top_of old.nodes e
+  pub same_limit : new.limit ≡ old.limit
+  pub same_width : new.width ≡ old.width
+  pub no_fewer : length old.nodes ≤ length new.nodes
+  pub ordered : IsOrdered new.nodes new.width
+  pub distinct : IsDistinct new.nodes
+
 -- the bucket that a node is kept in, of so many
 unfoldable pub bucket_of : ℕ → Node → ℕ
-bucket_of count n = (n.variable * 625341585 + n.high.number * 1013904223 + n.low.number * 521288629) % count
+bucket_of count n = hash_of n.variable n.high.number n.low.number * count / 2 ^ 64
 
 -- each bucket's chain begins at its greatest node, and leads from each node to the next smaller one of the bucket;
 -- 0 ends it
@@ -52,9 +65,12 @@ pub record IsAnswer (nodes : List Node) (e : Entry) : Type 0 where
   pub above : min (top_of nodes e.test) (min (top_of nodes e.high) (top_of nodes e.low)) ≤ top_of nodes e.answer
   pub truth : (a : ℕ → Bool) → truth_of nodes e.answer a ≡ cond (truth_of nodes e.test a) (truth_of nodes e.high a) (truth_of nodes e.low a)
 
+abbrev pub AreAnswers : List Node → List Entry → Type 0
+AreAnswers nodes entries = (i : ℕ) (d : Entry) → i < length entries → IsAnswer nodes (get_or entries i d)
+
 pub record IsComputed (nodes : List Node) (entries : List Entry) : Type 0 where
   pub some : 0 < length entries
-  pub answers : (i : ℕ) (d : Entry) → i < length entries → IsAnswer nodes (get_or entries i d)
+  pub answers : AreAnswers nodes entries
 
 pub record IsStore (nodes : List Node) (next heads : List ℕ) (entries : List Entry) (limit width : ℕ) : Type 0 where
   pub ordered : IsOrdered nodes width

@@ -1,3 +1,4 @@
 pub mod Nodes
 pub mod Inside
 pub mod Plans
+pub mod Hashes

@@ -1,5 +1,5 @@
 -- Ordered decision diagrams: what a node says, and what contracts see of a store.
-use Rattle.std.specs.Prelude.{ℕ, Bool, true, cond, eqb, ◌-◌, ◌≡◌, ◌≤◌, ◌<◌, List, length, get_or}
+use Rattle.std.specs.Prelude.{ℕ, Bool, true, false, cond, eqb, ◌-◌, ◌≡◌, ◌<◌, List, length, get_or}
 use Rattle.bfr_store.specs.declared.edge.Edge.{Edge}
 use Rattle.bfr_store.specs.Edges.{node_of, truth_at}
 use Rattle.bfr_store.specs.Truth.{truth}
@@ -34,6 +34,11 @@ IsLive s e = node_of e < length s.nodes
 abbrev pub count_of : Diagrams → ℕ
 count_of s = length s.nodes - 1
 
+-- the edge of the constant true, or of the constant false
+abbrev pub constant_of : Bool → Edge
+constant_of true = record { number = 0 }
+constant_of false = record { number = 1 }
+
 -- the node of this number
 abbrev pub node_at : List Node → ℕ → Node
 node_at nodes i = get_or nodes i constant_node
@@ -42,11 +47,6 @@ node_at nodes i = get_or nodes i constant_node
 unfoldable pub top_of : List Node → Edge → ℕ
 top_of nodes e = (node_at nodes (node_of e)).variable
 
--- what the calls of a store leave as it was
-pub record Extends (old new : Diagrams) : Type 0 where
-  pub stays : (e : Edge) → IsLive old e → IsLive new e
-  pub same : (e : Edge) (a : ℕ → Bool) → IsLive old e → truth_of new.nodes e a ≡ truth_of old.nodes e a
-  pub tops : (e : Edge) → IsLive old e → top_of new.nodes e ≡ top_of old.nodes e
-  pub same_limit : new.limit ≡ old.limit
-  pub same_width : new.width ≡ old.width
-  pub no_fewer : length old.nodes ≤ length new.nodes
+-- some live edge stands for the function
+abbrev pub IsHeld : Diagrams → ((ℕ → Bool) → Bool) → Type 0
+IsHeld s function = (e : Edge) × IsLive s e × ((a : ℕ → Bool) → truth_of s.nodes e a ≡ function a)

@@ -1,12 +1,12 @@
 //! The store as a store of bit functions.
 
 ghost use Rattle.std.specs.Prelude.{◌≡◌, ◌≢◌, ◌≤◌, ◌<◌, ◌+◌, ◌&&◌, ◌↔◌, ℕ, Bool, true, false, not, cond, max, is_ok, length, IsTrue, IfOk, IsOk, OnErr, if◌then◌else◌};
-ghost use Rattle.bfr_store.specs.Keeps.{Grows, Keeps};
+ghost use Rattle.bfr_store.specs.Keeps.{Makes, MakesVariable};
 ghost use Rattle.gl_logic.specs.Assignments.{value_at};
 
 use super::node::{FALSE, Node, TRUE};
 use super::store::Bdd;
-use bfr_store::{Bits, Decision, Edge, Full};
+use bfr_store::{Bits, Decision, Edge, Full, Meaning};
 use gl_logic::{Assignment, NoMemory};
 
 impl Bdd {
@@ -31,13 +31,15 @@ impl Bdd {
     }
 }
 
-impl Bits for Bdd {
-    ghost use Rattle.std.specs.Prelude.{false};
-    ghost use Rattle.bdd_store.specs.Nodes.{Diagrams, IsLive, count_of as nodes_in, truth_of as truth_over};
+impl Meaning for Bdd {
+    ghost use Rattle.std.specs.Prelude.{true, false};
+    ghost use Rattle.bdd_store.specs.Nodes.{IsLive, constant_of, count_of as nodes_in, truth_of as truth_over};
 
     ghost live = { IsLive };
 
     ghost truth_of = { λ s e a. truth_over s.nodes e a };
+
+    ghost constant_edge = { constant_of };
 
     ghost spent = { λ _. false };
 
@@ -46,6 +48,11 @@ impl Bits for Bdd {
     ghost count_of = { nodes_in };
 
     ghost width_of = { λ s. s.width };
+}
+
+impl Bits for Bdd {
+    ghost use Rattle.bdd_store.specs.Inside.{IsDistinct, IsOrdered};
+    ghost use Rattle.bdd_store.specs.Nodes.{IsHeld, IsLive, truth_of};
 
     fn constant(&self, b: bool) -> Edge {
         let _width = self.width_of();
@@ -56,15 +63,12 @@ impl Bits for Bdd {
         x.complement()
     }
 
-    // As the trait says, and over four variables a store with this much room is never full.
+    // As the trait says. A function that is held already is found again in a full store too, and over four variables a
+    // store with this much room is never full.
     fn var(&mut self, k: u32) -> Result<Edge, Full>
         requires { k < 4294967295 }
-        ensures grows { Grows IsLive (λ s e a. truth_over s.nodes e a) (λ s. s.limit) nodes_in self.old self.new }
-        ensures spent { (λ (s : Diagrams). false) self.new ≡ (λ (s : Diagrams). false) self.old }
-        ensures width { self.new.width ≡ (if is_ok result then max self.old.width (k + 1) else self.old.width) }
-        ensures live { IfOk result (λ r. IsLive self.new r) }
-        ensures truth { IfOk result (λ r. (a : ℕ → Bool) → truth_over self.new.nodes r a ≡ a k) }
-        ensures full { OnErr result (nodes_in self.new ≡ self.new.limit) }
+        ensures makes { MakesVariable ⟦<Bdd as Meaning>⟧ self.old self.new result k }
+        ensures unheld { OnErr result (¬ IsHeld self.new (λ a. a k)) }
         ensures room { self.old.width ≤ 4 → k < 4 → 65600 ≤ self.old.limit → IsOk result }
     {
         let limit = self.limit_of();
@@ -85,35 +89,29 @@ impl Bits for Bdd {
         Ok(self.edge_of(number))
     }
 
-    // As the trait says, and over four variables a store with this much room is never full.
+    // As the trait says. A function that is held already is found again in a full store too, and over four variables a
+    // store with this much room is never full.
     fn and(&mut self, x: Edge, y: Edge) -> Result<Edge, Full>
         requires x { IsLive self.old x }
         requires y { IsLive self.old y }
-        ensures keeps { Keeps IsLive (λ s e a. truth_over s.nodes e a) (λ s. s.limit) nodes_in (λ s. s.width) (λ _. false) self.old self.new }
-        ensures live { IfOk result (λ r. IsLive self.new r) }
-        ensures truth { IfOk result (λ r. (a : ℕ → Bool) → truth_over self.new.nodes r a ≡ (truth_over self.old.nodes x a && truth_over self.old.nodes y a)) }
-        ensures full { OnErr result (nodes_in self.new ≡ self.new.limit) }
+        ensures makes { Makes ⟦<Bdd as Meaning>⟧ self.old self.new result (λ a. truth_of self.old.nodes x a && truth_of self.old.nodes y a) }
+        ensures unheld { OnErr result (¬ IsHeld self.new (λ a. truth_of self.old.nodes x a && truth_of self.old.nodes y a)) }
         ensures room { self.old.width ≤ 4 → 65600 ≤ self.old.limit → IsOk result }
     {
-        let answer = self.both(x, y);
-        let _width = self.width_of();
-        answer
+        self.both(x, y)
     }
 
-    // As the trait says, and over four variables a store with this much room is never full.
+    // As the trait says. A function that is held already is found again in a full store too, and over four variables a
+    // store with this much room is never full.
     fn ite(&mut self, t: Edge, x: Edge, y: Edge) -> Result<Edge, Full>
         requires t { IsLive self.old t }
         requires x { IsLive self.old x }
         requires y { IsLive self.old y }
-        ensures keeps { Keeps IsLive (λ s e a. truth_over s.nodes e a) (λ s. s.limit) nodes_in (λ s. s.width) (λ _. false) self.old self.new }
-        ensures live { IfOk result (λ r. IsLive self.new r) }
-        ensures truth { IfOk result (λ r. (a : ℕ → Bool) → truth_over self.new.nodes r a ≡ cond (truth_over self.old.nodes t a) (truth_over self.old.nodes x a) (truth_over self.old.nodes y a)) }
-        ensures full { OnErr result (nodes_in self.new ≡ self.new.limit) }
+        ensures makes { Makes ⟦<Bdd as Meaning>⟧ self.old self.new result (λ a. cond (truth_of self.old.nodes t a) (truth_of self.old.nodes x a) (truth_of self.old.nodes y a)) }
+        ensures unheld { OnErr result (¬ IsHeld self.new (λ a. cond (truth_of self.old.nodes t a) (truth_of self.old.nodes x a) (truth_of self.old.nodes y a))) }
         ensures room { self.old.width ≤ 4 → 65600 ≤ self.old.limit → IsOk result }
     {
-        let answer = self.choose(t, x, y);
-        let _width = self.width_of();
-        answer
+        self.choose(t, x, y)
     }
 
     // As the trait says, and it always answers, Never or Sometimes.
@@ -122,10 +120,11 @@ impl Bits for Bdd {
         requires width { length out.old ≡ self.old.width }
         ensures same { self.new ≡ self.old }
         ensures answered { IsOk result }
-        ensures never { result ≡ Ok Decision.Never → (a : ℕ → Bool) → truth_over self.new.nodes e a ≡ false }
-        ensures sometimes { result ≡ Ok Decision.Sometimes → truth_over self.new.nodes e (value_at out.new) ≡ true }
+        ensures never { result ≡ Ok Decision.Never → (a : ℕ → Bool) → truth_of self.new.nodes e a ≡ false }
+        ensures sometimes { result ≡ Ok Decision.Sometimes → truth_of self.new.nodes e (value_at out.new) ≡ true }
         ensures never_spent { result ≢ Ok Decision.Spent }
         ensures bits { length out.new ≡ length out.old }
+        ensures untouched { result ≢ Ok Decision.Sometimes → out.new ≡ out.old }
     {
         let _width = self.width_of();
         if e.number == 1 {
@@ -148,7 +147,13 @@ impl Bits for Bdd {
         self.limit_of()
     }
 
-    fn width(&self) -> u32 {
+    // As the trait says, and the nodes test their variables in the order of their numbers, and no two are equal.
+    fn width(&self) -> u32
+        ensures width { result ≡ self.now.width }
+        ensures depends { (e : Edge) (a b : ℕ → Bool) → IsLive self.now e → ((k : ℕ) → k < self.now.width → a k ≡ b k) → truth_of self.now.nodes e a ≡ truth_of self.now.nodes e b }
+        ensures ordered { IsOrdered self.now.nodes self.now.width }
+        ensures distinct { IsDistinct self.now.nodes }
+    {
         self.width_of()
     }
 }

@@ -1,7 +1,9 @@
 //! Entries of the table of finished calls.
 
-ghost use Rattle.std.specs.Prelude.{◌≡◌, ◌<◌, ◌↔◌, IsTrue};
+ghost use Rattle.std.specs.Prelude.{◌≡◌, ◌<◌, ◌*◌, ◌/◌, ◌^◌, ◌↔◌, IsTrue};
+ghost use Rattle.bdd_store.specs.Hashes.{hash_of};
 
+use super::hash::{hash, spread};
 use super::node::TRUE;
 use bfr_store::Edge;
 
@@ -43,10 +45,8 @@ impl Entry {
 /// The place that a call's entry has in a table of `count`.
 pub fn place_of(count: usize, test: Edge, high: Edge, low: Edge) -> usize
     requires { 0 < count }
-    ensures { result < count }
+    ensures place { result ≡ hash_of test.number high.number low.number * count / 2 ^ 64 }
+    ensures within { result < count }
 {
-    let mixed = test.number as u64 * 1_013_904_223
-        + high.number as u64 * 625_341_585
-        + low.number as u64 * 521_288_629;
-    (mixed % count as u64) as usize
+    spread(hash(test.number, high.number, low.number), count)
 }

@@ -6,8 +6,14 @@
 //! decision is a comparison with the constant false and one walk down. It is never given up, and it takes no memory.
 //!
 //! Nodes stand in room that is reserved when the store is made, and so do the buckets by which a node is found again, in
-//! chains that lead from newer to older nodes. A table of finished calls stands in reserved room too: a new entry takes
-//! the place of an older one, so it never refuses. There is no collection of nodes and no other order of variables.
+//! chains that lead from newer to older nodes, and a table of finished calls, in which a new entry takes the place of an
+//! older one, so that it never refuses. Both tables start with a thousand places and double inside their room as nodes
+//! come: there are as many buckets as nodes, and up to 262,144 finished calls. So no call takes memory, and a new store
+//! costs microseconds whatever its limit is. A place is found without a division. There is no collection of nodes and no
+//! other order of variables.
+//!
+//! A call is `Full` only where its answer is not there: a function that some live edge stands for is found again in a full
+//! store too.
 //!
 //! Conjunction and choice go down both branches at the first variable of their operands, so they call themselves as
 //! deep as there are different variables below the operands. A test goes 1,024 deep.
@@ -23,14 +29,28 @@
 //! | the same in words of 64 bits | 2,272 |
 //! | the 16 bits of the product of two 8-bit factors, by the rows of the first factor | 88,891 |
 //! | the same again by the rows of the second, which meets the first in each bit | 158,561 |
+//!
+//! Processor time in milliseconds, the least of four runs on a shared machine, beside that of a body whose tables had their
+//! full size from the start, at most a million buckets, and places by a remainder:
+//!
+//! | work | before | now |
+//! |---|---|---|
+//! | 1,000 stores of limit 1,000, with one variable each | 2 | 3 |
+//! | the same with a limit of 1,000,000 | 5,000 | 28 |
+//! | the same with a limit of 4,000,000 | 880 | 32 |
+//! | the product of two 8-bit factors, both ways (158,561 nodes) | 58 | 45 |
+//! | of two 9-bit factors (513,374 nodes) | 213 | 185 |
+//! | of two 10-bit factors (1,650,242 nodes) | 978 | 874 |
 #![tactic(auto)]
 
 mod bits;
 pub mod entry;
+pub mod hash;
 pub mod node;
 mod operations;
 pub mod plan;
 pub mod store;
+mod tables;
 mod walks;
 
 pub use store::Bdd;

@@ -4,6 +4,7 @@ ghost use Rattle.std.specs.Prelude.{◌≡◌, ◌<◌, ◌↔◌, IsTrue};
 ghost use Rattle.bdd_store.specs.Nodes.{constant_node};
 ghost use Rattle.bdd_store.specs.Inside.{bucket_of};
 
+use super::hash::{hash, spread};
 use bfr_store::Edge;
 
 /// The constant true.
@@ -42,15 +43,16 @@ impl Node {
     }
 
     /// The bucket that the node is kept in, of `count`.
+    #[inline]
     #[tactic(auto, unfolding(crate::specs::Inside::bucket_of))]
     pub fn bucket(self, count: usize) -> usize
         requires { 0 < count }
         ensures bucket { result ≡ bucket_of count self }
         ensures within { result < count }
     {
-        let mixed = self.variable as u64 * 625_341_585
-            + self.high.number as u64 * 1_013_904_223
-            + self.low.number as u64 * 521_288_629;
-        (mixed % count as u64) as usize
+        spread(
+            hash(self.variable, self.high.number, self.low.number),
+            count,
+        )
     }
 }

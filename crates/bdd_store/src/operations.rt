@@ -9,8 +9,8 @@ use super::store::Bdd;
 use bfr_store::{Edge, Full};
 
 impl Bdd {
-    ghost use Rattle.bdd_store.specs.Nodes.{Extends, IsLive, node_at, past, top_of, truth_of};
-    ghost use Rattle.bdd_store.specs.Inside.{IsBranch};
+    ghost use Rattle.bdd_store.specs.Nodes.{IsHeld, IsLive, node_at, past, top_of, truth_of};
+    ghost use Rattle.bdd_store.specs.Inside.{Extends, IsBranch};
 
     /// The number of this node, which is added where it is not there.
     pub(crate) fn number_of(&mut self, node: Node) -> Result<u32, Full>
@@ -20,6 +20,8 @@ impl Bdd {
         ensures some { IfOk result (λ n. 0 < n) }
         ensures live { IfOk result (λ n. n < length self.new.nodes) }
         ensures node { IfOk result (λ n. node_at self.new.nodes n ≡ node) }
+        ensures unchanged { OnErr result (self.new ≡ self.old) }
+        ensures absent { OnErr result ((i : ℕ) → i < length self.old.nodes → node_at self.old.nodes i ≢ node) }
         ensures full { OnErr result (length self.new.nodes ≡ self.new.limit + 1) }
     {
         let limit = self.limit_of();
@@ -43,12 +45,13 @@ impl Bdd {
         ensures live { IfOk result (λ r. IsLive self.new r) }
         ensures above { IfOk result (λ r. variable ≤ top_of self.new.nodes r) }
         ensures truth { IfOk result (λ r. (a : ℕ → Bool) → truth_of self.new.nodes r a ≡ cond (a variable) (truth_of self.old.nodes high a) (truth_of self.old.nodes low a)) }
+        ensures unheld { OnErr result (¬ IsHeld self.new (λ a. cond (a variable) (truth_of self.old.nodes high a) (truth_of self.old.nodes low a))) }
         ensures full { OnErr result (length self.new.nodes ≡ self.new.limit + 1) }
     {
+        let _width = self.width_of();
         if high.number == low.number {
             return Ok(high);
         }
-        let _width = self.width_of();
         let flag = high.is_complemented();
         let node = Node {
             variable,
@@ -68,6 +71,7 @@ impl Bdd {
         ensures live { IfOk result (λ r. IsLive self.new r) }
         ensures above { IfOk result (λ r. min (top_of self.old.nodes x) (top_of self.old.nodes y) ≤ top_of self.new.nodes r) }
         ensures truth { IfOk result (λ r. (a : ℕ → Bool) → truth_of self.new.nodes r a ≡ (truth_of self.old.nodes x a && truth_of self.old.nodes y a)) }
+        ensures unheld { OnErr result (¬ IsHeld self.new (λ a. truth_of self.old.nodes x a && truth_of self.old.nodes y a)) }
         ensures full { OnErr result (length self.new.nodes ≡ self.new.limit + 1) }
     {
         let _width = self.width_of();
@@ -91,9 +95,9 @@ impl Bdd {
         ensures live { IfOk result (λ r. IsLive self.new r) }
         ensures above { IfOk result (λ r. min (top_of self.old.nodes x) (top_of self.old.nodes y) ≤ top_of self.new.nodes r) }
         ensures truth { IfOk result (λ r. (a : ℕ → Bool) → truth_of self.new.nodes r a ≡ (truth_of self.old.nodes x a && truth_of self.old.nodes y a)) }
+        ensures unheld { OnErr result (¬ IsHeld self.new (λ a. truth_of self.old.nodes x a && truth_of self.old.nodes y a)) }
         ensures full { OnErr result (length self.new.nodes ≡ self.new.limit + 1) }
     {
-        let _width = self.width_of();
         if let Some(found) = self.look(x, y, FALSE) {
             return Ok(found);
         }
@@ -117,6 +121,7 @@ impl Bdd {
         ensures live { IfOk result (λ r. IsLive self.new r) }
         ensures above { IfOk result (λ r. min (top_of self.old.nodes t) (min (top_of self.old.nodes x) (top_of self.old.nodes y)) ≤ top_of self.new.nodes r) }
         ensures truth { IfOk result (λ r. (a : ℕ → Bool) → truth_of self.new.nodes r a ≡ cond (truth_of self.old.nodes t a) (truth_of self.old.nodes x a) (truth_of self.old.nodes y a)) }
+        ensures unheld { OnErr result (¬ IsHeld self.new (λ a. cond (truth_of self.old.nodes t a) (truth_of self.old.nodes x a) (truth_of self.old.nodes y a))) }
         ensures full { OnErr result (length self.new.nodes ≡ self.new.limit + 1) }
     {
         let _width = self.width_of();
@@ -138,9 +143,9 @@ impl Bdd {
         ensures live { IfOk result (λ r. IsLive self.new r) }
         ensures above { IfOk result (λ r. min (top_of self.old.nodes t) (min (top_of self.old.nodes x) (top_of self.old.nodes y)) ≤ top_of self.new.nodes r) }
         ensures truth { IfOk result (λ r. (a : ℕ → Bool) → truth_of self.new.nodes r a ≡ cond (truth_of self.old.nodes t a) (truth_of self.old.nodes x a) (truth_of self.old.nodes y a)) }
+        ensures unheld { OnErr result (¬ IsHeld self.new (λ a. cond (truth_of self.old.nodes t a) (truth_of self.old.nodes x a) (truth_of self.old.nodes y a))) }
         ensures full { OnErr result (length self.new.nodes ≡ self.new.limit + 1) }
     {
-        let _width = self.width_of();
         if let Some(found) = self.look(t, x, y) {
             return Ok(found);
         }

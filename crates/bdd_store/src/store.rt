@@ -5,6 +5,7 @@ ghost use Rattle.bfr_store.specs.Edges.{node_of};
 
 use super::entry::{Entry, place_of};
 use super::node::{Node, TRUE};
+use super::tables::{chain, widen};
 use bfr_store::{Edge, Full};
 use gl_logic::NoMemory;
 use std::alloc::Global;
@@ -37,14 +38,14 @@ impl Model for Bdd {
     ghost invariant = { λ b. IsStore b.nodes.items b.next.items b.heads.items b.computed.items b.limit b.width × (b.limit + 1 ≤ vec_capacity b.nodes) × (b.limit + 1 ≤ vec_capacity b.next) × (b.limit ≤ 1000000000) };
 }
 
-/// How many buckets a store has at most.
-const MOST_BUCKETS: u32 = 1_048_576;
+/// How many buckets a new store has at most, and how many finished calls it keeps.
+const FIRST_PLACES: usize = 1024;
 
 /// How many finished calls a store keeps at most.
-const MOST_ENTRIES: u32 = 262_144;
+const MOST_ENTRIES: usize = 262_144;
 
 impl Bdd {
-    ghost use Rattle.bdd_store.specs.Nodes.{Extends, IsLive, constant_node, node_at, past, top_of, truth_of};
+    ghost use Rattle.bdd_store.specs.Nodes.{IsLive, constant_node, node_at, past, top_of, truth_of};
     ghost use Rattle.bdd_store.specs.Inside.{IsBranch, IsDistinct, IsOrdered};
 
     /// A store with no node but the constant's and with no variable. Room for `limit` more nodes is reserved.
@@ -56,11 +57,10 @@ impl Bdd {
         let mut nodes = Vec::with_capacity(alloc, room)?;
         nodes.push(Node::constant())?;
         let mut next = Vec::with_capacity(alloc, room)?;
-        next.push(0)?;
-        let buckets = limit.min(MOST_BUCKETS) as usize + 1;
-        let heads = vec![in alloc; 0u32; buckets]?;
-        let entries = limit.min(MOST_ENTRIES) as usize + 1;
-        let computed = vec![in alloc; Entry::blank(); entries]?;
+        let mut heads = Vec::with_capacity(alloc, room)?;
+        chain(&nodes, &mut next, &mut heads, room.min(FIRST_PLACES));
+        let mut computed = Vec::with_capacity(alloc, room.min(MOST_ENTRIES))?;
+        widen(&mut computed, room.min(FIRST_PLACES));
         Ok(Bdd {
             limit,
             width: 0,
@@ -76,7 +76,8 @@ impl Bdd {
         ensures limit { result ≡ self.now.limit }
         ensures small { result ≤ 1000000000 }
         ensures within { length self.now.nodes ≤ self.now.limit + 1 }
-        ensures some { 0 < length self.now.nodes }
+        ensures ordered { IsOrdered self.now.nodes self.now.width }
+        ensures distinct { IsDistinct self.now.nodes }
     {
         self.limit
     }
@@ -94,7 +95,6 @@ impl Bdd {
     pub(crate) fn len(&self) -> u32
         ensures { result ≡ length self.now.nodes }
     {
-        let _limit = self.limit;
         self.nodes.len() as u32
     }
 
@@ -104,7 +104,6 @@ impl Bdd {
         ensures top { result ≡ top_of self.now.nodes e }
         ensures in_width { 0 < node_of e → result < self.now.width }
     {
-        let _limit = self.limit;
         self.nodes[e.node() as usize].variable
     }
 
@@ -120,7 +119,6 @@ impl Bdd {
         ensures differ { variable ≡ top_of self.now.nodes e → result.0.number ≢ result.1.number }
         ensures truth { (a : ℕ → Bool) → truth_of self.now.nodes e a ≡ cond (a variable) (truth_of self.now.nodes result.0 a) (truth_of self.now.nodes result.1 a) }
     {
-        let _limit = self.limit;
         let node = self.nodes[e.node() as usize];
         if node.variable != variable {
             return (e, e);
@@ -137,7 +135,7 @@ impl Bdd {
         ensures top { top_of self.now.nodes result ≡ (node_at self.now.nodes number).variable }
         ensures truth { (a : ℕ → Bool) → truth_of self.now.nodes result a ≡ cond (a (node_at self.now.nodes number).variable) (truth_of self.now.nodes (node_at self.now.nodes number).high a) (truth_of self.now.nodes (node_at self.now.nodes number).low a) }
     {
-        let _limit = self.limit;
+        let _ = &self.limit;
         Edge::regular(number)
     }
 
@@ -147,7 +145,6 @@ impl Bdd {
         ensures found { IfSome result (λ n. (0 < n) × (n < length self.now.nodes) × (node_at self.now.nodes n ≡ node)) }
         ensures absent { IfNone result ((i : ℕ) → i < length self.now.nodes → node_at self.now.nodes i ≢ node) }
     {
-        let _limit = self.limit;
         let mut at = self.heads[node.bucket(self.heads.len())];
         while at != 0 {
             if self.nodes[at as usize].is(node) {
@@ -166,7 +163,7 @@ impl Bdd {
         ensures number { result ≡ length self.old.nodes }
         ensures added { self.new ≡ record self.old { nodes = self.old.nodes ++ node ∷ [] } }
     {
-        let _limit = self.limit;
+        self.grow_where_full();
         let number = self.nodes.len() as u32;
         let bucket = node.bucket(self.heads.len());
         let head = self.heads[bucket];
@@ -182,6 +179,29 @@ impl Bdd {
         number
     }
 
+    /// Keeps the chains short: there are no more nodes than buckets.
+    #[inline]
+    fn grow_where_full(&mut self)
+        ensures { self.new ≡ self.old }
+    {
+        if self.nodes.len() >= self.heads.len() {
+            self.grow();
+        }
+    }
+
+    /// Makes the buckets twice as many, and the places of finished calls, as far as their room goes.
+    #[cold]
+    fn grow(&mut self)
+        ensures { self.new ≡ self.old }
+    {
+        let twice = self.heads.len().saturating_mul(2);
+        let buckets = twice.min(self.heads.capacity());
+        chain(&self.nodes, &mut self.next, &mut self.heads, buckets);
+        let twice = self.computed.len().saturating_mul(2);
+        let places = twice.min(self.computed.capacity());
+        widen(&mut self.computed, places);
+    }
+
     /// Raises the width.
     pub(crate) fn widen(&mut self, width: u32)
         requires wider { self.old.width ≤ width }
@@ -193,11 +213,12 @@ impl Bdd {
 
     /// The answer of a finished call.
     pub(crate) fn look(&self, t: Edge, x: Edge, y: Edge) -> Option<Edge>
+        ensures ordered { IsOrdered self.now.nodes self.now.width }
+        ensures distinct { IsDistinct self.now.nodes }
         ensures live { IfSome result (IsLive self.now) }
         ensures above { IfSome result (λ r. min (top_of self.now.nodes t) (min (top_of self.now.nodes x) (top_of self.now.nodes y)) ≤ top_of self.now.nodes r) }
         ensures truth { IfSome result (λ r. (a : ℕ → Bool) → truth_of self.now.nodes r a ≡ cond (truth_of self.now.nodes t a) (truth_of self.now.nodes x a) (truth_of self.now.nodes y a)) }
     {
-        let _limit = self.limit;
         let entry = self.computed[place_of(self.computed.len(), t, x, y)];
         if entry.is_of(t, x, y) {
             Some(entry.answer)
@@ -216,7 +237,6 @@ impl Bdd {
         requires truth { (a : ℕ → Bool) → truth_of self.old.nodes answer a ≡ cond (truth_of self.old.nodes t a) (truth_of self.old.nodes x a) (truth_of self.old.nodes y a) }
         ensures { self.new ≡ self.old }
     {
-        let _limit = self.limit;
         let place = place_of(self.computed.len(), t, x, y);
         self.computed[place] = Entry {
             test: t,

@@ -1,6 +1,6 @@
 //! Integers of bit functions.
 
-ghost use Rattle.std.specs.Prelude.{◌≡◌, ◌≤◌, ◌<◌, ◌++◌, ◌∷◌, [], length, slice_get, Some};
+ghost use Rattle.std.specs.Prelude.{◌≡◌, ◌≤◌, ◌<◌, ◌++◌, ◌∷◌, ◌↔◌, [], length, slice_get, Some, IsTrue};
 
 use super::edge::Edge;
 use std::marker::Model;
@@ -49,6 +49,14 @@ impl Bitvec {
         ensures most { result ≤ 260 }
     {
         self.len
+    }
+
+    /// Whether there is room for no edge more.
+    pub fn is_full(&self) -> bool
+        ensures full { IsTrue result ↔ length self.now ≡ 260 }
+        ensures within { length self.now ≤ 260 }
+    {
+        self.len == Self::MOST
     }
 
     /// Edge `k`, from the least significant.

@@ -1,7 +1,6 @@
 //! The outside as the program meets it: real files, and standard output.
 
 ghost use Rattle.std.specs.Prelude.{◌≡◌, ◌≤◌, ◌<◌, length, None, false, IfOk};
-ghost use Rattle.gl_base.specs.Outside.{HasCause};
 
 use gl_base::failed::Failed;
 use gl_base::shelf::Shelf;
@@ -68,32 +67,30 @@ impl<'a, R: Files> Shelf for FileShelf<'a, R> {
         let Some(file) = &mut self.file else {
             unreachable!()
         };
-        read_some(file, &mut self.faults, buf)
+        match read_some(file, buf) {
+            Ok(count) => Ok(count),
+            Err(_) => {
+                self.faults = self.faults.saturating_add(1);
+                Err(Failed)
+            }
+        }
     }
 }
 
-/// Reads once more where a signal came between, and counts each other error.
-pub(crate) fn read_some<F: Read>(
-    file: &mut F,
-    faults: &mut u64,
-    buf: &mut [u8],
-) -> Result<usize, Failed>
-    ensures within { IfOk result (λ n. n ≤ length buf.new) }
-    ensures cause { HasCause faults.old faults.new result }
+/// Reads once more where a signal came between. Each other error is a fault.
+pub(crate) fn read_some<F: Read>(file: &mut F, buf: &mut [u8]) -> Result<usize, Failed>
+    ensures { IfOk result (λ n. n ≤ length buf.new) }
 {
-    let _count = *faults;
     for _ in 0..u64::MAX {
         match file.read(buf) {
             Ok(count) => return Ok(count),
             Err(error) => {
                 if error.kind() != ErrorKind::Interrupted {
-                    *faults = faults.saturating_add(1);
                     return Err(Failed);
                 }
             }
         }
     }
-    *faults = faults.saturating_add(1);
     Err(Failed)
 }
 
@@ -134,7 +131,13 @@ impl<W: Write + Drop> Sink for WriterSink<W> {
     ghost faults = { λ s. s.faults };
 
     fn write(&mut self, piece: &[u8]) -> Result<usize, Failed> {
-        write_some(&mut self.writer, &mut self.faults, piece)
+        match write_some(&mut self.writer, piece) {
+            Ok(count) => Ok(count),
+            Err(_) => {
+                self.faults = self.faults.saturating_add(1);
+                Err(Failed)
+            }
+        }
     }
 
     fn flush(&mut self) -> Result<(), Failed> {
@@ -148,27 +151,20 @@ impl<W: Write + Drop> Sink for WriterSink<W> {
     }
 }
 
-/// Writes once more where a signal came between, and counts each other error and a write that takes nothing.
-fn write_some<W: Write>(writer: &mut W, faults: &mut u64, piece: &[u8]) -> Result<usize, Failed>
-    ensures within { IfOk result (λ n. (0 < n) × (n ≤ length piece.now)) }
-    ensures cause { HasCause faults.old faults.new result }
+/// Writes once more where a signal came between. Each other error is a fault, and so is a write that takes nothing.
+fn write_some<W: Write>(writer: &mut W, piece: &[u8]) -> Result<usize, Failed>
+    ensures { IfOk result (λ n. (0 < n) × (n ≤ length piece.now)) }
 {
-    let _count = *faults;
     for _ in 0..u64::MAX {
         match writer.write(piece) {
             Ok(count) if count > 0 => return Ok(count),
-            Ok(_) => {
-                *faults = faults.saturating_add(1);
-                return Err(Failed);
-            }
+            Ok(_) => return Err(Failed),
             Err(error) => {
                 if error.kind() != ErrorKind::Interrupted {
-                    *faults = faults.saturating_add(1);
                     return Err(Failed);
                 }
             }
         }
     }
-    *faults = faults.saturating_add(1);
     Err(Failed)
 }

@@ -15,8 +15,8 @@ use std::io;
 use std::process::ExitCode;
 use std::rt::{Env, Files};
 use std::thread::Threads;
-use usage::refuse_words;
-use words::{WordsEnd, words_of};
+use usage::refuse_end;
+use words::words_of;
 
 fn main(rt: HostRuntime) -> ExitCode {
     ExitCode::from(status_of(&rt).code())
@@ -27,8 +27,7 @@ fn status_of<R: Files + Print + Env + AllocGlobal + Threads + Sync>(rt: &R) -> S
     let mut out = WriterSink::new(io::writer(rt));
     let words = match words_of(rt) {
         Ok(words) => words,
-        Err(WordsEnd::Memory) => return Status::NoMemory,
-        Err(WordsEnd::NoText) => return refuse_words(&mut out),
+        Err(end) => return refuse_end(end, &mut out),
     };
     let mut shelf = FileShelf::new(rt);
     run(rt, rt.alloc(), words.as_slice(), &mut shelf, &mut out)

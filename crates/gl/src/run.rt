@@ -2,7 +2,7 @@
 
 ghost use Rattle.std.specs.Prelude.{◌≡◌, ◌≢◌, ◌⊎◌, false, map, string_bytes, IsNone, IfNone, IfSome};
 ghost use Rattle.gl_base.specs.Outside.{Rose, Grows, GrowsByFront};
-ghost use Rattle.gl_book.specs.Transcript.{EndsWith};
+ghost use Rattle.gl_book.specs.Transcript.{WritesBook};
 ghost use Rattle.gl.specs.Usage.{usage_line};
 ghost use Rattle.gl.specs.Words.{book_named};
 
@@ -34,11 +34,13 @@ pub fn run<R: Threads + Sync, S: Shelf, K: Sink>(
     ensures unread { IfNone (book_named (map string_bytes words.now)) (shelf.new ≡ shelf.old) }
 
     // The words name a book: what was written is its transcript with this status, a front of it where a write
-    // failed, and nothing where memory was refused.
-    ensures transcript { IfSome (book_named (map string_bytes words.now)) (λ name. IfSome (S.holds shelf.old name) (λ text. (result ≡ Status.ReadFault) ⊎ EndsWith 12 text false (K.written out.old) (K.written out.new) result)) }
+    // failed, and nothing where memory was refused. Where the shelf does not tell the book's bytes, it is so for
+    // some bytes.
+    ensures transcript { IfSome (book_named (map string_bytes words.now)) (λ name. result ≢ Status.ReadFault → WritesBook 12 (S.holds shelf.old name) (K.written out.old) (K.written out.new) result) }
 
     // Why the run failed.
     ensures read_fault { result ≡ Status.ReadFault → Rose (S.faults shelf.old) (S.faults shelf.new) }
+    ensures no_read_fault { result ≢ Status.ReadFault → S.faults shelf.new ≡ S.faults shelf.old }
     ensures unwritten { result ≡ Status.ReadFault → K.written out.new ≡ K.written out.old }
     ensures write_fault { result ≡ Status.WriteFault → Rose (K.faults out.old) (K.faults out.new) }
     ensures no_write_fault { result ≢ Status.WriteFault → K.faults out.new ≡ K.faults out.old }

@@ -4,6 +4,7 @@ ghost use Rattle.std.specs.Prelude.{◌≡◌, ◌≤◌, ◌⊎◌};
 ghost use Rattle.gl_base.specs.Outside.{Rose, Grows, GrowsByFront};
 ghost use Rattle.gl.specs.Usage.{usage_line};
 
+use crate::words::WordsEnd;
 use gl_base::sink::{Sink, put_all};
 use gl_base::status::Status;
 
@@ -21,5 +22,18 @@ pub fn refuse_words<K: Sink>(out: &mut K) -> Status
     match put_all(out, USAGE) {
         Ok(()) => Status::Usage,
         Err(_) => Status::WriteFault,
+    }
+}
+
+/// Ends a run that has no words: for want of memory with nothing written, else as words that are no command.
+pub fn refuse_end<K: Sink>(end: WordsEnd, out: &mut K) -> Status
+    ensures memory { end ≡ WordsEnd.Memory → (result ≡ Status.NoMemory) × (out.new ≡ out.old) }
+    ensures no_text { end ≡ WordsEnd.NoText → (result ≡ Status.Usage) ⊎ (result ≡ Status.WriteFault) }
+    ensures usage { result ≡ Status.Usage → Grows (K.written out.old) (K.written out.new) usage_line }
+    ensures cause { result ≡ Status.WriteFault → Rose (K.faults out.old) (K.faults out.new) }
+{
+    match end {
+        WordsEnd::Memory => Status::NoMemory,
+        WordsEnd::NoText => refuse_words(out),
     }
 }

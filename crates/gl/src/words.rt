@@ -1,9 +1,10 @@
 //! The words of the command line.
 
-ghost use Rattle.std.specs.Prelude.{◌≡◌, map, string_bytes};
+ghost use Rattle.std.specs.Prelude.{◌≡◌, ◌↔◌, map, string_bytes};
 ghost use Rattle.std.specs.Option.{option_copied};
 ghost use Rattle.gl.specs.Words.{book_named, has_dash};
 
+use std::alloc::AllocError;
 use std::env;
 use std::io::ErrorKind;
 use std::rt::Env;
@@ -17,15 +18,29 @@ pub enum WordsEnd {
     NoText,
 }
 
+impl From<AllocError> for WordsEnd {
+    fn from(_error: AllocError) -> WordsEnd
+        ensures { result ≡ WordsEnd.Memory }
+    {
+        WordsEnd::Memory
+    }
+}
+
 /// The words behind the program's name.
 pub fn words_of<R: Env + AllocGlobal>(rt: &R) -> Result<Vec<String>, WordsEnd> {
     match env::args(rt) {
-        Ok(args) => args
-            .skip(1)
-            .collect(rt.alloc())
-            .map_err(|_| WordsEnd::Memory),
-        Err(error) if error.kind() == ErrorKind::OutOfMemory => Err(WordsEnd::Memory),
-        Err(_) => Err(WordsEnd::NoText),
+        Ok(args) => Ok(args.skip(1).collect(rt.alloc())?),
+        Err(error) => Err(end_of(error.kind())),
+    }
+}
+
+/// Why there are no words, by the kind of the error.
+fn end_of(kind: ErrorKind) -> WordsEnd
+    ensures { (result ≡ WordsEnd.Memory) ↔ (kind ≡ ErrorKind.OutOfMemory) }
+{
+    match kind {
+        ErrorKind::OutOfMemory => WordsEnd::Memory,
+        _ => WordsEnd::NoText,
     }
 }
 

@@ -6,7 +6,7 @@ use Rattle.std.proofs.lemmas.List.{append-nil}
 use Rattle.std.proofs.lemmas.List.Elements.{All-nil, All-cons}
 use Rattle.std.proofs.lemmas.Option.{get_or_from_slice_get, slice_get_within, slice_get-map, option_and_then_some}
 use Rattle.gl_logic.specs.Object.{Object}
-use Rattle.sexp_reader.specs.declared.list.Form.{Form}
+use Rattle.plain_reader.specs.declared.list.Form.{Form}
 use Rattle.gl_book.specs.Events.{Event, Value, Claim, event_meant, event_from, elements, may_follow, next_state, events_from, book_meant}
 use Rattle.gl_book.specs.EventOf.{event_of}
 use Rattle.gl_book.specs.Transcript.{trees_of}

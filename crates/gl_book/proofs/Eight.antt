@@ -1,53 +1,34 @@
--- Forms of two elements, of eight, and of any other count, which stand from the last to the first.
-use Rattle.std.proofs.Common.{◌≡◌, ◌∙◌, ap, sym, refl, ℕ, zero, suc, ◌<◌, List, [], ◌∷◌, reverse, None, true, false, cond, length, get_or, arith}
-use Rattle.std.specs.Prelude.{option_map}
-use Rattle.gl_logic.specs.Object.{Object, nil}
-use Rattle.gl_book.specs.Events.{Claim, event_from, theorem_meant, words_stand}
+-- The event of a form's elements, where they are eight, and where they are neither two nor eight.
+use Rattle.std.proofs.Common.{◌≡◌, ◌≢◌, ◌∙◌, sym, refl, ℕ, ◌<◌, ◌≤◌, List, [], ◌∷◌, reverse, None, length, get_or, arith}
+use Rattle.std.proofs.lemmas.List.{length-reverse}
+use Rattle.gl_logic.specs.Object.{Object}
+use Rattle.gl_book.specs.Events.{event_from}
 
-pub two : (es : List Object) (a b : Object) → length es ≡ 2 → a ≡ get_or es 1 a → b ≡ get_or es 0 b → reverse es ≡ a ∷ b ∷ []
-two [] a b h p q = absurd (omega (arith, h))
-two (x ∷ []) a b h p q = absurd (omega (arith, h))
-two (x ∷ y ∷ []) a b h p q = λ i. sym p i ∷ sym q i ∷ []
-two (x ∷ y ∷ z ∷ es) a b h p q = absurd (omega (arith, h))
+-- the elements stand from the last to the first
+pub eight : (es : List Object) (a b c d e f g h : Object) → length es < 9 → 8 ≤ length es → a ≡ get_or es 7 a → b ≡ get_or es 6 b → c ≡ get_or es 5 c → d ≡ get_or es 4 d
+    → e ≡ get_or es 3 e → f ≡ get_or es 2 f → g ≡ get_or es 1 g → h ≡ get_or es 0 h → reverse es ≡ a ∷ b ∷ c ∷ d ∷ e ∷ f ∷ g ∷ h ∷ []
+eight [] a b c d e f g h l m p q r s t u v w = absurd (omega (arith, m))
+eight (x0 ∷ []) a b c d e f g h l m p q r s t u v w = absurd (omega (arith, m))
+eight (x0 ∷ x1 ∷ []) a b c d e f g h l m p q r s t u v w = absurd (omega (arith, m))
+eight (x0 ∷ x1 ∷ x2 ∷ []) a b c d e f g h l m p q r s t u v w = absurd (omega (arith, m))
+eight (x0 ∷ x1 ∷ x2 ∷ x3 ∷ []) a b c d e f g h l m p q r s t u v w = absurd (omega (arith, m))
+eight (x0 ∷ x1 ∷ x2 ∷ x3 ∷ x4 ∷ []) a b c d e f g h l m p q r s t u v w = absurd (omega (arith, m))
+eight (x0 ∷ x1 ∷ x2 ∷ x3 ∷ x4 ∷ x5 ∷ []) a b c d e f g h l m p q r s t u v w = absurd (omega (arith, m))
+eight (x0 ∷ x1 ∷ x2 ∷ x3 ∷ x4 ∷ x5 ∷ x6 ∷ []) a b c d e f g h l m p q r s t u v w = absurd (omega (arith, m))
+eight (x0 ∷ x1 ∷ x2 ∷ x3 ∷ x4 ∷ x5 ∷ x6 ∷ x7 ∷ []) a b c d e f g h l m p q r s t u v w = λ i. sym p i ∷ sym q i ∷ sym r i ∷ sym s i ∷ sym t i ∷ sym u i ∷ sym v i ∷ sym w i ∷ []
+eight (x0 ∷ x1 ∷ x2 ∷ x3 ∷ x4 ∷ x5 ∷ x6 ∷ x7 ∷ x8 ∷ es) a b c d e f g h l m p q r s t u v w = absurd (omega (arith, l))
 
--- an element that is there is the same whatever stands for one that is not
-there : (es : List Object) (i : ℕ) (d : Object) → i < length es → get_or es i d ≡ get_or es i (get_or es i d)
-there [] i d h = absurd (omega (arith, h))
-there (x ∷ es) zero d h = refl
-there (x ∷ es) (suc i) d h = there es i d (omega (arith, h))
+other : (names : List (List ℕ)) (ys : List Object) → (length ys ≡ 2 → ⊥) → (length ys ≡ 8 → ⊥) → event_from names ys ≡ None
+other names [] h k = refl
+other names (x0 ∷ []) h k = refl
+other names (x0 ∷ x1 ∷ []) h k = absurd (h refl)
+other names (x0 ∷ x1 ∷ x2 ∷ []) h k = refl
+other names (x0 ∷ x1 ∷ x2 ∷ x3 ∷ []) h k = refl
+other names (x0 ∷ x1 ∷ x2 ∷ x3 ∷ x4 ∷ []) h k = refl
+other names (x0 ∷ x1 ∷ x2 ∷ x3 ∷ x4 ∷ x5 ∷ []) h k = refl
+other names (x0 ∷ x1 ∷ x2 ∷ x3 ∷ x4 ∷ x5 ∷ x6 ∷ []) h k = refl
+other names (x0 ∷ x1 ∷ x2 ∷ x3 ∷ x4 ∷ x5 ∷ x6 ∷ x7 ∷ []) h k = absurd (k refl)
+other names (x0 ∷ x1 ∷ x2 ∷ x3 ∷ x4 ∷ x5 ∷ x6 ∷ x7 ∷ x8 ∷ es) h k = refl
 
-module _ (names : List (List ℕ)) where
-  eight : (es : List Object) (n h c b : Object) → length es ≡ 8 → n ≡ get_or es 6 n → h ≡ get_or es 4 h → c ≡ get_or es 2 c → b ≡ get_or es 0 b
-      → event_from names (reverse es) ≡ cond (words_stand names es) (option_map Claim (theorem_meant names n h c b)) None
-  eight [] n h c b l p q r s = absurd (omega (arith, l))
-  eight (x0 ∷ []) n h c b l p q r s = absurd (omega (arith, l))
-  eight (x0 ∷ x1 ∷ []) n h c b l p q r s = absurd (omega (arith, l))
-  eight (x0 ∷ x1 ∷ x2 ∷ []) n h c b l p q r s = absurd (omega (arith, l))
-  eight (x0 ∷ x1 ∷ x2 ∷ x3 ∷ []) n h c b l p q r s = absurd (omega (arith, l))
-  eight (x0 ∷ x1 ∷ x2 ∷ x3 ∷ x4 ∷ []) n h c b l p q r s = absurd (omega (arith, l))
-  eight (x0 ∷ x1 ∷ x2 ∷ x3 ∷ x4 ∷ x5 ∷ []) n h c b l p q r s = absurd (omega (arith, l))
-  eight (x0 ∷ x1 ∷ x2 ∷ x3 ∷ x4 ∷ x5 ∷ x6 ∷ []) n h c b l p q r s = absurd (omega (arith, l))
-  eight (x0 ∷ x1 ∷ x2 ∷ x3 ∷ x4 ∷ x5 ∷ x6 ∷ x7 ∷ []) n h c b l p q r s =
-      λ i. cond (words_stand names (x0 ∷ x1 ∷ x2 ∷ x3 ∷ x4 ∷ x5 ∷ x6 ∷ x7 ∷ [])) (option_map Claim (theorem_meant names (sym p i) (sym q i) (sym r i) (sym s i))) None
-  eight (x0 ∷ x1 ∷ x2 ∷ x3 ∷ x4 ∷ x5 ∷ x6 ∷ x7 ∷ x8 ∷ es) n h c b l p q r s = absurd (omega (arith, l))
-
-  pub eight_claim : (es : List Object) (n h c b : Object) → length es ≡ 8 → n ≡ get_or es 6 n → h ≡ get_or es 4 h → c ≡ get_or es 2 c → b ≡ get_or es 0 b
-      → words_stand names es ≡ true → event_from names (reverse es) ≡ option_map Claim (theorem_meant names n h c b)
-  eight_claim es n h c b l p q r s w = eight es n h c b l p q r s ∙ ap (λ t. cond t (option_map Claim (theorem_meant names n h c b)) None) w
-
-  pub eight_other : (es : List Object) → length es ≡ 8 → words_stand names es ≡ false → event_from names (reverse es) ≡ None
-  eight_other es l w =
-      eight es (get_or es 6 nil) (get_or es 4 nil) (get_or es 2 nil) (get_or es 0 nil) l (there es 6 nil (omega (arith, l))) (there es 4 nil (omega (arith, l))) (there es 2 nil (omega (arith, l))) (there es 0 nil (omega (arith, l)))
-      ∙ ap (λ t. cond t (option_map Claim (theorem_meant names (get_or es 6 nil) (get_or es 4 nil) (get_or es 2 nil) (get_or es 0 nil))) None) w
-
-  pub other : (ys : List Object) → (length ys ≡ 2 → ⊥) → (length ys ≡ 8 → ⊥) → event_from names ys ≡ None
-  other [] h k = refl
-  other (x0 ∷ []) h k = refl
-  other (x0 ∷ x1 ∷ []) h k = absurd (h refl)
-  other (x0 ∷ x1 ∷ x2 ∷ []) h k = refl
-  other (x0 ∷ x1 ∷ x2 ∷ x3 ∷ []) h k = refl
-  other (x0 ∷ x1 ∷ x2 ∷ x3 ∷ x4 ∷ []) h k = refl
-  other (x0 ∷ x1 ∷ x2 ∷ x3 ∷ x4 ∷ x5 ∷ []) h k = refl
-  other (x0 ∷ x1 ∷ x2 ∷ x3 ∷ x4 ∷ x5 ∷ x6 ∷ []) h k = refl
-  other (x0 ∷ x1 ∷ x2 ∷ x3 ∷ x4 ∷ x5 ∷ x6 ∷ x7 ∷ []) h k = absurd (k refl)
-  other (x0 ∷ x1 ∷ x2 ∷ x3 ∷ x4 ∷ x5 ∷ x6 ∷ x7 ∷ x8 ∷ es) h k = refl
+pub uncounted : (names : List (List ℕ)) (es : List Object) → length es ≢ 2 → length es ≢ 8 → event_from names (reverse es) ≡ None
+uncounted names es h k = let l = length-reverse es in other names (reverse es) (λ e. h (sym l ∙ e)) (λ e. k (sym l ∙ e))

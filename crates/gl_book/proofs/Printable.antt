@@ -7,9 +7,9 @@ use Rattle.std.proofs.lemmas.Option.{option_and_then_some}
 use Rattle.gl_logic.specs.Object.{Object, Int, Character, Symbol, Text, Cons}
 use Rattle.gl_logic.specs.Parts.{IsLarge}
 use Rattle.gl_logic.specs.Exp.{Exp}
-use Rattle.sexp_reader.specs.declared.list.Form.{Form}
-use Rattle.sexp_reader.specs.Reads.{reading}
-use Rattle.sexp_reader.proofs.Sizes.{IsSmall, reading_small}
+use Rattle.plain_reader.specs.declared.list.Form.{Form}
+use Rattle.plain_reader.specs.Reads.{reading}
+use Rattle.plain_reader.proofs.Sizes.{IsSmall, reading_small}
 use Rattle.gl_book.specs.Translation.{spells, term_meant}
 use Rattle.gl_book.specs.Events.{Event, Value, Claim, elements, event_from, event_meant, theorem_meant, are_words, book_meant}
 use Rattle.gl_book.specs.PlainEvents.{IsPrintable}

@@ -9,7 +9,7 @@ use Rattle.gl_logic.specs.Exp.{Exp, Exps, Var, Const, If, Prim, Call, Let, Last,
 use Rattle.gl_logic.specs.TermOf.{exps_of}
 use Rattle.gl_logic.specs.PrimValue.{prim_arity}
 use Rattle.gl_logic.specs.declared.prim.Primitive as primitive
-use Rattle.sexp_reader.proofs.Sizes.{IsNarrow}
+use Rattle.plain_reader.proofs.Sizes.{IsNarrow}
 use Rattle.gl_book.specs.Translation.{spells, prim_named, symbol_meant, quote_meant, if_meant, applied, call_meant, term_meant, terms_meant}
 use Rattle.gl_book.proofs.Plain.{either, is_it, none_is}
 

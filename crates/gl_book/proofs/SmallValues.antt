@@ -15,7 +15,7 @@ use Rattle.gl_logic.specs.Counts.{seen_in}
 use Rattle.gl_logic.specs.Evaluate.{HasValue}
 use Rattle.gl_logic.specs.Wide.{IsWideObject, SomeWide, IsWide}
 use Rattle.gl_book.specs.Plain.{IsKnown, IsPlain, ArePlain}
-use Rattle.sexp_reader.proofs.Sizes.{IsNarrow, IsSmall}
+use Rattle.plain_reader.proofs.Sizes.{IsNarrow, IsSmall}
 use Rattle.gl_book.proofs.SmallTerms.{leaves_in, leaves_in_all, steps_in, steps_in_all, HasNarrow, HaveNarrow, some_leaves}
 
 -- ---- lists of objects

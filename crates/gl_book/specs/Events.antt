@@ -1,7 +1,7 @@
 -- The event that a form means.
 use Rattle.std.specs.Prelude.{ℕ, zero, suc, ◌+◌, nat_lt, nat_le, ◌==◌, ◌&&◌, not, Bool, true, if◌then◌else◌, List, [], ◌∷◌, ◌++◌, map, get_or, codes, Option, Some, None, option_map, option_and_then, pos}
 use Rattle.std.specs.List.{list_any}
-use Rattle.gl_logic.specs.Object.{Object, Int, Symbol, Cons, nil}
+use Rattle.gl_logic.specs.Object.{Object, Int, Symbol, Cons}
 use Rattle.gl_logic.specs.Exp.{Exp}
 use Rattle.shape_spec.specs.ShapeSeen.{ShapeSeen, Integer}
 use Rattle.shape_spec.specs.Indices.{variables_of}
@@ -126,7 +126,3 @@ events_from names state (form ∷ forms) =
 -- a book's first form stands behind no theorem
 abbrev pub book_meant : List (List ℕ) → List Object → Option (List Event)
 book_meant names forms = events_from names [] forms
-
--- the words of a theorem at their places among eight elements from the last to the first
-abbrev pub words_stand : List (List ℕ) → List Object → Bool
-words_stand names es = are_words names (get_or es 7 nil) (get_or es 5 nil) (get_or es 3 nil) (get_or es 1 nil)

@@ -1,5 +1,5 @@
 -- The transcript of a book.
-use Rattle.std.specs.Prelude.{◌≡◌, ℕ, ◌-◌, ◌≤◌, ◌<◌, nat_lt, if◌then◌else◌, Bool, cond, List, [], ◌∷◌, map, length, take, get_or, All, Option, Some, None, IfSome, option_and_then}
+use Rattle.std.specs.Prelude.{◌≡◌, ℕ, ◌-◌, ◌≤◌, ◌<◌, nat_lt, if◌then◌else◌, Bool, false, cond, List, [], ◌∷◌, map, length, take, get_or, All, Option, Some, None, IfSome, option_and_then}
 use Rattle.std.specs.List.{concat}
 use Rattle.gl_logic.specs.Object.{Object}
 use Rattle.gl_logic.specs.Numbered.{IsNumbered}
@@ -10,8 +10,8 @@ use Rattle.gl_logic.specs.Wide.{IsWide}
 use Rattle.gl_base.specs.Outside.{Grows}
 use Rattle.gl_base.specs.declared.status.Status.{Status}
 use Rattle.gl_base.specs.declared.status.Status.TheVariants as status
-use Rattle.sexp_reader.specs.declared.list.Form.{Form}
-use Rattle.sexp_reader.specs.Reads.{reading}
+use Rattle.plain_reader.specs.declared.list.Form.{Form}
+use Rattle.plain_reader.specs.Reads.{reading}
 use Rattle.gl_decide.specs.Verdicts.{IsProperVerdict}
 use Rattle.gl_book.specs.Events.{Event, Value, Claim, book_meant}
 use Rattle.gl_book.specs.Lines.{refused_lines, transcript_lines, status_of}
@@ -95,3 +95,9 @@ EndsWith most bytes last_only old new status.Usage = ⊥
 EndsWith most bytes last_only old new status.WriteFault = WritesFront most bytes last_only old new
 EndsWith most bytes last_only old new status.NoMemory = old ≡ new
 EndsWith most bytes last_only old new s = WritesTranscript most bytes last_only old new s
+
+-- what a run has written of a book whose bytes may not be told: what it writes of some text, which is the book's where it is told
+pub record WritesBook (most : ℕ) (held old new : Option (List ℕ)) (s : Status) : Type 0 where
+  pub text : List ℕ
+  pub told : IfSome held (λ bytes. text ≡ bytes)
+  pub written : EndsWith most text false old new s

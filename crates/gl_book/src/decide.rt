@@ -41,7 +41,6 @@ fn decide_covered(alloc: Global, thm: &Thm, enum_bits: u8) -> Verdict
     if bit_count(&thm.bindings) > u32::from(enum_bits) {
         return Verdict::Unbuilt;
     }
-    thm.bindings.proper();
     match scan(alloc, thm) {
         Outcome::Clean(true) => Verdict::Proved,
         Outcome::Clean(false) => Verdict::Vacuous,

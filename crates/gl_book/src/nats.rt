@@ -36,14 +36,13 @@ fn bindings_of_parts(
 ) -> Result<Option<Bindings>, NoMemory>
     ensures { IfOk result (λ b. b ≡ auto_from texts.now (reverse parts.now)) }
 {
-    if parts.is_empty() {
+    let [items @ .., head] = parts else {
+        return Ok(None);
+    };
+    if !spells(texts, b"AUTO-BINDINGS", head) {
         return Ok(None);
     }
-    let count = parts.len() - 1;
-    if !spells(texts, b"AUTO-BINDINGS", &parts[count]) {
-        return Ok(None);
-    }
-    match nats_of_items(alloc, &parts[..count], texts)? {
+    match nats_of_items(alloc, items, texts)? {
         Some(nats) => bindings_of_nats(alloc, &nats),
         None => Ok(None),
     }
@@ -78,11 +77,14 @@ fn nat_of_form(item: &Tree, texts: &Texts) -> Option<Nat>
 fn nat_of_parts(parts: &[Tree], texts: &Texts) -> Option<Nat>
     ensures { option_map nat_of result ≡ nat_from texts.now (reverse parts.now) }
 {
-    if parts.len() != 3 || !spells(texts, b":NAT", &parts[2]) {
+    let [bits, variable, head] = parts else {
+        return None;
+    };
+    if !spells(texts, b":NAT", head) {
         return None;
     }
-    let variable = name_of_form(&parts[1], texts)?;
-    let bits = bits_of_form(&parts[0])?;
+    let variable = name_of_form(variable, texts)?;
+    let bits = bits_of_form(bits)?;
     Some(Nat { variable, bits })
 }
 

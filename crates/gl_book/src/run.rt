@@ -1,8 +1,8 @@
 //! From a text or a shelf to a sink.
 
-ghost use Rattle.std.specs.Prelude.{◌≡◌, ◌≢◌, ◌⊎◌, ◌<◌, ℕ, List, length, false, IfSome};
+ghost use Rattle.std.specs.Prelude.{◌≡◌, ◌≢◌, ◌<◌, ℕ, List, length, false};
 ghost use Rattle.gl_base.specs.Outside.{Rose};
-ghost use Rattle.gl_book.specs.Transcript.{EndsWith, IsTranscript, IsReported, most_bytes};
+ghost use Rattle.gl_book.specs.Transcript.{EndsWith, WritesBook, IsTranscript, IsReported, most_bytes};
 
 use super::put_lines::put_told;
 use super::transcript::{Report, long_transcript, transcript};
@@ -10,7 +10,7 @@ use gl_base::limits::Limits;
 use gl_base::shelf::Shelf;
 use gl_base::sink::Sink;
 use gl_base::status::Status;
-use sexp_reader::{ReadEnd, read_book};
+use plain_reader::{ReadEnd, read_book};
 use std::alloc::Global;
 use std::thread::Threads;
 
@@ -40,7 +40,8 @@ pub fn run_text<R: Threads + Sync, K: Sink>(
 
 /// Reads the book of a name, and writes its transcript.
 ///
-/// ReadFault where a read failed; nothing was then written. A book of more than 65,536 bytes is refused.
+/// ReadFault where a call of the shelf failed; that was then the last one, and nothing was written. A book of more
+/// than 65,536 bytes is refused.
 pub fn run_book<R: Threads + Sync, S: Shelf, K: Sink>(
     rt: &R,
     alloc: Global,
@@ -49,8 +50,9 @@ pub fn run_book<R: Threads + Sync, S: Shelf, K: Sink>(
     shelf: &mut S,
     out: &mut K,
 ) -> Status
-    ensures written { IfSome (S.holds shelf.old name.now) (λ text. (result ≡ Status.ReadFault) ⊎ EndsWith limits.now.enum_bits text false (K.written out.old) (K.written out.new) result) }
+    ensures written { result ≢ Status.ReadFault → WritesBook limits.now.enum_bits (S.holds shelf.old name.now) (K.written out.old) (K.written out.new) result }
     ensures read_fault { result ≡ Status.ReadFault → Rose (S.faults shelf.old) (S.faults shelf.new) }
+    ensures no_read_fault { result ≢ Status.ReadFault → S.faults shelf.new ≡ S.faults shelf.old }
     ensures unwritten { result ≡ Status.ReadFault → K.written out.new ≡ K.written out.old }
     ensures write_fault { result ≡ Status.WriteFault → Rose (K.faults out.old) (K.faults out.new) }
     ensures no_write_fault { result ≢ Status.WriteFault → K.faults out.new ≡ K.faults out.old }

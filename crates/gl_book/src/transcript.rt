@@ -9,7 +9,7 @@ ghost use Rattle.gl_book.specs.Transcript.{IsTranscript, IsReport, AreProper, Is
 ghost use Rattle.gl_base.specs.declared.status.Status.TheVariants.{BookRefused};
 
 use super::answer::Answer;
-use super::book::events_of_forms;
+use super::book_walk::events_of_forms;
 use super::counts::{done, line_of_counts, status};
 use super::decide::decide_theorem;
 use super::event::Event;
@@ -19,7 +19,7 @@ use super::walker::value_of;
 use gl_base::limits::Limits;
 use gl_base::status::Status;
 use gl_logic::{NoMemory, Texts};
-use sexp_reader::{End, FormList, MOST_BYTES, forms};
+use plain_reader::{End, FormList, MOST_BYTES, forms};
 use shape_spec::Inputs;
 use std::alloc::Global;
 
@@ -52,8 +52,6 @@ pub fn long_transcript(alloc: Global) -> Result<Report, NoMemory>
     ensures transcript { IfOk result (λ t. (most : ℕ) (text : List ℕ) → most_bytes < length text → IsTranscript most text t.lines t.status) }
     ensures whole { IfOk result (λ t. IsWhole t.lines t.status) }
 {
-    let texts = Texts::new(alloc)?;
-    texts.is_table();
     refused(alloc)
 }
 

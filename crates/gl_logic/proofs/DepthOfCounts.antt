@@ -1,5 +1,5 @@
 -- Counts don't depend on which sufficient depth is taken.
-use Rattle.std.proofs.Common.{◌≡◌, ◌∙◌, ap, sym, refl, ℕ, ◌+◌, List, [], ◌∷◌, ◌++◌, Some, arith, subst, length}
+use Rattle.std.proofs.Common.{◌≡◌, ◌∙◌, ap, sym, refl, ℕ, ◌+◌, List, [], ◌∷◌, ◌++◌, Some, arith, subst, length, slice_get}
 use Rattle.std.specs.Prelude.{sum_by, map}
 use Rattle.std.specs.List.{filter, flat_map}
 use Rattle.std.proofs.lemmas.List.Sums.{sum_by-cons}
@@ -8,16 +8,17 @@ use Rattle.gl_logic.specs.Environment.{extended}
 use Rattle.gl_logic.specs.Definition.{Definition}
 use Rattle.gl_logic.specs.Different.{different}
 use Rattle.gl_logic.specs.Exp.{Exp}
-use Rattle.gl_logic.specs.Walk.{Walk, CallMade, walk}
+use Rattle.gl_logic.specs.Walk.{Walk, CallMade, then, walk_by, walk}
 use Rattle.gl_logic.specs.Evaluate.{evaluate}
 use Rattle.gl_logic.specs.WorldSeen.{WorldSeen}
-use Rattle.gl_logic.specs.Counts.{seen_in, made_in, seen, calls, is_among, own_cost, own_cost_of_body, own_cost_of_call, call_eq, memoized_cost}
+use Rattle.gl_logic.specs.Counts.{seen_in, made_in, seen, calls, is_among, own_opened, own_cost, own_cost_of_call, call_eq, memoized_cost}
 use Rattle.gl_logic.specs.CellCounts.{cells, world_constants, constants_of}
 use Rattle.gl_logic.specs.Parts.{cells_in}
-use Rattle.gl_logic.proofs.Optional.{some_same}
+use Rattle.gl_logic.proofs.Optional.{some_same, then_inverted}
 use Rattle.gl_logic.proofs.Walks.{walk_of_value, walk_unique}
 use Rattle.gl_logic.proofs.OwnWalks.{own_walk, own_walk_there, own_walk_more}
-use Rattle.gl_logic.proofs.MadeCalls.{Every, every_map, every_filter, every_different, OpensAt, calls_open}
+use Rattle.gl_logic.specs.Every.{Every}
+use Rattle.gl_logic.proofs.MadeCalls.{every_map, every_filter, every_different, OpensAt, calls_open}
 
 -- two depths that both give a value
 pub record BothGive (ds : List Definition) (n m : ℕ) (env : List (ℕ × Object)) (t : Exp) : Type 0 where
@@ -51,7 +52,7 @@ module _ (ds : List Definition) (n m : ℕ) (env : List (ℕ × Object)) (t : Ex
       let k : s.0 ≡ r.0 = some_same s.0 r.0 (sym s' ∙ (ap (λ (k : ℕ). own_walk ds functions k env t) z ∙ r')) in
       ap (λ o. length (seen_in o)) r.1 ∙ (ap (λ (w : Walk). length w.seen) (sym k) ∙ sym (ap (λ o. length (seen_in o)) s.1))
 
-sums_same : {A : Type 0} (f g : A → ℕ) (xs : List A) → Every (λ x. f x ≡ g x) xs → sum_by f xs ≡ sum_by g xs
+pub sums_same : {A : Type 0} (f g : A → ℕ) (xs : List A) → Every (λ x. f x ≡ g x) xs → sum_by f xs ≡ sum_by g xs
 sums_same f g [] h = refl
 sums_same f g (x ∷ xs) h = sum_by-cons f x xs ∙ ((λ i. h.0 i + sums_same f g xs h.1 i) ∙ sym (sum_by-cons g x xs))
 
@@ -62,12 +63,15 @@ pub record OpensBoth (ds : List Definition) (n m : ℕ) (c : CallMade) : Type 0 
 
 body_same : (ds : List Definition) (functions : List ℕ) (n m : ℕ) (c : CallMade) → OpensBoth ds n m c → own_cost_of_call ds functions n c ≡ own_cost_of_call ds functions m c
 body_same ds functions n m c h =
-    let d = h.first.definition in
-    let e : h.second.definition ≡ d = some_same _ _ (sym h.second.there ∙ h.first.there) in
-    let second : walk ds m (extended d.formals c.1 []) d.body ≡ Some h.second.run = subst (λ (k : Definition). walk ds m (extended k.formals c.1 []) k.body ≡ Some h.second.run) e h.second.walks in
-    let same : h.second.run ≡ h.first.run = walk_unique ds m n (extended d.formals c.1 []) d.body h.second.run h.first.run second h.first.walks in
-    let both : BothGive ds n m (extended d.formals c.1 []) d.body = record { run = h.first.run; first = h.first.walks; second = second ∙ ap (λ (w : Walk). Some w) same } in
-    ap (own_cost_of_body ds functions n c.1) h.first.there ∙ (own_same ds n m (extended d.formals c.1 []) d.body both functions ∙ sym (ap (own_cost_of_body ds functions m c.1) h.first.there))
+    let i = then_inverted (slice_get ds c.0) _ h.first.run h.first.walks in
+    let j = then_inverted (slice_get ds c.0) _ h.second.run h.second.walks in
+    let d = i.0 in
+    let env = extended d.formals c.1 [] in
+    let second : walk ds m env d.body ≡ Some h.second.run = subst (λ (k : Definition). walk ds m (extended k.formals c.1 []) k.body ≡ Some h.second.run) (some_same j.0 d (sym j.1.0 ∙ i.1.0)) j.1.1 in
+    let same : h.second.run ≡ h.first.run = walk_unique ds m n env d.body h.second.run h.first.run second i.1.1 in
+    let both : BothGive ds n m env d.body = record { run = h.first.run; first = i.1.1; second = second ∙ ap (λ (w : Walk). Some w) same } in
+    ap (λ o. length (seen_in (then o (λ k. walk_by (own_opened ds functions n) k.body (extended k.formals c.1 []))))) i.1.0
+    ∙ (own_same ds n m env d.body both functions ∙ sym (ap (λ o. length (seen_in (then o (λ k. walk_by (own_opened ds functions m) k.body (extended k.formals c.1 []))))) i.1.0))
 
 every_both : (ds : List Definition) (n m : ℕ) (cs : List CallMade) → Every (OpensAt ds n) cs → Every (OpensAt ds m) cs → Every (OpensBoth ds n m) cs
 every_both ds n m [] h g = tt

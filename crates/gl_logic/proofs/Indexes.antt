@@ -1,15 +1,10 @@
 -- Places of names, as a list grows.
-use Rattle.std.proofs.Common.{◌≡◌, ◌∙◌, ap, sym, refl, ℕ, zero, suc, ◌<◌, List, [], ◌∷◌, ◌++◌, map, Bool, true, false, cond, eqb, Option, Some, None, length, arith, subst, ◌⊎◌, inl, inr, slice_get, get_or}
+use Rattle.std.proofs.Common.{◌≡◌, ◌∙◌, ap, sym, refl, ℕ, zero, suc, ◌<◌, List, [], ◌∷◌, ◌++◌, map, Bool, true, false, cond, eqb, Option, Some, None, length, arith, ◌⊎◌, inl, inr, slice_get, get_or}
 use Rattle.std.specs.List.{find}
 use Rattle.std.specs.Option.{option_map}
 use Rattle.std.proofs.lemmas.Option.{slice_get_read, slice_get-map}
-use Rattle.std.proofs.lemmas.List.{length-append, take-append-le, take_all}
-use Rattle.gl_logic.specs.Named.{place_of, place_in, IsIndex, IsFree, AreDifferentNames, names_of, object_named}
+use Rattle.gl_logic.specs.Named.{place_of, place_in, IsIndex, IsFree, names_of, object_named}
 use Rattle.gl_logic.specs.Object.{Object}
-use Rattle.gl_logic.specs.Definition.{Definition}
-use Rattle.gl_logic.specs.IsTermOf.{IsTermOf}
-use Rattle.gl_logic.specs.IsGround.{IsGround}
-use Rattle.gl_logic.specs.WorldSeen.{IsWorld, IsDefinitionOf}
 
 pub place-cons : (n : ℕ) (ns : List ℕ) (name : ℕ) → place_of (n ∷ ns) name ≡ cond (eqb name n) (Some 0) (option_map suc (place_of ns name))
 place-cons n ns name = grind arith
@@ -66,10 +61,3 @@ slice_push [] y zero x e = inr (refl, cc)
 slice_push [] y (suc i) x e = absurd cc
 slice_push (z ∷ xs) y zero x e = inl (omega arith, e)
 slice_push (z ∷ xs) y (suc i) x e = elim (slice_push xs y i x e) [ inl h ↦ inl (omega (arith, h.0), h.1) | inr h ↦ inr (omega (arith, h.0), h.1) ]
-
-pub world_push : (ds : List Definition) (d : Definition) → IsWorld ds → AreDifferentNames d.formals → IsTermOf (ds ++ d ∷ []) d.body → IsGround (length ds) d → IsWorld (ds ++ d ∷ [])
-world_push ds d h formals body ground i e at = elim (slice_push ds d i e at) [
-  | inl b ↦ let is = h i e b.1 in record { formals = is.formals; body = subst (λ (es : List Definition). IsTermOf es e.body) (sym (take-append-le (suc i) ds (d ∷ []) (omega (arith, b.0)))) is.body; same_ground = is.same_ground }
-  | inr b ↦ subst (λ (c : Definition). IsDefinitionOf (ds ++ d ∷ []) i c) b.1 (subst (λ (k : ℕ). IsDefinitionOf (ds ++ d ∷ []) k d) (sym b.0)
-      (record { formals = formals; body = subst (λ (es : List Definition). IsTermOf es d.body) (sym (take_all (suc (length ds)) (ds ++ d ∷ []) (omega (arith, length-append ds (d ∷ []))))) body; same_ground = ground }))
-]

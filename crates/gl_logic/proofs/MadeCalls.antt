@@ -1,19 +1,16 @@
 -- Each call that a walk makes opens a body that has a walk of its own.
 use Rattle.std.proofs.Common.{◌≡◌, ℕ, zero, suc, List, [], ◌∷◌, ◌++◌, Bool, true, false, cond, Option, Some, subst, slice_get}
 use Rattle.std.specs.List.{filter, list_any}
+use Rattle.gl_logic.specs.Every.{Every}
 use Rattle.gl_logic.specs.Object.{Object}
 use Rattle.gl_logic.specs.ObjectEq.{is_nil}
 use Rattle.gl_logic.specs.Environment.{extended}
 use Rattle.gl_logic.specs.Definition.{Definition}
 use Rattle.gl_logic.specs.Different.{different}
 use Rattle.gl_logic.specs.Exp.{Exp, Exps, Var, Const, If, Prim, Call, Let, Last, More}
-use Rattle.gl_logic.specs.Walk.{Walk, Walks, CallMade, ended, walk_by, walks_by, opened, walk}
+use Rattle.gl_logic.specs.Walk.{Walk, Walks, CallMade, ended, walk_by, walks_by, body_by, opened, body_walk, walk}
 use Rattle.gl_logic.proofs.Optional.{none_some, some_same, Holds, then_holds, pick_holds, then_inverted}
-use Rattle.gl_logic.proofs.Walks.{walk_more}
-
-abbrev pub Every : {A : Type 0} → (A → Type 0) → List A → Type 0
-Every P [] = Unit {0}
-Every P (x ∷ xs) = P x × Every P xs
+use Rattle.gl_logic.proofs.Walks.{body_more}
 
 pub every_append : {A : Type 0} (P : A → Type 0) (xs ys : List A) → Every P xs → Every P ys → Every P (xs ++ ys)
 every_append P [] ys h g = g
@@ -64,24 +61,23 @@ module _ (c : ℕ → Walks → Option Walk) (P : CallMade → Type 0) (keeps : 
     made_all_good Last env = λ r e. subst (λ (w : Walks). Every P w.made) (some_same _ _ e) tt
     made_all_good (More t ts) env = then_holds Good AllGood (walk_by c t env) _ (made_good t env) (λ x h. then_holds AllGood AllGood (walks_by c ts env) _ (made_all_good ts env) (λ rs g r e. subst (λ (w : Walks). Every P w.made) (some_same _ _ e) (every_append P x.made rs.made h g)))
 
--- the call's definition is there, and its body has a walk with this depth
+-- the call has a walk of its own with this depth
 pub record OpensAt (ds : List Definition) (n : ℕ) (c : CallMade) : Type 0 where
-  pub definition : Definition
-  pub there : slice_get ds c.0 ≡ Some definition
   pub run : Walk
-  pub walks : walk ds n (extended definition.formals c.1 []) definition.body ≡ Some run
+  pub walks : body_walk ds n c.0 c.1 ≡ Some run
 
 opens_more : (ds : List Definition) (n : ℕ) (c : CallMade) → OpensAt ds n c → OpensAt ds (suc n) c
-opens_more ds n c h = record { definition = h.definition; there = h.there; run = h.run; walks = walk_more ds n (extended h.definition.formals c.1 []) h.definition.body h.run h.walks }
+opens_more ds n c h = record { run = h.run; walks = body_more ds n c.0 c.1 h.run h.walks }
+
+pub body_good : (ds : List Definition) (c : ℕ → Walks → Option Walk) (P : CallMade → Type 0) (keeps : (f : ℕ) (xs : Walks) → Every P xs.made → Holds (λ (r : Walk). Every P r.made) (c f xs)) (f : ℕ) (xs : List Object) → Holds (λ (r : Walk). Every P r.made) (body_by c ds f xs)
+body_good ds c P keeps f xs r e = let i = then_inverted (slice_get ds f) _ r e in made_good c P keeps i.0.body (extended i.0.formals xs []) r i.1.1
 
 opened_opens : (ds : List Definition) (n : ℕ) (f : ℕ) (xs : Walks) → Every (OpensAt ds n) xs.made → Holds (λ (r : Walk). Every (OpensAt ds n) r.made) (opened ds n f xs)
 opened_opens ds zero f xs h = λ r e. none_some r e
 opened_opens ds (suc n) f xs h = λ r e.
-    let i = then_inverted (slice_get ds f) _ r e in
-    let d = i.0 in
-    let j = then_inverted (walk ds n (extended d.formals xs.values []) d.body) _ r i.1.1 in
-    let inner : Every (OpensAt ds n) j.0.made = made_good (opened ds n) (OpensAt ds n) (opened_opens ds n) d.body (extended d.formals xs.values []) j.0 j.1.0 in
-    let this : OpensAt ds (suc n) (f, xs.values) = record { definition = d; there = i.1.0; run = j.0; walks = walk_more ds n (extended d.formals xs.values []) d.body j.0 j.1.0 } in
+    let j = then_inverted (body_walk ds n f xs.values) _ r e in
+    let inner : Every (OpensAt ds n) j.0.made = body_good ds (opened ds n) (OpensAt ds n) (opened_opens ds n) f xs.values j.0 j.1.0 in
+    let this : OpensAt ds (suc n) (f, xs.values) = record { run = j.0; walks = body_more ds n f xs.values j.0 j.1.0 } in
     subst (λ (w : Walk). Every (OpensAt ds (suc n)) w.made) (some_same _ _ j.1.1)
     (every_append (OpensAt ds (suc n)) (xs.made ++ (f, xs.values) ∷ []) j.0.made (every_append (OpensAt ds (suc n)) xs.made ((f, xs.values) ∷ []) h (this, tt)) (every_map (OpensAt ds n) (OpensAt ds (suc n)) j.0.made (opens_more ds n) inner))
 

@@ -1,18 +1,17 @@
 -- Without memoized functions the costs are one; different things are no more than all.
-use Rattle.std.proofs.Common.{◌≡◌, ◌∙◌, refl, ℕ, zero, suc, ◌+◌, ◌≤◌, List, [], ◌∷◌, Bool, true, false, cond, arith, slice_get, length, ◌++◌}
+use Rattle.std.proofs.Common.{◌≡◌, ◌∙◌, refl, ℕ, zero, suc, ◌+◌, ◌≤◌, List, [], ◌∷◌, Bool, true, false, cond, arith, length, ◌++◌}
 use Rattle.std.specs.List.{filter, list_any}
 use Rattle.std.specs.Prelude.{sum_by}
 use Rattle.gl_logic.specs.Object.{Object}
-use Rattle.gl_logic.specs.Environment.{extended}
 use Rattle.gl_logic.specs.Definition.{Definition}
 use Rattle.gl_logic.specs.Different.{different}
 use Rattle.gl_logic.specs.Exp.{Exp}
-use Rattle.gl_logic.specs.Walk.{CallMade, then, ended, walk_by, opened, walk}
+use Rattle.gl_logic.specs.Walk.{CallMade, then, ended, walk_by, body_by, opened, walk}
 use Rattle.gl_logic.specs.Counts.{seen_in, made_in, cost, is_among, own_opened, own_cost_of_call, call_eq, memoized_cost}
 
 own_none : (ds : List Definition) (n : ℕ) → own_opened ds [] n ≡ opened ds n
 own_none ds zero = refl
-own_none ds (suc n) = λ i f rs. then (slice_get ds f) (λ d. then (walk_by (own_none ds n i) d.body (extended d.formals rs.values [])) (ended rs.seen (rs.made ++ (f, rs.values) ∷ [])))
+own_none ds (suc n) = λ i f rs. then (body_by (own_none ds n i) ds f rs.values) (ended rs.seen (rs.made ++ (f, rs.values) ∷ []))
 
 none_among : (cs : List CallMade) → filter (λ c. is_among [] c.0) cs ≡ []
 none_among [] = refl

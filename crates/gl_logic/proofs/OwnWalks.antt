@@ -6,10 +6,10 @@ use Rattle.gl_logic.specs.PrimValue.{prim_value}
 use Rattle.gl_logic.specs.Environment.{extended}
 use Rattle.gl_logic.specs.Definition.{Definition}
 use Rattle.gl_logic.specs.Exp.{Exp, Exps, Var, Const, If, Prim, Call, Let, Last, More}
-use Rattle.gl_logic.specs.Walk.{Walk, Walks, CallMade, then, ended, gathered, joined, walk_by, walks_by, opened, walk}
+use Rattle.gl_logic.specs.Walk.{Walk, Walks, CallMade, then, ended, gathered, joined, walk_by, walks_by, body_by, opened, walk}
 use Rattle.gl_logic.specs.Counts.{own_opened, is_among}
 use Rattle.gl_logic.proofs.Optional.{none_some, some_same, Follows, then_follows, pick_follows}
-use Rattle.gl_logic.proofs.Walks.{then_both, grow, opened_more}
+use Rattle.gl_logic.proofs.Walks.{then_both, grow, body_grows, opened_more}
 
 abbrev pub value_in : Walk → Object
 value_in r = r.value
@@ -45,26 +45,29 @@ module _ (c d : ℕ → Walks → Option Walk) (follows : (f : ℕ) (xs xs' : Wa
         then_follows values_in values_in (walks_by c ts env) (walks_by d ts env') _ _ (walks_follow ts env env' q) (λ xs xs' w. joined_follows x x' xs xs' v w))
 
 -- a value's walk is there, with the same value, where some functions are not opened
-definition_follows : (c d : ℕ → Walks → Option Walk) → ((f : ℕ) (xs xs' : Walks) → values_in xs' ≡ values_in xs → Follows value_in (c f xs) (d f xs'))
-    → (o : Option Definition) (f : ℕ) (xs xs' : Walks) → values_in xs' ≡ values_in xs
-    → Follows value_in (then o (λ k. then (walk_by c k.body (extended k.formals xs.values [])) (ended xs.seen (xs.made ++ (f, xs.values) ∷ [])))) (then o (λ k. then (walk_by d k.body (extended k.formals xs'.values [])) (ended xs'.seen (xs'.made ++ (f, xs'.values) ∷ []))))
-definition_follows c d h None f xs xs' v = λ r e. none_some r e
-definition_follows c d h (Some k) f xs xs' v = then_follows value_in value_in (walk_by c k.body (extended k.formals xs.values [])) (walk_by d k.body (extended k.formals xs'.values [])) _ _ (walk_follows c d h k.body _ _ (λ i. extended k.formals (v i) [])) (ended_follows _ _ _ _)
+module _ (c d : ℕ → Walks → Option Walk) (h : (f : ℕ) (xs xs' : Walks) → values_in xs' ≡ values_in xs → Follows value_in (c f xs) (d f xs')) where
+  body_follows : (o : Option Definition) (xs xs' : List Object) → xs' ≡ xs → Follows value_in (then o (λ k. walk_by c k.body (extended k.formals xs []))) (then o (λ k. walk_by d k.body (extended k.formals xs' [])))
+  body_follows None xs xs' v = λ r e. none_some r e
+  body_follows (Some k) xs xs' v = walk_follows c d h k.body _ _ (λ i. extended k.formals (v i) [])
+
+  call_follows : (ds : List Definition) (f : ℕ) (xs xs' : Walks) → values_in xs' ≡ values_in xs
+      → Follows value_in (then (body_by c ds f xs.values) (ended xs.seen (xs.made ++ (f, xs.values) ∷ []))) (then (body_by d ds f xs'.values) (ended xs'.seen (xs'.made ++ (f, xs'.values) ∷ [])))
+  call_follows ds f xs xs' v = then_follows value_in value_in (body_by c ds f xs.values) (body_by d ds f xs'.values) _ _ (body_follows (slice_get ds f) xs.values xs'.values v) (ended_follows _ _ _ _)
 
 opened_again : (ds : List Definition) (n f : ℕ) (xs xs' : Walks) → values_in xs' ≡ values_in xs → Follows value_in (opened ds n f xs) (opened ds n f xs')
 opened_again ds zero f xs xs' v = λ r e. none_some r e
-opened_again ds (suc n) f xs xs' v = definition_follows (opened ds n) (opened ds n) (opened_again ds n) (slice_get ds f) f xs xs' v
+opened_again ds (suc n) f xs xs' v = call_follows (opened ds n) (opened ds n) (opened_again ds n) ds f xs xs' v
 
 own_follows_at : (ds : List Definition) (functions : List ℕ) (n f : ℕ) (b : Bool) (xs xs' : Walks) → values_in xs' ≡ values_in xs
     → ((g : ℕ) (ys ys' : Walks) → values_in ys' ≡ values_in ys → Follows value_in (opened ds n g ys) (own_opened ds functions n g ys'))
     → Follows value_in (opened ds (suc n) f xs) (elim b as (λ _. Option Walk) [
       | true ↦ then (opened ds (suc n) f xs') (λ r. gathered r.value xs')
-      | false ↦ then (slice_get ds f) (λ d. then (walk_by (own_opened ds functions n) d.body (extended d.formals xs'.values [])) (ended xs'.seen (xs'.made ++ (f, xs'.values) ∷ [])))
+      | false ↦ then (body_by (own_opened ds functions n) ds f xs'.values) (ended xs'.seen (xs'.made ++ (f, xs'.values) ∷ []))
     ])
 own_follows_at ds functions n f true xs xs' v h = λ r e.
     let s = opened_again ds (suc n) f xs xs' v r e in
     (record { value = s.0.value; seen = xs'.seen ++ s.0.value ∷ []; made = xs'.made }, (ap (λ o. then o (λ r. gathered r.value xs')) s.1.0, s.1.1))
-own_follows_at ds functions n f false xs xs' v h = definition_follows (opened ds n) (own_opened ds functions n) h (slice_get ds f) f xs xs' v
+own_follows_at ds functions n f false xs xs' v h = call_follows (opened ds n) (own_opened ds functions n) h ds f xs xs' v
 
 pub own_follows : (ds : List Definition) (functions : List ℕ) (n f : ℕ) (xs xs' : Walks) → values_in xs' ≡ values_in xs → Follows value_in (opened ds n f xs) (own_opened ds functions n f xs')
 own_follows ds functions zero f xs xs' v = λ r e. none_some r e
@@ -75,14 +78,14 @@ own_more_at : (ds : List Definition) (functions : List ℕ) (n f : ℕ) (b : Boo
     → ((g : ℕ) (ys : Walks) (s : Walk) → own_opened ds functions n g ys ≡ Some s → own_opened ds functions (suc n) g ys ≡ Some s)
     → elim b as (λ _. Option Walk) [
       | true ↦ then (opened ds (suc n) f xs) (λ r. gathered r.value xs)
-      | false ↦ then (slice_get ds f) (λ d. then (walk_by (own_opened ds functions n) d.body (extended d.formals xs.values [])) (ended xs.seen (xs.made ++ (f, xs.values) ∷ [])))
+      | false ↦ then (body_by (own_opened ds functions n) ds f xs.values) (ended xs.seen (xs.made ++ (f, xs.values) ∷ []))
     ] ≡ Some r
     → elim b as (λ _. Option Walk) [
       | true ↦ then (opened ds (suc (suc n)) f xs) (λ r. gathered r.value xs)
-      | false ↦ then (slice_get ds f) (λ d. then (walk_by (own_opened ds functions (suc n)) d.body (extended d.formals xs.values [])) (ended xs.seen (xs.made ++ (f, xs.values) ∷ [])))
+      | false ↦ then (body_by (own_opened ds functions (suc n)) ds f xs.values) (ended xs.seen (xs.made ++ (f, xs.values) ∷ []))
     ] ≡ Some r
 own_more_at ds functions n f true xs r h = then_both _ _ _ _ r (opened_more ds (suc n) f xs) (λ y k. k)
-own_more_at ds functions n f false xs r h = then_both (slice_get ds f) (slice_get ds f) _ _ r (λ d k. k) (λ d. then_both _ _ _ _ r (grow (own_opened ds functions n) (own_opened ds functions (suc n)) h d.body (extended d.formals xs.values [])) (λ y k. k))
+own_more_at ds functions n f false xs r h = then_both _ _ _ _ r (body_grows (own_opened ds functions n) (own_opened ds functions (suc n)) h ds f xs.values) (λ y k. k)
 
 pub own_more : (ds : List Definition) (functions : List ℕ) (n f : ℕ) (xs : Walks) (r : Walk) → own_opened ds functions n f xs ≡ Some r → own_opened ds functions (suc n) f xs ≡ Some r
 own_more ds functions zero f xs r = none_some r

@@ -5,7 +5,7 @@ use Rattle.gl_logic.specs.ObjectEq.{is_nil}
 use Rattle.gl_logic.specs.Environment.{extended}
 use Rattle.gl_logic.specs.Definition.{Definition}
 use Rattle.gl_logic.specs.Exp.{Exp, Exps, Var, Const, If, Prim, Call, Let, Last, More}
-use Rattle.gl_logic.specs.Walk.{Walk, Walks, then, walk_by, walks_by, opened, walk}
+use Rattle.gl_logic.specs.Walk.{Walk, Walks, then, walk_by, walks_by, body_by, opened, body_walk, walk}
 use Rattle.gl_logic.specs.Evaluate.{evaluate, HasValue}
 use Rattle.gl_logic.proofs.Optional.{none_some, some_same, then_inverted}
 
@@ -31,9 +31,15 @@ module _ (c d : ℕ → Walks → Option Walk) (grows : (f : ℕ) (xs : Walks) (
     grow_all Last env r = λ e. e
     grow_all (More t ts) env r = then_both _ _ _ _ r (grow t env) (λ x. then_both _ _ _ _ r (grow_all ts env) (λ y k. k))
 
+  pub body_grows : (ds : List Definition) (f : ℕ) (xs : List Object) (r : Walk) → body_by c ds f xs ≡ Some r → body_by d ds f xs ≡ Some r
+  body_grows ds f xs r = then_both (slice_get ds f) (slice_get ds f) _ _ r (λ k e. e) (λ k. grow k.body (extended k.formals xs []) r)
+
 pub opened_more : (ds : List Definition) (n : ℕ) (f : ℕ) (xs : Walks) (r : Walk) → opened ds n f xs ≡ Some r → opened ds (suc n) f xs ≡ Some r
 opened_more ds zero f xs r = none_some r
-opened_more ds (suc n) f xs r = then_both (slice_get ds f) (slice_get ds f) _ _ r (λ d k. k) (λ d. then_both _ _ _ _ r (grow (opened ds n) (opened ds (suc n)) (opened_more ds n) d.body (extended d.formals xs.values [])) (λ y k. k))
+opened_more ds (suc n) f xs r = then_both _ _ _ _ r (body_grows (opened ds n) (opened ds (suc n)) (opened_more ds n) ds f xs.values) (λ y k. k)
+
+pub body_more : (ds : List Definition) (n : ℕ) (f : ℕ) (xs : List Object) (r : Walk) → body_walk ds n f xs ≡ Some r → body_walk ds (suc n) f xs ≡ Some r
+body_more ds n = body_grows (opened ds n) (opened ds (suc n)) (opened_more ds n) ds
 
 pub walk_more : (ds : List Definition) (n : ℕ) (env : List (ℕ × Object)) (t : Exp) (r : Walk) → walk ds n env t ≡ Some r → walk ds (suc n) env t ≡ Some r
 walk_more ds n env t r = grow (opened ds n) (opened ds (suc n)) (opened_more ds n) t env r

@@ -1,13 +1,12 @@
 -- What the plain evaluation of a term costs. Each count takes a depth that gives a value; where it gives none, nothing is counted.
-use Rattle.std.specs.Prelude.{ℕ, zero, suc, ◌+◌, Bool, true, false, ◌&&◌, eqb, List, [], ◌∷◌, ◌++◌, length, sum_by, Option, Some, None, slice_get}
+use Rattle.std.specs.Prelude.{ℕ, zero, suc, ◌+◌, Bool, true, false, ◌&&◌, eqb, List, [], ◌∷◌, ◌++◌, length, sum_by, Option, Some, None}
 use Rattle.std.specs.List.{filter, list_any}
 use Rattle.gl_logic.specs.Object.{Object}
 use Rattle.gl_logic.specs.ObjectEq.{object_eq}
-use Rattle.gl_logic.specs.Environment.{extended}
 use Rattle.gl_logic.specs.Definition.{Definition}
 use Rattle.gl_logic.specs.Exp.{Exp}
 use Rattle.gl_logic.specs.Different.{different}
-use Rattle.gl_logic.specs.Walk.{Walk, Walks, CallMade, then, ended, gathered, walk_by, opened, walk}
+use Rattle.gl_logic.specs.Walk.{Walk, Walks, CallMade, then, ended, gathered, walk_by, body_by, opened, walk}
 
 abbrev pub seen_in : Option Walk → List Object
 seen_in None = []
@@ -37,7 +36,7 @@ abbrev pub own_opened : List Definition → List ℕ → ℕ → ℕ → Walks �
 own_opened definitions functions zero f rs = None
 own_opened definitions functions (suc n) f rs = elim (is_among functions f) [
   | true ↦ then (opened definitions (suc n) f rs) (λ r. gathered r.value rs)
-  | false ↦ then (slice_get definitions f) (λ d. then (walk_by (own_opened definitions functions n) d.body (extended d.formals rs.values [])) (ended rs.seen (rs.made ++ (f, rs.values) ∷ [])))
+  | false ↦ then (body_by (own_opened definitions functions n) definitions f rs.values) (ended rs.seen (rs.made ++ (f, rs.values) ∷ []))
 ]
 
 -- how many subterms are visited so
@@ -45,12 +44,8 @@ abbrev pub own_cost : List Definition → List ℕ → ℕ → List (ℕ × Obje
 own_cost definitions functions n env t = length (seen_in (walk_by (own_opened definitions functions n) t env))
 
 -- the same of the body that a call opens
-abbrev pub own_cost_of_body : List Definition → List ℕ → ℕ → List Object → Option Definition → ℕ
-own_cost_of_body definitions functions n args None = 0
-own_cost_of_body definitions functions n args (Some d) = own_cost definitions functions n (extended d.formals args []) d.body
-
 abbrev pub own_cost_of_call : List Definition → List ℕ → ℕ → CallMade → ℕ
-own_cost_of_call definitions functions n c = own_cost_of_body definitions functions n c.1 (slice_get definitions c.0)
+own_cost_of_call definitions functions n c = length (seen_in (body_by (own_opened definitions functions n) definitions c.0 c.1))
 
 -- ---- each different call of some functions is opened once
 abbrev pub objects_eq : List Object → List Object → Bool

@@ -1,7 +1,9 @@
 -- The ground definitions: the first definitions of every book's world, in their order.
-use Rattle.std.specs.Prelude.{ℕ, List, [], ◌∷◌, pos}
+use Rattle.std.specs.Prelude.{ℕ, List, [], ◌∷◌, map, None, pos}
+use Rattle.std.specs.List.{range_with_len}
 use Rattle.gl_logic.specs.Object.{Int, nil, true_object}
 use Rattle.gl_logic.specs.Exp.{Exp, Var, Const, If, Prim, Call, Last, More}
+use Rattle.gl_logic.specs.Definition.{Definition}
 use Rattle.gl_logic.specs.declared.prim.Primitive as primitive
 use Rattle.gl_logic.specs.declared.prim.Primitive.TheVariants as prim
 
@@ -137,3 +139,10 @@ ground =
     -- 42: (defun fast-alist-fork (a ans) (if (atom a) ans (if (atom (car a)) (fast-alist-fork (cdr a) ans) (if (hons-assoc-equal (car (car a)) ans) (fast-alist-fork (cdr a) ans) (fast-alist-fork (cdr a) (cons (car a) ans))))))
     ∷ define 2 (If (call1 0 v0) v1 (If (call1 0 (prim1 prim.Car v0)) (call2 42 (prim1 prim.Cdr v0) v1) (If (call2 40 (prim1 prim.Car (prim1 prim.Car v0)) v1) (call2 42 (prim1 prim.Cdr v0) v1) (call2 42 (prim1 prim.Cdr v0) (prim2 prim.Cons (prim1 prim.Car v0) v1)))))
     ∷ []
+
+-- ---- the same as definitions, for a world of these alone: without names, and with the formals named by their places
+abbrev pub ground_definition : Ground → Definition
+ground_definition g = record { name = 0; formals = range_with_len 0 g.arity; body = g.body; measure = None }
+
+abbrev pub ground_definitions : List Definition
+ground_definitions = map ground_definition ground

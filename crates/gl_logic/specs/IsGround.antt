@@ -1,5 +1,5 @@
 -- Whether a definition is the ground definition of its number, but for its name and the names of its formals.
-use Rattle.std.specs.Prelude.{◌≡◌, ℕ, eqb, List, length, slice_get, IfSome}
+use Rattle.std.specs.Prelude.{◌≡◌, ℕ, eqb, List, length, Some, slice_get, IfSome}
 use Rattle.std.specs.List.{position_or_len}
 use Rattle.gl_logic.specs.Definition.{Definition}
 use Rattle.gl_logic.specs.Ground.{ground}
@@ -22,3 +22,7 @@ abbrev mutual
 -- where there is a ground definition i
 abbrev pub IsGround : ℕ → Definition → Type 0
 IsGround i d = IfSome (slice_get ground i) (λ g. (length d.formals ≡ g.arity) × (placed d.formals d.body ≡ g.body))
+
+-- in each world
+abbrev pub AreGround : List Definition → Type 0
+AreGround definitions = (i : ℕ) (d : Definition) → slice_get definitions i ≡ Some d → IsGround i d

@@ -2,6 +2,7 @@
 use Rattle.std.specs.Prelude.{◌≡◌, ℕ, zero, suc, eqb, List, map, Option, Some, None, position, slice_get, get_or}
 use Rattle.std.specs.List.{find}
 use Rattle.std.specs.Option.{option_map}
+use Rattle.gl_logic.specs.Every.{Every}
 use Rattle.gl_logic.specs.Object.{Object}
 
 -- the first place of a name
@@ -10,6 +11,10 @@ place_of names name = position (eqb name) names
 
 abbrev pub IsFree : List ℕ → ℕ → Type 0
 IsFree names name = place_of names name ≡ None
+
+-- none of the others is among the names
+abbrev pub AreFreeNames : List ℕ → List ℕ → Type 0
+AreFreeNames names others = Every (IsFree names) others
 
 -- no name stands at two places
 abbrev pub AreDifferentNames : List ℕ → Type 0

@@ -59,10 +59,18 @@ abbrev mutual
   walks_by call Last env = Some (record { values = []; seen = []; made = [] })
   walks_by call (More t ts) env = then (walk_by call t env) (λ r. then (walks_by call ts env) (joined r))
 
+-- the walk of the body of definition f on these arguments
+abbrev pub body_by : (ℕ → Walks → Option Walk) → List Definition → ℕ → List Object → Option Walk
+body_by call definitions f args = then (slice_get definitions f) (λ d. walk_by call d.body (extended d.formals args []))
+
 -- what a call of definition f gives where at most n definitions more may be opened inside one another
 abbrev pub opened : List Definition → ℕ → ℕ → Walks → Option Walk
 opened definitions zero f rs = None
-opened definitions (suc n) f rs = then (slice_get definitions f) (λ d. then (walk_by (opened definitions n) d.body (extended d.formals rs.values [])) (ended rs.seen (rs.made ++ (f, rs.values) ∷ [])))
+opened definitions (suc n) f rs = then (body_by (opened definitions n) definitions f rs.values) (ended rs.seen (rs.made ++ (f, rs.values) ∷ []))
+
+-- a call's own walk: that of the body that it opens, with at most n definitions opened inside one another there
+abbrev pub body_walk : List Definition → ℕ → ℕ → List Object → Option Walk
+body_walk definitions n f args = body_by (opened definitions n) definitions f args
 
 -- the walk of a term with at most n definitions opened inside one another, or none
 abbrev pub walk : List Definition → ℕ → List (ℕ × Object) → Exp → Option Walk

@@ -1,22 +1,17 @@
 -- Values and counts of terms, computed outside this project.
 use Rattle.std.specs.Prelude.{◌≡◌, ℕ, zero, suc, List, [], ◌∷◌, ◌++◌, map, Some, None, pos, negsuc}
-use Rattle.std.specs.List.{range_with_len}
 use Rattle.gl_logic.specs.Object.{Object, Int, Symbol, Cons, nil, true_object}
 use Rattle.gl_logic.specs.Exp.{Exp, Var, Const, If, Prim, Call, Let, Last, More}
 use Rattle.gl_logic.specs.Definition.{Definition}
-use Rattle.gl_logic.specs.Ground.{Ground, ground}
+use Rattle.gl_logic.specs.Ground.{ground_definitions}
 use Rattle.gl_logic.specs.WorldSeen.{WorldSeen}
 use Rattle.gl_logic.specs.Evaluate.{evaluate}
 use Rattle.gl_logic.specs.Counts.{cost, memoized_cost}
 use Rattle.gl_logic.specs.CellCounts.{distinct_cells}
 use Rattle.gl_logic.specs.declared.prim.Primitive.TheVariants as prim
 
--- the names of definitions do not matter here, and the formals are named by their places
-abbrev definition_from : Ground → Definition
-definition_from g = record { name = 0; formals = range_with_len 0 g.arity; body = g.body; measure = None }
-
 abbrev world_of : List Definition → WorldSeen
-world_of more = record { definitions = map definition_from ground ++ more; constants = []; events = [] }
+world_of more = record { definitions = ground_definitions ++ more; cliques = map (λ _. 1) (ground_definitions ++ more); constants = []; events = [] }
 
 pub record CountRow : Type 0 where
   pub world : WorldSeen

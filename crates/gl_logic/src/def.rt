@@ -4,6 +4,19 @@ use super::ids::TextId;
 use super::names::Names;
 use super::term::Term;
 
+/// A natural number that is told of a definition's formals.
+#[derive(Clone, Copy, Debug, PartialEq, Eq)]
+pub enum Natural {
+    /// `(acl2-count v)`
+    Count(TextId),
+    /// `(len v)`
+    Len(TextId),
+    /// `(nfix v)`
+    Nat(TextId),
+    /// `(nfix (- b a))`, as `Gap(a, b)`
+    Gap(TextId, TextId),
+}
+
 /// What falls at each recursive call of a definition.
 #[derive(Clone, Copy, Debug, PartialEq, Eq)]
 pub enum Measure {
@@ -15,6 +28,8 @@ pub enum Measure {
     Nat(TextId),
     /// `(nfix (- b a))`, as `Gap(a, b)`
     Gap(TextId, TextId),
+    /// `(make-ord 1 (+ 1 m1) m2)`: two natural numbers of which the first decides.
+    Lex(Natural, Natural),
 }
 
 /// A definition: its name, the names of its formals in order, its body, and the measure under which it

@@ -6,6 +6,9 @@
 
 mod assignment;
 mod def;
+mod defs;
+pub mod extension_laws;
+pub mod ground_laws;
 mod ids;
 pub mod integer_laws;
 pub mod laws;
@@ -13,16 +16,19 @@ mod name_index;
 mod named_trees;
 mod names;
 pub mod object_laws;
+pub mod part_laws;
 mod prim;
 mod term;
 mod terms;
 mod texts;
+pub mod total_laws;
 mod tree;
 pub mod worked;
 mod world;
 
 pub use assignment::Assignment;
-pub use def::{Def, Measure};
+pub use def::{Def, Measure, Natural};
+pub use defs::{Defs, Measures};
 pub use ids::{FnId, NoMemory, TextId};
 pub use names::Names;
 pub use prim::Primitive as Prim;

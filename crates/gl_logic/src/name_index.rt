@@ -1,8 +1,10 @@
 //! Places kept by name.
 
-ghost use Rattle.std.specs.Prelude.{◌≡◌, ℕ, ◌-◌, ◌^◌, ◌<◌, [], length, if◌then◌else◌, eqb, Some, OnOk};
-ghost use Rattle.gl_logic.specs.Named.{place_in};
+ghost use Rattle.std.specs.Prelude.{◌≡◌, ℕ, ◌-◌, ◌^◌, ◌<◌, ◌≤◌, [], length, take, if◌then◌else◌, eqb, Some, OnOk};
+ghost use Rattle.gl_logic.specs.Named.{IsIndex, place_in};
+ghost use Rattle.gl_logic.specs.NewNames.{HasRoom, AreFreeFrom, numbers_of};
 
+use super::def::Def;
 use super::ids::{NoMemory, TextId};
 use std::alloc::Global;
 use std::marker::Model;
@@ -45,6 +47,7 @@ impl NameIndex {
     /// Makes room for a name. No place changes.
     pub(crate) fn reserve(&mut self, name: TextId) -> Result<(), NoMemory>
         ensures room { OnOk result (name.number < length self.new) }
+        ensures kept { length self.old ≤ length self.new }
         ensures same { (other : ℕ) → place_in self.new other ≡ place_in self.old other }
     {
         while self.places.len() <= name.number as usize {
@@ -57,8 +60,33 @@ impl NameIndex {
     pub(crate) fn put(&mut self, name: TextId, place: u64)
         requires room { name.number < length self.old }
         requires small { place < 2 ^ 64 - 1 }
-        ensures { (other : ℕ) → place_in self.new other ≡ (if eqb name.number other then Some place else place_in self.old other) }
+        ensures kept { length self.new ≡ length self.old }
+        ensures places { (other : ℕ) → place_in self.new other ≡ (if eqb name.number other then Some place else place_in self.old other) }
     {
         self.places[name.number as usize] = place + 1;
+    }
+
+    /// Makes room for the names of these definitions. No place changes.
+    pub(crate) fn reserve_all(&mut self, defs: &[Def]) -> Result<(), NoMemory>
+        ensures room { OnOk result (HasRoom (length self.new) defs.now 0 (length defs.now)) }
+        ensures same { (other : ℕ) → place_in self.new other ≡ place_in self.old other }
+    {
+        for def in defs {
+            self.reserve(def.name)?;
+        }
+        Ok(())
+    }
+
+    /// Gives the names of the definitions from `first` on their places.
+    pub(crate) fn put_all(&mut self, defs: &[Def], first: usize)
+        requires first { first ≤ length defs.now }
+        requires index { IsIndex self.old (take first (numbers_of defs.now)) }
+        requires free { AreFreeFrom first (numbers_of defs.now) }
+        requires room { HasRoom (length self.old) defs.now first (length defs.now) }
+        ensures { IsIndex self.new (numbers_of defs.now) }
+    {
+        for i in first..defs.len() {
+            self.put(defs[i].name, i as u64);
+        }
     }
 }

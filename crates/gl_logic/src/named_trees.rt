@@ -1,6 +1,6 @@
 //! Objects with a name each.
 
-ghost use Rattle.std.specs.Prelude.{◌≡◌, ◌<◌, [], ◌∷◌, ◌++◌, length, map, slice_get, Some, OnOk, OnErr};
+ghost use Rattle.std.specs.Prelude.{◌≡◌, ◌↔◌, ◌<◌, [], ◌∷◌, ◌++◌, length, map, slice_get, Some, OnOk, OnErr};
 ghost use Rattle.std.specs.Option.{option_copied};
 ghost use Rattle.gl_logic.specs.Named.{IsFree, names_of, object_named};
 
@@ -80,7 +80,8 @@ impl NamedTrees {
 
     /// The object of a name.
     pub(crate) fn get(&self, name: TextId) -> Option<&Tree>
-        ensures { option_copied result ≡ object_named self.now name.number }
+        ensures value { option_copied result ≡ object_named self.now name.number }
+        ensures free { (result ≡ None) ↔ IsFree (names_of self.now) name.number }
     {
         match self.index.get(name) {
             Some(place) => Some(&self.entries[place as usize].tree),

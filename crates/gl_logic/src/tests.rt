@@ -5,6 +5,8 @@ ghost use Rattle.gl_logic.specs.Exp.{Last, More};
 ghost use Rattle.gl_logic.specs.Exp as exp;
 ghost use Rattle.gl_logic.specs.declared.prim.Primitive.TheVariants as prim;
 ghost use Rattle.gl_logic.specs.TermOf.{term_of};
+ghost use Rattle.gl_logic.specs.DefinitionOf.{definition_of};
+ghost use Rattle.gl_logic.specs.WorkedDefinitions.{atom_definition};
 
 use super::*;
 use std::alloc::Global;
@@ -68,23 +70,59 @@ fn not_a_cons(alloc: Global) -> Result<Term, NoMemory>
 }
 
 // the first ground definition, under the name of number 9
+fn atom(alloc: Global) -> Result<Def, NoMemory>
+    ensures { IfOk result (λ d. definition_of d ≡ atom_definition) }
+{
+    let mut formals = Names::new(alloc);
+    formals.push(TextId { number: 5 })?;
+    let body = not_a_cons(alloc)?;
+    Ok(Def {
+        name: TextId { number: 9 },
+        formals,
+        body,
+        measure: None,
+    })
+}
+
 #[test]
 fn a_definition_is_added(rt: HostRuntime) -> Result<(), Fail> {
     let alloc = rt.alloc();
     let mut world = World::new(alloc)?;
-    let mut formals = Names::new(alloc);
-    formals.push(TextId { number: 5 })?;
-    let name = TextId { number: 9 };
-    let body = not_a_cons(alloc)?;
-    let f = world.push(Def {
-        name,
-        formals,
-        body,
-        measure: None,
-    })?;
+    let f = world.push(atom(alloc)?)?;
     assert_eq!(rt; world.count(), 1);
-    assert_eq!(rt; world.find(name), Some(f));
+    assert_eq!(rt; world.find(TextId { number: 9 }), Some(f));
     assert_eq!(rt; world.def(f).name.number, 9);
+    Ok(())
+}
+
+#[test]
+fn a_clique_is_added(rt: HostRuntime) -> Result<(), Fail> {
+    let alloc = rt.alloc();
+    let mut world = World::new(alloc)?;
+    let mut defs = Defs::new(alloc);
+    defs.push(atom(alloc)?)?;
+    assert_eq!(rt; defs.len(), 1);
+    assert_eq!(rt; defs.at(0).name.number, 9);
+    let f = world.push_clique(defs)?;
+    assert_eq!(rt; f.number, 0);
+    assert_eq!(rt; world.count(), 1);
+    assert_eq!(rt; world.find(TextId { number: 9 }), Some(f));
+    Ok(())
+}
+
+#[test]
+fn measures_are_listed(rt: HostRuntime) -> Result<(), Fail> {
+    let alloc = rt.alloc();
+    let mut measures = Measures::new(alloc);
+    let measure = Measure::Lex(
+        Natural::Nat(TextId { number: 5 }),
+        Natural::Len(TextId { number: 6 }),
+    );
+    measures.push(None)?;
+    measures.push(Some(measure))?;
+    assert_eq!(rt; measures.len(), 2);
+    assert!(rt; *measures.at(0) == None);
+    assert!(rt; *measures.at(1) == Some(measure));
     Ok(())
 }
 

@@ -1,14 +1,17 @@
 //! Worlds: definitions, constants and accepted events.
 
-ghost use Rattle.std.specs.Prelude.{◌≡◌, ◌<◌, [], ◌∷◌, ◌++◌, length, map, slice_get, Some, IfOk, OnOk, OnErr};
+ghost use Rattle.std.specs.Prelude.{◌≡◌, ◌↔◌, ◌<◌, [], ◌∷◌, ◌++◌, length, map, slice_get, Some, IfOk, OnOk, OnErr};
 ghost use Rattle.std.specs.Option.{option_copied, option_map};
 ghost use Rattle.gl_logic.specs.DefinitionOf.{definition_of};
 ghost use Rattle.gl_logic.specs.IsTermOf.{IsTermOf};
 ghost use Rattle.gl_logic.specs.IsGround.{IsGround};
-ghost use Rattle.gl_logic.specs.Named.{AreDifferentNames, IsFree, names_of, object_named, place_of};
-ghost use Rattle.gl_logic.specs.WorldSeen.{IsWorld, definition_names, with_definition, with_constant, with_event};
+ghost use Rattle.gl_logic.specs.Named.{AreDifferentNames, AreFreeNames, IsFree, names_of, object_named, place_of};
+ghost use Rattle.gl_logic.specs.IsAdmissible.{IsAdmissible};
+ghost use Rattle.gl_logic.specs.IsTotal.{IsTotal};
+ghost use Rattle.gl_logic.specs.WorldSeen.{IsWorld, IsClique, IsDefinitionOf, definition_names, with_clique, with_definition, with_constant, with_event};
 
 use super::def::Def;
+use super::defs::Defs;
 use super::ids::{FnId, NoMemory, TextId};
 use super::name_index::NameIndex;
 use super::named_trees::NamedTrees;
@@ -22,6 +25,8 @@ use std::marker::Model;
 pub struct World {
     definitions: Vec<Def>,
     definition_index: NameIndex,
+    // how many members each clique has
+    cliques: Vec<u64>,
     constants: NamedTrees,
     events: NamedTrees,
 }
@@ -37,45 +42,80 @@ impl Model for World {
 
     ghost use Rattle.gl_logic.specs.DefinitionOf.{definition_of};
 
-    ghost view = { λ w. record { definitions = map definition_of w.definitions.items; constants = w.constants; events = w.events } };
+    ghost view = { λ w. record { definitions = map definition_of w.definitions.items; cliques = w.cliques.items; constants = w.constants; events = w.events } };
 
-    ghost invariant = { λ w. IsIndex w.definition_index (definition_names (map definition_of w.definitions.items)) × IsWorld (map definition_of w.definitions.items) };
+    ghost invariant = { λ w. IsIndex w.definition_index (definition_names (map definition_of w.definitions.items)) × IsWorld (map definition_of w.definitions.items) w.cliques.items };
 }
 
 impl World {
     /// No definitions, constants or events.
     pub fn new(alloc: Global) -> Result<World, NoMemory>
-        ensures { IfOk result (λ w. (w.definitions ≡ []) × (w.constants ≡ []) × (w.events ≡ [])) }
+        ensures { IfOk result (λ w. (w.definitions ≡ []) × (w.cliques ≡ []) × (w.constants ≡ []) × (w.events ≡ [])) }
     {
         Ok(World {
             definitions: Vec::new(alloc),
             definition_index: NameIndex::new(alloc),
+            cliques: Vec::new(alloc),
             constants: NamedTrees::new(alloc),
             events: NamedTrees::new(alloc),
         })
     }
 
-    /// Adds a definition, whose number is the count of those before. It is lost where memory runs out.
+    /// Adds a definition, whose number is the count of those before: a clique of one. It is lost where
+    /// memory runs out.
     pub fn push(&mut self, def: Def) -> Result<FnId, NoMemory>
         requires free { IsFree (definition_names self.old.definitions) def.name.number }
         requires formals { AreDifferentNames def.formals }
         requires body { IsTermOf (self.old.definitions ++ definition_of def ∷ []) (definition_of def).body }
         requires same_ground { IsGround (length self.old.definitions) (definition_of def) }
+        requires admissible { IsAdmissible (length self.old.definitions) (definition_of def ∷ []) }
         ensures number { IfOk result (λ f. f.number ≡ length self.old.definitions) }
         ensures ok { OnOk result (self.new ≡ with_definition self.old (definition_of def)) }
         ensures err { OnErr result (self.new ≡ self.old) }
     {
         let name = def.name;
         self.definition_index.reserve(name)?;
+        self.cliques.reserve(1)?;
         let number = self.definitions.len() as u64;
         self.definitions.push(def)?;
         self.definition_index.put(name, number);
-        Ok(FnId { number })
+        match self.cliques.push(1) {
+            Ok(()) => Ok(FnId { number }),
+            Err(_) => unreachable!(),
+        }
+    }
+
+    /// Adds definitions that may call one another. They get numbers from the count of those before on, in
+    /// their order, and the answer is the first. They are lost where memory runs out.
+    pub fn push_clique(&mut self, defs: Defs) -> Result<FnId, NoMemory>
+        requires some { 0 < length defs }
+        requires free { AreFreeNames (definition_names self.old.definitions) (definition_names defs) }
+        requires different { AreDifferentNames (definition_names defs) }
+        requires clique { IsClique self.old.definitions defs }
+        ensures number { IfOk result (λ f. f.number ≡ length self.old.definitions) }
+        ensures ok { OnOk result (self.new ≡ with_clique self.old defs) }
+        ensures err { OnErr result (self.new ≡ self.old) }
+    {
+        let mut members = defs.into_items();
+        self.definition_index.reserve_all(members.as_slice())?;
+        self.cliques.reserve(1)?;
+        let first = self.definitions.len();
+        let count = members.len() as u64;
+        self.definitions.append(&mut members)?;
+        self.definition_index
+            .put_all(self.definitions.as_slice(), first);
+        match self.cliques.push(count) {
+            Ok(()) => Ok(FnId {
+                number: first as u64,
+            }),
+            Err(_) => unreachable!(),
+        }
     }
 
     /// The definition of a name. Takes no memory.
     pub fn find(&self, name: TextId) -> Option<FnId>
-        ensures { option_map (λ f. f.number) result ≡ place_of (definition_names self.now.definitions) name.number }
+        ensures place { option_map (λ f. f.number) result ≡ place_of (definition_names self.now.definitions) name.number }
+        ensures free { (result ≡ None) ↔ IsFree (definition_names self.now.definitions) name.number }
     {
         match self.definition_index.get(name) {
             Some(number) => Some(FnId { number }),
@@ -86,14 +126,18 @@ impl World {
     /// A definition by its number. Takes no memory.
     pub fn def(&self, f: FnId) -> &Def
         requires { f.number < length self.now.definitions }
-        ensures { slice_get self.now.definitions f.number ≡ Some (definition_of result.now) }
+        ensures found { slice_get self.now.definitions f.number ≡ Some (definition_of result.now) }
+        ensures proper { IsDefinitionOf self.now.definitions f.number (definition_of result.now) }
     {
         &self.definitions[f.number as usize]
     }
 
-    /// How many definitions there are.
+    /// How many definitions there are. They make a world, so each term of them has a value on each
+    /// environment.
     pub fn count(&self) -> u64
-        ensures { result ≡ length self.now.definitions }
+        ensures count { result ≡ length self.now.definitions }
+        ensures world { IsWorld self.now.definitions self.now.cliques }
+        ensures total { IsTotal self.now.definitions }
     {
         self.definitions.len() as u64
     }
@@ -124,7 +168,8 @@ impl World {
 
     /// The value of the constant of a name. Takes no memory.
     pub fn constant(&self, name: TextId) -> Option<&Tree>
-        ensures { option_copied result ≡ object_named self.now.constants name.number }
+        ensures value { option_copied result ≡ object_named self.now.constants name.number }
+        ensures free { (result ≡ None) ↔ IsFree (names_of self.now.constants) name.number }
     {
         self.constants.get(name)
     }
@@ -140,16 +185,9 @@ impl World {
 
     /// The form of the event of a name. Takes no memory.
     pub fn noted(&self, name: TextId) -> Option<&Tree>
-        ensures { option_copied result ≡ object_named self.now.events name.number }
+        ensures form { option_copied result ≡ object_named self.now.events name.number }
+        ensures free { (result ≡ None) ↔ IsFree (names_of self.now.events) name.number }
     {
         self.events.get(name)
-    }
-
-    /// A law: each definition's formals are different, its body calls earlier definitions and its own,
-    /// and where there is a ground definition of its number it is that one but for names.
-    pub fn is_world(&self)
-        ensures { IsWorld self.now.definitions }
-    {
-        let _definitions = &self.definitions;
     }
 }

@@ -1,5 +1,5 @@
 -- Each cell of a live id's object is held.
-use Rattle.std.proofs.Common.{◌≡◌, true, ℕ, arith, length, List, refl, sym, ◌∙◌, ap, subst, inl, inr}
+use Rattle.std.proofs.Common.{◌≡◌, true, ℕ, arith, length, List, sym, ◌∙◌, ap, inl, inr}
 use Rattle.std.proofs.lemmas.List.{get_or_default}
 use Rattle.std.specs.List.{Contains}
 use Rattle.gl_logic.specs.Object.{Object, Int, Character, Symbol, Text, Cons, nil, car, cdr}
@@ -9,12 +9,10 @@ use Rattle.hons_arena.specs.declared.id.Id.{Id}
 use Rattle.hons_arena.specs.declared.id.IdKind.{IdKind}
 use Rattle.hons_arena.specs.declared.id.IdKind.TheVariants as kind
 use Rattle.hons_arena.specs.Cells.{cell_object, objects_of, cell_at, PartsBelow, IsInterned}
-use Rattle.hons_arena.specs.Held.{Held}
-use Rattle.hons_arena.specs.Ids.{object_at, object_numbered, IsNumberBelow, IsBelow, IsLive}
+use Rattle.hons_arena.specs.Ids.{object_at, object_numbered, IsNumberBelow, IsBelow}
 use Rattle.hons_arena.specs.Parts.{AreHeld}
 use Rattle.hons_arena.proofs.CellsIn.{IsPart, cell_of, of_cell}
 use Rattle.gl_logic.specs.Parts.{is_cell}
-use Rattle.hons_arena.proofs.Entering.{seen}
 use Rattle.hons_arena.proofs.Interned.{object_is, parts_live, objects_count}
 
 module _ (cells : List Cell) (interned : IsInterned cells) where
@@ -35,7 +33,7 @@ module _ (cells : List Cell) (interned : IsInterned cells) where
       → (c : Cell) → PartsBelow n c → cell_object objects c ≡ Cons a d → AreHeld objects a × AreHeld objects d
   parts_held a d f g (cell.Int z) p e = absurd cc
   parts_held a d f g (cell.Character z) p e = absurd cc
-  parts_held a d f g (cell.Cons i j) p e = (f i p.0 (ap car e), g j p.1 (ap cdr e))
+  parts_held a d f g (cell.Cons s t i j) p e = (f (record { kind = s; number = i }) p.0 (ap car e), g (record { kind = t; number = j }) p.1 (ap cdr e))
 
   cons_held : (a d : Object) → ((j : Id) → IsBelow n j → object_at objects j ≡ a → AreHeld objects a) → ((j : Id) → IsBelow n j → object_at objects j ≡ d → AreHeld objects d)
       → (t : IdKind) (k : ℕ) → IsNumberBelow n t k → object_numbered objects t k ≡ Cons a d → AreHeld objects a × AreHeld objects d
@@ -48,14 +46,9 @@ module _ (cells : List Cell) (interned : IsInterned cells) where
   either_held a d y cell t k h e both (inr (inl first)) = both.0 y (cell_of a y cell first)
   either_held a d y cell t k h e both (inr (inr rest)) = both.1 y (cell_of d y cell rest)
 
-  all_held : (x : Object) (j : Id) → IsBelow n j → object_at objects j ≡ x → AreHeld objects x
+  pub all_held : (x : Object) (j : Id) → IsBelow n j → object_at objects j ≡ x → AreHeld objects x
   all_held (Cons a d) j h e y c = either_held a d y (of_cell (Cons a d) y c).0 j.kind j.number h e (cons_held a d (all_held a) (all_held d) j.kind j.number h e) (of_cell (Cons a d) y c).1
   all_held (Int z) j h e y c = itself_held y (of_cell (Int z) y c).0 j.kind j.number h (e ∙ sym (of_cell (Int z) y c).1)
   all_held (Character z) j h e y c = itself_held y (of_cell (Character z) y c).0 j.kind j.number h (e ∙ sym (of_cell (Character z) y c).1)
   all_held (Symbol z) j h e y c = itself_held y (of_cell (Symbol z) y c).0 j.kind j.number h (e ∙ sym (of_cell (Symbol z) y c).1)
   all_held (Text z) j h e y c = itself_held y (of_cell (Text z) y c).0 j.kind j.number h (e ∙ sym (of_cell (Text z) y c).1)
-
-pub live_held : (limit : ℕ) (cells : List Cell) (held : Held) → IsInterned cells → seen limit cells ≡ held → (id : Id) → IsLive held.objects id → AreHeld held.objects (object_at held.objects id)
-live_held limit cells held interned is =
-    subst (λ (s : Held). (id : Id) → IsLive s.objects id → AreHeld s.objects (object_at s.objects id)) is
-    (λ id h. all_held cells interned (object_at (objects_of cells) id) id (subst (λ (m : ℕ). IsBelow m id) (objects_count cells interned) h) refl)

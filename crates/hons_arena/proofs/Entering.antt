@@ -1,5 +1,5 @@
 -- What looking a cell up, and entering it, do to what is held.
-use Rattle.std.proofs.Common.{◌≡◌, ◌≢◌, ℕ, ◌<◌, ◌≤◌, arith, length, List, [], ◌∷◌, ◌++◌, Option, Some, sym, ◌∙◌, ap, subst, refl, get_or, inl, inr, set, length-set}
+use Rattle.std.proofs.Common.{◌≡◌, ◌≢◌, ℕ, ◌<◌, ◌≤◌, arith, length, List, [], ◌∷◌, ◌++◌, sym, ◌∙◌, ap, subst, refl, get_or, inl, inr, set}
 use Rattle.std.proofs.lemmas.List.{get_or_push, length_push}
 use Rattle.std.specs.List.{Contains}
 use Rattle.gl_logic.specs.Object.{Object, nil}
@@ -7,12 +7,13 @@ use Rattle.hons_arena.specs.declared.cell.Cell.{Cell}
 use Rattle.hons_arena.specs.declared.id.Id.{Id}
 use Rattle.hons_arena.specs.declared.id.IdKind.TheVariants as kind
 use Rattle.hons_arena.specs.Cells.{cell_object, objects_of, PartsBelow, IsInterned}
-use Rattle.hons_arena.specs.Held.{Held, Enters, HasNoCell, IsEachOnce}
-use Rattle.hons_arena.specs.Ids.{IsIdOf}
+use Rattle.hons_arena.specs.Held.{Held, Enters, HasNoCell, IsWhole}
+use Rattle.hons_arena.specs.Ids.{object_at, IsBelow, IsIdOf}
 use Rattle.hons_arena.specs.Probe.{IsAbsent, IsFoundAt}
 use Rattle.hons_arena.specs.Sound.{IsSound}
-use Rattle.hons_arena.specs.Table.{IsFreeFor}
-use Rattle.hons_arena.proofs.Interned.{objects_count, each_once, absent_held, found_held, found_contains, interned_push}
+use Rattle.hons_arena.specs.Table.{empty, most_slots, IsTable, IsFreeFor}
+use Rattle.hons_arena.proofs.Closed.{all_held}
+use Rattle.hons_arena.proofs.Interned.{objects_count, each_once, same_ids, absent_held, found_held, found_contains, interned_push}
 use Rattle.hons_arena.proofs.Objects.{objects-push}
 use Rattle.hons_arena.proofs.Tables.{table-push}
 
@@ -25,8 +26,13 @@ cell_numbered k = record { kind = kind.Cell; number = k }
 pub count_is : (limit : ℕ) (cells : List Cell) (held : Held) → IsInterned cells → seen limit cells ≡ held → length cells ≡ length held.objects
 count_is limit cells held interned is = sym (objects_count cells interned) ∙ ap (λ (h : Held). length h.objects) is
 
-pub held_once : (limit : ℕ) (cells : List Cell) (held : Held) → IsInterned cells → seen limit cells ≡ held → IsEachOnce held.objects
-held_once limit cells held interned is = subst (λ (h : Held). IsEachOnce h.objects) is (each_once cells interned)
+pub whole_from : (limit : ℕ) (cells : List Cell) (held : Held) → IsInterned cells → length cells ≤ limit → seen limit cells ≡ held → IsWhole held
+whole_from limit cells held interned few is = subst IsWhole is (record {
+  within = omega (arith, few, objects_count cells interned);
+  different = each_once cells interned;
+  ids = same_ids cells interned;
+  parts = λ id h. all_held cells interned (object_at (objects_of cells) id) id (subst (λ (m : ℕ). IsBelow m id) (objects_count cells interned) h) refl;
+})
 
 module _ (limit : ℕ) (cells : List Cell) (c : Cell) (interned : IsInterned cells) where
   parts_here : (held : Held) → seen limit cells ≡ held → PartsBelow (length held.objects) c → PartsBelow (length cells) c
@@ -38,8 +44,8 @@ module _ (limit : ℕ) (cells : List Cell) (c : Cell) (interned : IsInterned cel
     pub enters : Enters held.objects held.objects (cell_object held.objects c)
     pub never_full : HasNoCell held (cell_object held.objects c) → ⊥
 
-  pub found : (held : Held) (slots : List (Option ℕ)) (q k : ℕ) (id : Id) → seen limit cells ≡ held → PartsBelow (length held.objects) c → IsFoundAt cells slots c q k → id ≡ cell_numbered k → Has held id
-  found held slots q k id is parts at e =
+  pub found : (held : Held) (k : ℕ) (id : Id) → seen limit cells ≡ held → PartsBelow (length held.objects) c → IsFoundAt cells c k → id ≡ cell_numbered k → Has held id
+  found held k id is parts at e =
       let p : PartsBelow (length cells) c = parts_here held is parts in
       let contains : Contains (objects_of cells) (cell_object (objects_of cells) c) = found_contains cells interned c p k at.held at.keeps in
       subst (λ (i : Id). Has held i) (sym e) (subst (λ (h : Held). Has h (cell_numbered k)) is (record {
@@ -56,42 +62,53 @@ module _ (limit : ℕ) (cells : List Cell) (c : Cell) (interned : IsInterned cel
       })
 
   -- a cell that was added
-  pub record Gets (held : Held) (new : List Object) (id : Id) : Type 0 where
-    pub id_of : IsIdOf new (cell_object held.objects c) id
-    pub enters : Enters held.objects new (cell_object held.objects c)
+  pub record Gets (held new : Held) (id : Id) : Type 0 where
+    pub id_of : IsIdOf new.objects (cell_object held.objects c) id
+    pub enters : Enters held.objects new.objects (cell_object held.objects c)
     pub not_full : HasNoCell held (cell_object held.objects c) → ⊥
+    pub whole : IsWhole new
 
-  pub added : (held : Held) (new : List Cell) (k : ℕ) (id : Id) → seen limit cells ≡ held → PartsBelow (length held.objects) c → IsAbsent cells c → length cells ≡ k → k ≢ limit → new ≡ cells ++ c ∷ [] → id ≡ cell_numbered k
-      → Gets held (objects_of new) id
-  added held new k id is parts absent many room e f =
+  pub added : (held : Held) (new : List Cell) (k : ℕ) (id : Id) → length cells ≤ limit → seen limit cells ≡ held → PartsBelow (length held.objects) c → IsAbsent cells c → length cells ≡ k → k ≢ limit → new ≡ cells ++ c ∷ [] → id ≡ cell_numbered k
+      → Gets held (seen limit new) id
+  added held new k id few is parts absent many room e f =
       let p : PartsBelow (length cells) c = parts_here held is parts in
       let x : Object = cell_object (objects_of cells) c in
       let grown : objects_of new ≡ objects_of cells ++ x ∷ [] = ap objects_of e ∙ objects-push [] cells c in
       let count : length (objects_of cells) ≡ k = objects_count cells interned ∙ many in
-      subst (λ (i : Id). Gets held (objects_of new) i) (sym f) (subst (λ (h : Held). Gets h (objects_of new) (cell_numbered k)) is (record {
+      let now : IsInterned new = subst (λ (cs : List Cell). IsInterned cs) (sym e) (interned_push cells interned c p absent) in
+      subst (λ (i : Id). Gets held (seen limit new) i) (sym f) (subst (λ (h : Held). Gets h (seen limit new) (cell_numbered k)) is (record {
         id_of = (omega (arith, ap length grown, length_push (objects_of cells) x, count), ap (λ xs. get_or xs k nil) grown ∙ get_or_push (objects_of cells) x nil k count);
         enters = inr (absent_held cells interned c p absent, grown);
         not_full = λ h. room (sym many ∙ (sym (objects_count cells interned) ∙ h.full));
+        whole = whole_from limit new (seen limit new) now (omega (arith, few, many, room, ap length e, length_push cells c)) refl;
       }))
 
-pub sound_push : (limit : ℕ) (cells : List Cell) (capacity : ℕ) (slots : List (Option ℕ)) (c : Cell) (q k : ℕ) (new : List Cell) (more : ℕ) → IsSound limit cells capacity slots → PartsBelow (length cells) c → IsAbsent cells c → q < length slots
-    → IsFreeFor slots c (length cells) q → length cells ≡ k → k ≢ limit → new ≡ cells ++ c ∷ [] → limit ≤ more → IsSound limit new more (set slots q (Some k))
-sound_push limit cells capacity slots c q k new more s parts absent within free many room e l = record {
-  few = omega (arith, ap length e, length_push cells c, many, room, s.few);
+pub sound_push : (limit : ℕ) (cells : List Cell) (capacity : ℕ) (slots : List ℕ) (places : ℕ) (c : Cell) (new : List Cell) (more : ℕ) (grown : List ℕ) (reserved : ℕ) → IsSound limit cells capacity slots places → PartsBelow (length cells) c → IsAbsent cells c
+    → length cells ≢ limit → new ≡ cells ++ c ∷ [] → limit ≤ more → IsTable new grown → length new < length grown → length grown ≤ most_slots limit → places ≤ reserved → IsSound limit new more grown reserved
+sound_push limit cells capacity slots places c new more grown reserved s parts absent room e l table free size kept = record {
+  few = omega (arith, ap length e, length_push cells c, room, s.few);
+  small = s.small;
   room = l;
-  size = length-set slots q (Some k) ∙ s.size;
+  free = free;
+  size = size;
+  reserved = omega (arith, s.reserved, kept);
   interned = subst (λ (cs : List Cell). IsInterned cs) (sym e) (interned_push cells s.interned c parts absent);
-  table = subst (λ (cs : List Cell). Rattle.hons_arena.specs.Table.IsTable cs (set slots q (Some k))) (sym e) (subst (λ (n : ℕ). Rattle.hons_arena.specs.Table.IsTable (cells ++ c ∷ []) (set slots q (Some n))) many (table-push cells slots c q within s.table free));
+  table = table;
 }
 
--- what was said of lists that are these
-pub found_here : (cells xs : List Cell) (slots ys : List (Option ℕ)) (c : Cell) (q k : ℕ) → xs ≡ cells → ys ≡ slots → IsFoundAt xs ys c q k → IsFoundAt cells slots c q k
-found_here cells xs slots ys c q k e f h = subst (λ (zs : List Cell). IsFoundAt zs slots c q k) e (subst (λ (zs : List (Option ℕ)). IsFoundAt xs zs c q k) f h)
+-- the new cell in its slot
+pub table_added : (cells : List Cell) (slots : List ℕ) (c : Cell) (q k : ℕ) (new : List Cell) → IsTable cells slots → q < length slots → IsFreeFor slots c (length cells) q → length cells ≡ k → k < empty → new ≡ cells ++ c ∷ [] → IsTable new (set slots q k)
+table_added cells slots c q k new table within free many room e =
+    subst (λ (cs : List Cell). IsTable cs (set slots q k)) (sym e) (subst (λ (n : ℕ). IsTable (cells ++ c ∷ []) (set slots q n)) many (table-push cells slots q within table c (omega (arith, many, room)) free))
 
-pub record IsEmptyEnd (cells : List Cell) (slots : List (Option ℕ)) (c : Cell) (q : ℕ) : Type 0 where
+-- what was said of lists that are these
+pub found_here : (cells xs : List Cell) (c : Cell) (k : ℕ) → xs ≡ cells → IsFoundAt xs c k → IsFoundAt cells c k
+found_here cells xs c k e h = subst (λ (zs : List Cell). IsFoundAt zs c k) e h
+
+pub record IsEmptyEnd (cells : List Cell) (slots : List ℕ) (c : Cell) (q : ℕ) : Type 0 where
   pub absent : IsAbsent cells c
   pub within : q < length slots
   pub free : IsFreeFor slots c (length cells) q
 
-pub empty_here : (cells xs : List Cell) (slots ys : List (Option ℕ)) (c : Cell) (q : ℕ) → xs ≡ cells → ys ≡ slots → (IsAbsent xs c × (q < length ys) × IsFreeFor ys c (length xs) q) → IsEmptyEnd cells slots c q
-empty_here cells xs slots ys c q e f h = subst (λ (zs : List Cell). IsEmptyEnd zs slots c q) e (subst (λ (zs : List (Option ℕ)). IsEmptyEnd xs zs c q) f (record { absent = h.0; within = h.1; free = h.2 }))
+pub empty_here : (cells xs : List Cell) (slots ys : List ℕ) (c : Cell) (q : ℕ) → xs ≡ cells → ys ≡ slots → (IsAbsent xs c × (q < length ys) × IsFreeFor ys c (length xs) q) → IsEmptyEnd cells slots c q
+empty_here cells xs slots ys c q e f h = subst (λ (zs : List ℕ). IsEmptyEnd cells zs c q) f (subst (λ (zs : List Cell). IsEmptyEnd zs ys c q) e (record { absent = h.0; within = h.1; free = h.2 }))

@@ -1,5 +1,5 @@
 -- Different cells have different objects.
-use Rattle.std.proofs.Common.{◌≡◌, ℕ, ◌+◌, ◌<◌, ◌≤◌, arith, length, List, [], ◌∷◌, ◌++◌, sym, ◌∙◌, ap, ap₂, subst, refl, get_or, take, inl, inr}
+use Rattle.std.proofs.Common.{◌≡◌, ℕ, ◌+◌, ◌<◌, ◌≤◌, arith, length, List, [], ◌∷◌, ◌++◌, sym, ◌∙◌, ap, subst, refl, get_or, take, inl, inr}
 use Rattle.std.proofs.lemmas.Bool.{cases_lt}
 use Rattle.std.proofs.lemmas.List.{get_or_append_left, get_or_push, get_or-take, get_or_default, length_push, length-take-le}
 use Rattle.std.specs.List.{Contains}
@@ -23,18 +23,18 @@ number_more j k l kind.Cell n h = omega (arith, l, h)
 pub parts_more : (j k : ℕ) → j ≤ k → (c : Cell) → PartsBelow j c → PartsBelow k c
 parts_more j k l (cell.Int z) h = tt
 parts_more j k l (cell.Character n) h = tt
-parts_more j k l (cell.Cons a d) h = (number_more j k l a.kind a.number h.0, number_more j k l d.kind d.number h.1)
+parts_more j k l (cell.Cons s t m n) h = (number_more j k l s m h.0, number_more j k l t n h.1)
 
 -- a cell keeps no symbol and no string
 no_symbol : (xs : List Object) (c : Cell) (n : ℕ) → cell_object xs c ≡ Symbol n → ⊥
 no_symbol xs (cell.Int z) n e = cc
 no_symbol xs (cell.Character m) n e = cc
-no_symbol xs (cell.Cons a d) n e = cc
+no_symbol xs (cell.Cons s t i j) n e = cc
 
 no_text : (xs : List Object) (c : Cell) (n : ℕ) → cell_object xs c ≡ Text n → ⊥
 no_text xs (cell.Int z) n e = cc
 no_text xs (cell.Character m) n e = cc
-no_text xs (cell.Cons a d) n e = cc
+no_text xs (cell.Cons s t i j) n e = cc
 
 same_id_from : (a b : Id) → a.kind ≡ b.kind → a.number ≡ b.number → a ≡ b
 same_id_from a b k n = λ i. record { kind = k i; number = n i }
@@ -74,20 +74,21 @@ module _ (cells : List Cell) (interned : IsInterned cells) where
   same_parts x same a b h k e f = let g = ids_from_cells x same a.kind b.kind a.number b.number h k e f in same_id_from a b g.0 g.1
 
   pub same_cells : (x : Object) (c e : Cell) → PartsBelow n c → PartsBelow n e → cell_object objects c ≡ x → cell_object objects e ≡ x → c ≡ e
-  same_cells (Cons xa xd) (cell.Cons a d) (cell.Cons b f) h k p q =
-      ap₂ cell.Cons (same_parts xa (same_cells xa) a b h.0 k.0 (ap car p) (ap car q)) (same_parts xd (same_cells xd) d f h.1 k.1 (ap cdr p) (ap cdr q))
+  same_cells (Cons xa xd) (cell.Cons s t a d) (cell.Cons u v b f) h k p q =
+      let first : (s ≡ u) × (a ≡ b) = ids_from_cells xa (same_cells xa) s u a b h.0 k.0 (ap car p) (ap car q) in
+      let rest : (t ≡ v) × (d ≡ f) = ids_from_cells xd (same_cells xd) t v d f h.1 k.1 (ap cdr p) (ap cdr q) in λ i. cell.Cons (first.0 i) (rest.0 i) (first.1 i) (rest.1 i)
   same_cells x (cell.Int z) (cell.Int y) h k p q = let g : Int z ≡ Int y = p ∙ sym q in cc
   same_cells x (cell.Character i) (cell.Character j) h k p q = let g : Character i ≡ Character j = p ∙ sym q in cc
   same_cells x (cell.Int z) (cell.Character j) h k p q = let g : Int z ≡ Character j = p ∙ sym q in absurd cc
   same_cells x (cell.Character i) (cell.Int z) h k p q = let g : Character i ≡ Int z = p ∙ sym q in absurd cc
-  same_cells x (cell.Int z) (cell.Cons b f) h k p q = let g : Int z ≡ Cons (object_at objects b) (object_at objects f) = p ∙ sym q in absurd cc
-  same_cells x (cell.Character i) (cell.Cons b f) h k p q = let g : Character i ≡ Cons (object_at objects b) (object_at objects f) = p ∙ sym q in absurd cc
-  same_cells x (cell.Cons a d) (cell.Int z) h k p q = let g : Int z ≡ Cons (object_at objects a) (object_at objects d) = q ∙ sym p in absurd cc
-  same_cells x (cell.Cons a d) (cell.Character i) h k p q = let g : Character i ≡ Cons (object_at objects a) (object_at objects d) = q ∙ sym p in absurd cc
-  same_cells (Int z) (cell.Cons a d) (cell.Cons b f) h k p q = absurd cc
-  same_cells (Character i) (cell.Cons a d) (cell.Cons b f) h k p q = absurd cc
-  same_cells (Symbol i) (cell.Cons a d) (cell.Cons b f) h k p q = absurd cc
-  same_cells (Text i) (cell.Cons a d) (cell.Cons b f) h k p q = absurd cc
+  same_cells x (cell.Int z) (cell.Cons u v b f) h k p q = let g : Int z ≡ Cons (object_numbered objects u b) (object_numbered objects v f) = p ∙ sym q in absurd cc
+  same_cells x (cell.Character i) (cell.Cons u v b f) h k p q = let g : Character i ≡ Cons (object_numbered objects u b) (object_numbered objects v f) = p ∙ sym q in absurd cc
+  same_cells x (cell.Cons s t a d) (cell.Int z) h k p q = let g : Int z ≡ Cons (object_numbered objects s a) (object_numbered objects t d) = q ∙ sym p in absurd cc
+  same_cells x (cell.Cons s t a d) (cell.Character i) h k p q = let g : Character i ≡ Cons (object_numbered objects s a) (object_numbered objects t d) = q ∙ sym p in absurd cc
+  same_cells (Int z) (cell.Cons s t a d) (cell.Cons u v b f) h k p q = absurd cc
+  same_cells (Character i) (cell.Cons s t a d) (cell.Cons u v b f) h k p q = absurd cc
+  same_cells (Symbol i) (cell.Cons s t a d) (cell.Cons u v b f) h k p q = absurd cc
+  same_cells (Text i) (cell.Cons s t a d) (cell.Cons u v b f) h k p q = absurd cc
 
   -- live ids of equal objects are equal
   pub same_ids : (a b : Id) → IsLive objects a → IsLive objects b → object_at objects a ≡ object_at objects b → a ≡ b

@@ -3,6 +3,7 @@ pub mod Closed
 pub mod Counting
 pub mod Elements
 pub mod Entering
+pub mod Homes
 pub mod Interned
 pub mod Objects
 pub mod Pigeonhole

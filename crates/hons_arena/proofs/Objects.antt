@@ -50,7 +50,7 @@ object_kept xs ys k same kind.Cell n h = same n h
 pub cell_object_kept : (xs ys : List Object) (k : ℕ) → ((i : ℕ) → i < k → get_or ys i nil ≡ get_or xs i nil) → (c : Cell) → PartsBelow k c → cell_object ys c ≡ cell_object xs c
 cell_object_kept xs ys k same (cell.Int z) h = refl
 cell_object_kept xs ys k same (cell.Character n) h = refl
-cell_object_kept xs ys k same (cell.Cons a d) h = ap₂ Cons (object_kept xs ys k same a.kind a.number h.0) (object_kept xs ys k same d.kind d.number h.1)
+cell_object_kept xs ys k same (cell.Cons s t m n) h = ap₂ Cons (object_kept xs ys k same s m h.0) (object_kept xs ys k same t n h.1)
 
 objects-at_from : (before : List Object) (cs : List Cell) (k : ℕ) → k < length cs → PartsBelow (length before + k) (cell_at cs k)
     → get_or (objects_from before cs) (length before + k) nil ≡ cell_object (objects_from before cs) (cell_at cs k)

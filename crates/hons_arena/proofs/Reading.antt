@@ -7,13 +7,13 @@ use Rattle.hons_arena.specs.declared.cell.Cell.TheVariants as cell
 use Rattle.hons_arena.specs.declared.id.Id.{Id}
 use Rattle.hons_arena.specs.declared.id.IdKind.{IdKind}
 use Rattle.hons_arena.specs.declared.id.IdKind.TheVariants as kind
-use Rattle.hons_arena.specs.Cells.{cell_object, objects_of, cell_at, PartsBelow, IsInterned, IsAtomCell}
+use Rattle.hons_arena.specs.Cells.{cell_object, objects_of, cell_at, PartsBelow, IsInterned, IsAtomCell, cons_cell}
 use Rattle.hons_arena.specs.Held.{Held}
 use Rattle.hons_arena.specs.Ids.{object_at, object_numbered, IsNumberBelow, IsBelow, IsLive, IsIdOf, HasNoParts, ArePartsOf}
-use Rattle.hons_arena.specs.Probe.{IsFoundAt}
 use Rattle.hons_arena.specs.Sound.{IsSound}
+use Rattle.hons_arena.specs.Table.{empty, slot_at, IsTable}
 use Rattle.hons_arena.proofs.Entering.{seen, count_is}
-use Rattle.hons_arena.proofs.Interned.{object_is, parts_live, same_ids, interned_take}
+use Rattle.hons_arena.proofs.Interned.{object_is, parts_live, interned_take}
 use Rattle.hons_arena.proofs.Objects.{objects-take}
 use Rattle.hons_arena.proofs.Tables.{table-pop}
 
@@ -27,9 +27,6 @@ module _ (limit : ℕ) (cells : List Cell) (held : Held) (interned : IsInterned 
   parts_read k h =
       subst (λ (m : ℕ). PartsBelow m (cell_at cells k)) (count_is limit cells held interned is) (parts_live cells interned k (omega (arith, h, count_is limit cells held interned is)))
 
-  pub same_from_objects : (a b : Id) → IsLive held.objects a → IsLive held.objects b → object_at held.objects a ≡ object_at held.objects b → a ≡ b
-  same_from_objects = subst (λ (s : Held). (a b : Id) → IsLive s.objects a → IsLive s.objects b → object_at s.objects a ≡ object_at s.objects b → a ≡ b) is (same_ids cells interned)
-
 -- the number of an id of a cell
 pub number_live : (objects : List Object) (id : Id) → id.kind ≡ kind.Cell → IsLive objects id → id.number < length objects
 number_live objects id e h = subst (λ (t : IdKind). IsNumberBelow (length objects) t id.number) e h
@@ -40,14 +37,14 @@ object_of_number objects id e = ap (λ (t : IdKind). object_numbered objects t i
 atom_no_parts : (objects : List Object) (c : Cell) → IsAtomCell c → HasNoParts (cell_object objects c)
 atom_no_parts objects (cell.Int z) h = (tt, refl, refl)
 atom_no_parts objects (cell.Character n) h = (tt, refl, refl)
-atom_no_parts objects (cell.Cons a d) h = absurd h
+atom_no_parts objects (cell.Cons s t m n) h = absurd h
 
-pub parts_of_read : (objects : List Object) (x : Object) (c : Cell) (o : Option (Id × Id)) → PartsBelow (length objects) c → cell_object objects c ≡ x → MatchOption o (IsAtomCell c) (λ p. c ≡ cell.Cons p.0 p.1)
+pub parts_of_read : (objects : List Object) (x : Object) (c : Cell) (o : Option (Id × Id)) → PartsBelow (length objects) c → cell_object objects c ≡ x → MatchOption o (IsAtomCell c) (λ p. c ≡ cons_cell p.0 p.1)
     → MatchOption o (HasNoParts x) (λ p. ArePartsOf objects x p.0 p.1)
 parts_of_read objects x c None below is h = subst HasNoParts is (atom_no_parts objects c h)
 parts_of_read objects x c (Some p) below is h =
-    let parts : PartsBelow (length objects) (cell.Cons p.0 p.1) = subst (λ (e : Cell). PartsBelow (length objects) e) h below in
-    let cons : cell_object objects (cell.Cons p.0 p.1) ≡ x = ap (cell_object objects) (sym h) ∙ is in
+    let parts : PartsBelow (length objects) (cons_cell p.0 p.1) = subst (λ (e : Cell). PartsBelow (length objects) e) h below in
+    let cons : cell_object objects (cons_cell p.0 p.1) ≡ x = ap (cell_object objects) (sym h) ∙ is in
     record { first = (parts.0, ap car cons); rest = (parts.1, ap cdr cons); whole = sym cons ∙ ap (λ y. Cons (car y) (cdr y)) cons }
 
 pub no_parts_but_cells : (objects : List Object) (id : Id) → id.kind ≢ kind.Cell → HasNoParts (object_at objects id)
@@ -57,19 +54,19 @@ no_parts_but_cells objects id apart = go id.kind id.number apart where
   go kind.Text n a = (tt, refl, refl)
   go kind.Cell n a = absurd (a refl)
 
--- the newest cell is found, and goes
-pub newest_found : (cells : List Cell) (slots : List (Option ℕ)) (c : Cell) (k q j : ℕ) → IsInterned cells → k + 1 ≡ length cells → cell_at cells k ≡ c → IsFoundAt cells slots c q j → j ≡ k
-newest_found cells slots c k q j interned last e at = interned.different j k at.held (omega (arith, last)) (at.keeps ∙ sym e)
-
-pub sound_pop : (limit : ℕ) (cells : List Cell) (capacity : ℕ) (slots : List (Option ℕ)) (k q : ℕ) (new : List Cell) (more : ℕ) → IsSound limit cells capacity slots → k + 1 ≡ length cells → IsFoundAt cells slots (cell_at cells k) q k
-    → new ≡ take k cells → limit ≤ more → IsSound limit new more (set slots q None)
-sound_pop limit cells capacity slots k q new more s last at e l =
+-- the newest cell goes
+pub sound_pop : (limit : ℕ) (cells : List Cell) (capacity : ℕ) (slots : List ℕ) (places k q : ℕ) (new : List Cell) (more : ℕ) → IsSound limit cells capacity slots places → k + 1 ≡ length cells → q < length slots → slot_at slots q ≡ k
+    → new ≡ take k cells → limit ≤ more → IsSound limit new more (set slots q empty) places
+sound_pop limit cells capacity slots places k q new more s last within at e l =
     let few : length (take k cells) ≡ k = length-take-le k cells (omega (arith, last)) in record {
       few = omega (arith, ap length e, few, last, s.few);
+      small = s.small;
       room = l;
-      size = length-set slots q None ∙ s.size;
+      free = omega (arith, ap length e, few, last, s.free, length-set slots q empty);
+      size = omega (arith, s.size, length-set slots q empty);
+      reserved = s.reserved;
       interned = subst (λ (cs : List Cell). IsInterned cs) (sym e) (interned_take cells s.interned k (omega (arith, last)));
-      table = subst (λ (cs : List Cell). Rattle.hons_arena.specs.Table.IsTable cs (set slots q None)) (sym e) (table-pop cells slots (cell_at cells k) q at.within s.table k last at.is);
+      table = subst (λ (cs : List Cell). IsTable cs (set slots q empty)) (sym e) (table-pop cells slots q within s.table k last at);
     }
 
 pub objects_left : (limit : ℕ) (cells : List Cell) (held : Held) (k : ℕ) (new : List Cell) → IsInterned cells → seen limit cells ≡ held → k + 1 ≡ length cells → new ≡ take k cells → objects_of new ≡ take (length held.objects - 1) held.objects

@@ -3,13 +3,14 @@ use Rattle.std.specs.Prelude.{◌≡◌, ℕ, pos, ◌<◌, List, [], ◌∷◌,
 use Rattle.gl_logic.specs.Object.{Object, Int, Character, Cons}
 use Rattle.hons_arena.specs.declared.cell.Cell.{Cell}
 use Rattle.hons_arena.specs.declared.cell.Cell.TheVariants as cell
-use Rattle.hons_arena.specs.Ids.{object_at, IsBelow}
+use Rattle.hons_arena.specs.declared.id.Id.{Id}
+use Rattle.hons_arena.specs.Ids.{object_numbered, IsNumberBelow}
 
 -- the object of a cell, where its parts are among these
 abbrev pub cell_object : List Object → Cell → Object
 cell_object objects (cell.Int z) = Int z
 cell_object objects (cell.Character n) = Character n
-cell_object objects (cell.Cons a d) = Cons (object_at objects a) (object_at objects d)
+cell_object objects (cell.Cons s t m n) = Cons (object_numbered objects s m) (object_numbered objects t n)
 
 -- the objects of cells, behind those of the cells before
 abbrev pub objects_from : List Object → List Cell → List Object
@@ -23,7 +24,7 @@ objects_of cells = objects_from [] cells
 abbrev pub PartsBelow : ℕ → Cell → Type 0
 PartsBelow k (cell.Int z) = Unit {0}
 PartsBelow k (cell.Character n) = Unit {0}
-PartsBelow k (cell.Cons a d) = IsBelow k a × IsBelow k d
+PartsBelow k (cell.Cons s t m n) = IsNumberBelow k s m × IsNumberBelow k t n
 
 abbrev pub cell_at : List Cell → ℕ → Cell
 cell_at cells k = get_or cells k (cell.Int (pos 0))
@@ -36,4 +37,8 @@ pub record IsInterned (cells : List Cell) : Type 0 where
 abbrev pub IsAtomCell : Cell → Type 0
 IsAtomCell (cell.Int z) = Unit {0}
 IsAtomCell (cell.Character n) = Unit {0}
-IsAtomCell (cell.Cons a d) = ⊥
+IsAtomCell (cell.Cons s t m n) = ⊥
+
+-- the cell of a cons of these two
+abbrev pub cons_cell : Id → Id → Cell
+cons_cell a d = cell.Cons a.kind d.kind a.number d.number

@@ -22,7 +22,8 @@ tag_of kind.Cell = 0x8cb92ba72f3d8dd7
 unfoldable pub hash_of : Cell → ℕ
 hash_of (cell.Int z) = mixed (mixed 1 (cast_unsigned w128 z % 2 ^ 64)) (cast_unsigned w128 z / 2 ^ 64)
 hash_of (cell.Character n) = mixed 2 n
-hash_of (cell.Cons a d) = mixed ((mixed (tag_of a.kind) a.number + tag_of d.kind) % 2 ^ 64) d.number
+hash_of (cell.Cons s t m n) = mixed ((mixed (tag_of s) m + tag_of t) % 2 ^ 64) n
 
+-- the hash's share of so many slots
 abbrev pub home_of : ℕ → Cell → ℕ
-home_of m c = hash_of c % m
+home_of m c = hash_of c * m / 2 ^ 64

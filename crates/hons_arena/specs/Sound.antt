@@ -1,13 +1,16 @@
 -- What an arena's fields always are.
-use Rattle.std.specs.Prelude.{◌≡◌, ℕ, ◌+◌, ◌*◌, ◌≤◌, List, length, Option}
+use Rattle.std.specs.Prelude.{ℕ, ◌<◌, ◌≤◌, List, length}
 use Rattle.hons_arena.specs.declared.cell.Cell.{Cell}
 use Rattle.hons_arena.specs.Cells.{IsInterned}
-use Rattle.hons_arena.specs.Table.{IsTable}
+use Rattle.hons_arena.specs.Table.{empty, most_slots, IsTable}
 
--- cells within the limit, whose room is reserved, in a table of twice the limit and one slot more
-pub record IsSound (limit : ℕ) (cells : List Cell) (capacity : ℕ) (slots : List (Option ℕ)) : Type 0 where
+-- cells within the limit in a table with a slot to spare, and the room of both is reserved
+pub record IsSound (limit : ℕ) (cells : List Cell) (capacity : ℕ) (slots : List ℕ) (places : ℕ) : Type 0 where
   pub few : length cells ≤ limit
+  pub small : limit ≤ empty
   pub room : limit ≤ capacity
-  pub size : length slots ≡ 2 * limit + 1
+  pub free : length cells < length slots
+  pub size : length slots ≤ most_slots limit
+  pub reserved : most_slots limit ≤ places
   pub interned : IsInterned cells
   pub table : IsTable cells slots

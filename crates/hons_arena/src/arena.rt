@@ -3,14 +3,14 @@
 ghost use Rattle.std.specs.Prelude.{◌≡◌, ◌-◌, ◌<◌, ◌≤◌, ◌↔◌, List, [], take, length, IfOk, OnOk, OnErr, IsErr, IsTrue, MatchOption, slice_index_or};
 ghost use Rattle.gl_logic.specs.Object.{Object, nil, Int, Character, Symbol, Text, Cons, car, cdr};
 ghost use Rattle.hons_arena.specs.Ids.{object_at, IsBelow, IsLive, IsIdOf, kind_of, HasNoParts, ArePartsOf};
-ghost use Rattle.hons_arena.specs.Cells.{cell_object, PartsBelow, IsAtomCell};
-ghost use Rattle.hons_arena.specs.Table.{AreEmpty};
-ghost use Rattle.hons_arena.specs.Held.{Enters, HasNoCell, IsEachOnce};
-ghost use Rattle.hons_arena.specs.Parts.{AreHeld};
+ghost use Rattle.hons_arena.specs.Cells.{cell_object, PartsBelow};
+ghost use Rattle.hons_arena.specs.Held.{Interns, IsWhole};
 
-use crate::cell::{Cell, same_id};
+use crate::cell::{Cell, of_parts, parts_of_cell, same_id};
+use crate::hash::home;
 use crate::id::{Full, Id, IdKind, Kind, Mark};
 use crate::probe::{Probe, end_of_walk};
+use crate::slots::{EMPTY, FIRST_SLOTS, make_empty, make_room, most, slot_with};
 use gl_logic::{NoMemory, TextId};
 use std::alloc::Global;
 use std::marker::Model;
@@ -19,13 +19,13 @@ use std::marker::Model;
 /// and symbols and strings take none.
 ///
 /// Contracts see the limit and the objects of the cells, in the order of their making. The cells lie in one
-/// vector beside a slot table of twice the limit and one slot more, both reserved at making: no later call
-/// takes memory.
+/// vector beside a slot table, whose room is reserved at making: no later call takes memory. The table is small at
+/// first and doubles within its room when it is half full, so that making an arena takes no longer for a high limit.
 #[derive(Drop)]
 pub struct HonsArena {
     limit: u32,
     cells: Vec<Cell>,
-    slots: Vec<Option<u32>>,
+    slots: Vec<u32>,
 }
 
 impl Model for HonsArena {
@@ -41,18 +41,7 @@ impl Model for HonsArena {
 
     ghost view = { λ a. record { limit = a.limit; objects = objects_of a.cells.items } };
 
-    ghost invariant = { λ a. IsSound a.limit a.cells.items (vec_capacity a.cells) a.slots.items };
-}
-
-/// So many empty slots.
-fn empty_slots(alloc: Global, count: usize) -> Result<Vec<Option<u32>>, NoMemory>
-    ensures { IfOk result (λ v. AreEmpty count v.items) }
-{
-    let mut slots = Vec::with_capacity(alloc, count)?;
-    for _slot in 0..count {
-        slots.push(None)?;
-    }
-    Ok(slots)
+    ghost invariant = { λ a. IsSound a.limit a.cells.items (vec_capacity a.cells) a.slots.items (vec_capacity a.slots) };
 }
 
 impl HonsArena {
@@ -61,7 +50,8 @@ impl HonsArena {
         ensures { IfOk result (λ a. (a.limit ≡ limit) × (a.objects ≡ [])) }
     {
         let cells = Vec::with_capacity(alloc, limit as usize)?;
-        let slots = empty_slots(alloc, 2 * limit as usize + 1)?;
+        let mut slots = Vec::with_capacity(alloc, most(limit))?;
+        make_empty(&mut slots, FIRST_SLOTS.min(most(limit)));
         Ok(HonsArena {
             limit,
             cells,
@@ -73,66 +63,53 @@ impl HonsArena {
     pub fn count(&self) -> u32
         ensures count { result ≡ length self.now.objects }
         ensures within { result ≤ self.now.limit }
-        ensures different { IsEachOnce self.now.objects }
+        ensures whole { IsWhole self.now }
     {
-        let _limit = self.limit;
         self.cells.len() as u32
     }
 
-    /// What is true of every arena: the cells are within the limit, each object is held once and has one id, and
-    /// each cell of an object that an id stands for is held.
-    pub fn is_whole(&self)
-        ensures within { length self.now.objects ≤ self.now.limit }
-        ensures different { IsEachOnce self.now.objects }
-        ensures ids { (a b : Id) → IsLive self.now.objects a → IsLive self.now.objects b → object_at self.now.objects a ≡ object_at self.now.objects b → a ≡ b }
-        ensures parts { (id : Id) → IsLive self.now.objects id → AreHeld self.now.objects (object_at self.now.objects id) }
+    /// Whether no cell is left.
+    pub(crate) fn is_full(&self) -> bool
+        ensures full { IsTrue result ↔ (length self.now.objects ≡ self.now.limit) }
+        ensures whole { IsWhole self.now }
     {
-        let _limit = self.limit;
+        self.count() == self.limit
     }
 
     /// The id of what a cell keeps, in a cell that has it already or in a new one.
+    #[inline(always)]
     fn enter(&mut self, cell: Cell) -> Result<Id, Full>
         requires { PartsBelow (length self.old.objects) cell }
-        ensures id { IfOk result (IsIdOf self.new.objects (cell_object self.old.objects cell)) }
-        ensures objects { OnOk result (Enters self.old.objects self.new.objects (cell_object self.old.objects cell)) }
-        ensures limit { self.new.limit ≡ self.old.limit }
-        ensures full { IsErr result ↔ HasNoCell self.old (cell_object self.old.objects cell) }
-        ensures unchanged { OnErr result (self.new ≡ self.old) }
+        ensures { Interns self.old self.new (cell_object self.old.objects cell) result }
     {
         match end_of_walk(self.cells.as_slice(), self.slots.as_slice(), cell) {
-            Probe::Found(_, number) => Ok(cell_id(number)),
+            Probe::Found(number) => Ok(cell_id(number)),
             Probe::Empty(slot) => {
                 let number = self.cells.len() as u32;
                 if number == self.limit {
                     return Err(Full);
                 }
-                self.slots[slot] = Some(number);
+                self.slots[slot] = number;
                 match self.cells.push(cell) {
-                    Ok(()) => Ok(cell_id(number)),
+                    Ok(()) => {}
                     Err(_) => unreachable!(),
                 }
+                make_room(self.cells.as_slice(), &mut self.slots, most(self.limit));
+                Ok(cell_id(number))
             }
         }
     }
 
     /// The id of an integer. Full exactly where it is not held and there is no cell left.
     pub fn int(&mut self, i: i128) -> Result<Id, Full>
-        ensures id { IfOk result (IsIdOf self.new.objects (Int i)) }
-        ensures objects { OnOk result (Enters self.old.objects self.new.objects (Int i)) }
-        ensures limit { self.new.limit ≡ self.old.limit }
-        ensures full { IsErr result ↔ HasNoCell self.old (Int i) }
-        ensures unchanged { OnErr result (self.new ≡ self.old) }
+        ensures interns { Interns self.old self.new (Int i) result }
     {
         self.enter(Cell::Int(i))
     }
 
     /// The id of a character. Full exactly where it is not held and there is no cell left.
     pub fn character(&mut self, code: u8) -> Result<Id, Full>
-        ensures id { IfOk result (IsIdOf self.new.objects (Character code)) }
-        ensures objects { OnOk result (Enters self.old.objects self.new.objects (Character code)) }
-        ensures limit { self.new.limit ≡ self.old.limit }
-        ensures full { IsErr result ↔ HasNoCell self.old (Character code) }
-        ensures unchanged { OnErr result (self.new ≡ self.old) }
+        ensures interns { Interns self.old self.new (Character code) result }
     {
         self.enter(Cell::Character(code))
     }
@@ -141,13 +118,9 @@ impl HonsArena {
     pub fn cons(&mut self, a: Id, d: Id) -> Result<Id, Full>
         requires first { IsLive self.old.objects a }
         requires rest { IsLive self.old.objects d }
-        ensures id { IfOk result (IsIdOf self.new.objects (Cons (object_at self.old.objects a) (object_at self.old.objects d))) }
-        ensures objects { OnOk result (Enters self.old.objects self.new.objects (Cons (object_at self.old.objects a) (object_at self.old.objects d))) }
-        ensures limit { self.new.limit ≡ self.old.limit }
-        ensures full { IsErr result ↔ HasNoCell self.old (Cons (object_at self.old.objects a) (object_at self.old.objects d)) }
-        ensures unchanged { OnErr result (self.new ≡ self.old) }
+        ensures interns { Interns self.old self.new (Cons (object_at self.old.objects a) (object_at self.old.objects d)) result }
     {
-        self.enter(Cell::Cons(a, d))
+        self.enter(of_parts(a, d))
     }
 
     /// The id of the symbol of a text.
@@ -169,10 +142,12 @@ impl HonsArena {
 
     /// Whether an id stands for something here.
     pub fn is_live(&self, id: Id) -> bool
-        ensures { IsTrue result ↔ IsLive self.now.objects id }
+        ensures live { IsTrue result ↔ IsLive self.now.objects id }
+        ensures whole { IsWhole self.now }
     {
+        let count = u64::from(self.count());
         match id.kind {
-            IdKind::Cell => id.number < u64::from(self.count()),
+            IdKind::Cell => id.number < count,
             _ => true,
         }
     }
@@ -238,7 +213,8 @@ impl HonsArena {
         ensures objects { IsTrue result ↔ (object_at self.now.objects a ≡ object_at self.now.objects b) }
         ensures ids { IsTrue result ↔ (a ≡ b) }
     {
-        let _limit = self.limit;
+        let both_live = self.is_live(a) && self.is_live(b);
+        prove!(both_live);
         same_id(a, b)
     }
 
@@ -258,12 +234,9 @@ impl HonsArena {
         ensures limit { self.new.limit ≡ self.old.limit }
     {
         let newest = self.cells.len() - 1;
-        let cell = self.cells[newest];
-        let Probe::Found(slot, _) = end_of_walk(self.cells.as_slice(), self.slots.as_slice(), cell)
-        else {
-            unreachable!()
-        };
-        self.slots[slot] = None;
+        let home = home(self.cells[newest], self.slots.len());
+        let slot = slot_with(self.slots.as_slice(), home, newest as u32);
+        self.slots[slot] = EMPTY;
         self.cells.truncate(newest);
     }
 
@@ -296,16 +269,7 @@ fn kind_of_cell(cell: Cell) -> Kind
     match cell {
         Cell::Int(i) => Kind::Int(i),
         Cell::Character(code) => Kind::Character(code),
-        Cell::Cons(_, _) => Kind::Cons,
-    }
-}
-
-fn parts_of_cell(cell: Cell) -> Option<(Id, Id)>
-    ensures { MatchOption result (IsAtomCell cell) (λ p. cell ≡ Cell.Cons p.0 p.1) }
-{
-    match cell {
-        Cell::Cons(first, rest) => Some((first, rest)),
-        _ => None,
+        Cell::Cons(..) => Kind::Cons,
     }
 }
 

@@ -1,9 +1,9 @@
 //! Placing a whole object.
 
-ghost use Rattle.std.specs.Prelude.{◌≡◌, ◌≤◌, ◌↔◌, length, IfOk, OnErr, IsErr};
+ghost use Rattle.std.specs.Prelude.{◌↔◌, IsErr};
 ghost use Rattle.gl_logic.specs.Lists.{conses, IsAtom};
-ghost use Rattle.hons_arena.specs.Held.{AddsCellsOf, LacksCell, HasNoRoomFor};
-ghost use Rattle.hons_arena.specs.Ids.{object_at, IsLive, IsIdOf};
+ghost use Rattle.hons_arena.specs.Held.{Places, HasNoRoomFor};
+ghost use Rattle.hons_arena.specs.Ids.{object_at, IsLive};
 
 use crate::arena::HonsArena;
 use crate::id::{Full, Id};
@@ -14,24 +14,19 @@ impl HonsArena {
     /// different cells that are not held are more than the free room. The cells placed before Full stay, so no
     /// cell is left then.
     pub fn place(&mut self, tree: &Tree) -> Result<Id, Full>
-        ensures id { IfOk result (IsIdOf self.new.objects tree.now) }
-        ensures objects { AddsCellsOf tree.now self.old.objects self.new.objects }
-        ensures limit { self.new.limit ≡ self.old.limit }
+        ensures places { Places self.old self.new tree.now result }
         ensures full { IsErr result ↔ HasNoRoomFor self.old tree.now }
-        ensures lacks { OnErr result (LacksCell self.new tree.now) }
     {
         let placed = self.put(tree);
-        self.is_whole();
+        let is_full = self.is_full();
+        prove!(placed.is_ok() || is_full);
         placed
     }
 
     /// Places a tree that is no cons.
     fn put_atom(&mut self, tree: &Tree) -> Result<Id, Full>
         requires { IsAtom tree.now }
-        ensures id { IfOk result (IsIdOf self.new.objects tree.now) }
-        ensures objects { AddsCellsOf tree.now self.old.objects self.new.objects }
-        ensures limit { self.new.limit ≡ self.old.limit }
-        ensures lacks { OnErr result (LacksCell self.new tree.now) }
+        ensures { Places self.old self.new tree.now result }
     {
         match tree.kind() {
             TreeKind::Int(i) => self.int(i),
@@ -45,10 +40,7 @@ impl HonsArena {
     /// Places a tree's tail, and then its elements in front of it.
     #[cycle(put)]
     fn put(&mut self, tree: &Tree) -> Result<Id, Full>
-        ensures id { IfOk result (IsIdOf self.new.objects tree.now) }
-        ensures objects { AddsCellsOf tree.now self.old.objects self.new.objects }
-        ensures limit { self.new.limit ≡ self.old.limit }
-        ensures lacks { OnErr result (LacksCell self.new tree.now) }
+        ensures { Places self.old self.new tree.now result }
     {
         let tail = self.put_atom(tree.tail())?;
         self.put_all(tree.elements(), tail)
@@ -58,10 +50,7 @@ impl HonsArena {
     #[cycle(put)]
     fn put_all(&mut self, elements: &[Tree], tail: Id) -> Result<Id, Full>
         requires { IsLive self.old.objects tail }
-        ensures id { IfOk result (IsIdOf self.new.objects (conses elements.now (object_at self.old.objects tail))) }
-        ensures objects { AddsCellsOf (conses elements.now (object_at self.old.objects tail)) self.old.objects self.new.objects }
-        ensures limit { self.new.limit ≡ self.old.limit }
-        ensures lacks { OnErr result (LacksCell self.new (conses elements.now (object_at self.old.objects tail))) }
+        ensures { Places self.old self.new (conses elements.now (object_at self.old.objects tail)) result }
     {
         let mut rest = tail;
         for element in elements {

@@ -6,29 +6,32 @@ ghost use Rattle.hons_arena.specs.Probe.{IsEnd};
 
 use crate::cell::{Cell, same_cell};
 use crate::hash::home;
+use crate::slots::EMPTY;
 
 /// Where the walk for a cell ends.
 #[derive(Drop)]
 pub enum Probe {
-    /// In a slot that has the cell, with the cell's number.
-    Found(usize, u32),
-    /// In an empty slot: the cell is not held.
+    /// In the slot of the cell, which has this number.
+    Found(u32),
+    /// In this empty slot: the cell is not held.
     Empty(usize),
 }
 
 /// Walks from a cell's home to the cell, or to the first empty slot.
-pub fn end_of_walk(cells: &[Cell], slots: &[Option<u32>], cell: Cell) -> Probe
+#[inline(always)]
+pub fn end_of_walk(cells: &[Cell], slots: &[u32], cell: Cell) -> Probe
     requires table { IsTable cells.now slots.now }
     requires room { length cells.now < length slots.now }
     ensures { IsEnd cells.now slots.now cell result }
 {
     let mut slot = home(cell, slots.len());
     for _step in 0..slots.len() {
-        let Some(number) = slots[slot] else {
+        let number = slots[slot];
+        if number == EMPTY {
             return Probe::Empty(slot);
-        };
+        }
         if same_cell(cells[number as usize], cell) {
-            return Probe::Found(slot, number);
+            return Probe::Found(number);
         }
         slot = if slot + 1 == slots.len() { 0 } else { slot + 1 };
     }

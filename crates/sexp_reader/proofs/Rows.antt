@@ -1,92 +1,191 @@
--- Worked rows of the definition, which the checker computes.
-use Rattle.std.proofs.Common.{◌≡◌, refl, List, [], ◌∷◌, ◌++◌, ℕ, true, false, replicate, Some, None, pos, negsuc}
-use Rattle.std.specs.Prelude.{codes, is_some, ◌-◌, ◌^◌}
-use Rattle.gl_logic.specs.Object.{Object, Int, Symbol, Cons, nil}
-use Rattle.gl_logic.specs.Names.{first_names}
-use Rattle.sexp_reader.specs.declared.list.Form.{Form}
-use Rattle.sexp_reader.specs.Reads.{reading}
+-- Worked rows of the pieces, which the checker computes.
+use Rattle.std.proofs.Common.{◌≡◌, refl, List, [], ◌∷◌, ◌++◌, ℕ, replicate, pos, negsuc}
+use Rattle.std.specs.Prelude.{codes, ◌-◌, ◌^◌}
+use Rattle.sexp_reader.specs.declared.ends.ReadCode.TheVariants.{EndInside, BadByte, WideNumber, NumberForm, BadHash, LongName, BadDot}
+use Rattle.sexp_reader.specs.declared.lexeme.Piece.{Piece}
+use Rattle.sexp_reader.specs.declared.lexeme.Piece.TheVariants.{Torn, Gap, Part, Faulty}
+use Rattle.sexp_reader.specs.declared.lexeme.Mark.TheVariants.{Comma}
+use Rattle.sexp_reader.specs.declared.lexeme.Lexeme.TheVariants as lexeme
+use Rattle.sexp_reader.specs.declared.lexeme.Atom.TheVariants as atoms
+use Rattle.sexp_reader.specs.Pieces.{first_piece}
 
--- NIL is 0, T is 1, A-1 is 4, QUOTE is 5, :K is 6, < is 7
-abbrev names : List (List ℕ)
-names = first_names ++ codes "A-1" ∷ codes "QUOTE" ∷ codes ":K" ∷ codes "<" ∷ []
+abbrev symbol : ℕ → List ℕ → Piece
+symbol count name = Part count (lexeme.Atom (atoms.Symbol name))
 
-abbrev at : ℕ → ℕ → Object → Form
-at line column object = record { tree = object; line = line; column = column }
+abbrev character : ℕ → ℕ → Piece
+character count code = Part count (lexeme.Atom (atoms.Character code))
 
--- ---- texts that are read
-nothing : reading names [] ≡ Some []
-nothing = refl
+-- ---- tokens
+hexed : first_piece (codes "-0x1 a") ≡ symbol 4 (codes "-0X1")
+hexed = refl
 
-white : reading names (codes " \n ") ≡ Some []
-white = refl
+minus : first_piece (codes "-12)") ≡ Part 3 (lexeme.Atom (atoms.Integer (negsuc 11)))
+minus = refl
 
-empty : reading names (codes "()") ≡ Some (at 1 1 nil ∷ [])
-empty = refl
+plus : first_piece (codes "+007") ≡ Part 4 (lexeme.Atom (atoms.Integer (pos 7)))
+plus = refl
 
-lines : reading names (codes "(a-1 T\n 12)\n '-7") ≡ Some (at 1 1 (Cons (Symbol 4) (Cons (Symbol 1) (Cons (Int (pos 12)) nil))) ∷ at 3 2 (Cons (Symbol 5) (Cons (Int (negsuc 6)) nil)) ∷ [])
-lines = refl
+exponent_alone : first_piece (codes "1e") ≡ symbol 2 (codes "1E")
+exponent_alone = refl
 
-marks : reading names (codes "<:k''nil") ≡ None
-marks = refl
+point_exponent : first_piece (codes "1.e") ≡ symbol 3 (codes "1.E")
+point_exponent = refl
 
-apart : reading names (codes "< :k''nil") ≡ Some (at 1 1 (Symbol 7) ∷ at 1 3 (Symbol 6) ∷ at 1 5 (Cons (Symbol 5) (Cons (Cons (Symbol 5) (Cons nil nil)) nil)) ∷ [])
-apart = refl
+signed_point : first_piece (codes "+.e5") ≡ symbol 4 (codes "+.E5")
+signed_point = refl
 
-joined : reading names (codes "7(7)a-1()") ≡ Some (at 1 1 (Int (pos 7)) ∷ at 1 2 (Cons (Int (pos 7)) nil) ∷ at 1 5 (Symbol 4) ∷ at 1 8 nil ∷ [])
-joined = refl
+slashes : first_piece (codes "1//2") ≡ symbol 4 (codes "1//2")
+slashes = refl
 
-zeros : reading names (codes "-0 007") ≡ Some (at 1 1 (Int (pos 0)) ∷ at 1 4 (Int (pos 7)) ∷ [])
-zeros = refl
+minus_alone : first_piece (codes "-") ≡ symbol 1 (codes "-")
+minus_alone = refl
 
--- ---- texts that are not
-unclosed : reading names (codes "(a-1") ≡ None
-unclosed = refl
+ratio : first_piece (codes "1/2") ≡ Faulty 0 NumberForm
+ratio = refl
 
-stray : reading names (codes "a-1)") ≡ None
-stray = refl
+point : first_piece (codes "1.") ≡ Faulty 0 NumberForm
+point = refl
 
-crossed : reading names (codes ")(") ≡ None
-crossed = refl
+scaled : first_piece (codes "2F7") ≡ Faulty 0 NumberForm
+scaled = refl
 
-lone_quote : reading names (codes "(')") ≡ None
-lone_quote = refl
+small : first_piece (codes "-.5e3") ≡ Faulty 0 NumberForm
+small = refl
 
-last_quote : reading names (codes "a-1 '") ≡ None
-last_quote = refl
+small_pointed : first_piece (codes "1.e+5") ≡ Faulty 0 NumberForm
+small_pointed = refl
 
-dashed_number : reading names (codes "1-") ≡ None
-dashed_number = refl
+one_dot : first_piece (codes ". a") ≡ Part 1 lexeme.Dot
+one_dot = refl
 
-dash : reading names (codes "-") ≡ None
-dash = refl
+two_dots : first_piece (codes "..") ≡ Faulty 0 BadDot
+two_dots = refl
 
-colon : reading names (codes ":") ≡ None
-colon = refl
+keyword : first_piece (codes ":key)") ≡ symbol 4 (codes ":KEY")
+keyword = refl
 
-dot : reading names (codes "(1 . 2)") ≡ None
-dot = refl
+dropped : first_piece (codes "aCl2::t)") ≡ symbol 7 (codes "T")
+dropped = refl
 
--- ---- the edges
-greatest : reading names (codes "170141183460469231731687303715884105727") ≡ Some (at 1 1 (Int (pos (2 ^ 127 - 1))) ∷ [])
+dropped_number : first_piece (codes "gl::1") ≡ symbol 5 (codes "1")
+dropped_number = refl
+
+dropped_nothing : first_piece (codes "gl::)") ≡ Faulty 3 BadByte
+dropped_nothing = refl
+
+foreign : first_piece (codes "foo::b") ≡ Faulty 3 BadByte
+foreign = refl
+
+twice : first_piece (codes "acl2::a:b") ≡ Faulty 7 BadByte
+twice = refl
+
+two_colons : first_piece (codes "::a") ≡ Faulty 0 BadByte
+two_colons = refl
+
+later_colon : first_piece (codes ":a:b") ≡ Faulty 0 BadByte
+later_colon = refl
+
+colon_alone : first_piece (codes ": a") ≡ Faulty 0 BadByte
+colon_alone = refl
+
+longest : first_piece (codes "gl::" ++ replicate 255 97) ≡ symbol 259 (replicate 255 65)
+longest = refl
+
+too_long : first_piece (replicate 256 97) ≡ Faulty 0 LongName
+too_long = refl
+
+long_keyword : first_piece (58 ∷ replicate 255 97) ≡ Faulty 0 LongName
+long_keyword = refl
+
+greatest : first_piece (codes "170141183460469231731687303715884105727") ≡ Part 39 (lexeme.Atom (atoms.Integer (pos (2 ^ 127 - 1))))
 greatest = refl
 
-too_great : reading names (codes "170141183460469231731687303715884105728") ≡ None
+too_great : first_piece (codes "170141183460469231731687303715884105728") ≡ Faulty 0 WideNumber
 too_great = refl
 
-least : reading names (codes "-170141183460469231731687303715884105728") ≡ Some (at 1 1 (Int (negsuc (2 ^ 127 - 1))) ∷ [])
+least : first_piece (codes "-170141183460469231731687303715884105728") ≡ Part 40 (lexeme.Atom (atoms.Integer (negsuc (2 ^ 127 - 1))))
 least = refl
 
-too_small : reading names (codes "-170141183460469231731687303715884105729") ≡ None
+too_small : first_piece (codes "-170141183460469231731687303715884105729") ≡ Faulty 0 WideNumber
 too_small = refl
 
-nested : is_some (reading names (replicate 1000 40 ++ replicate 1000 41)) ≡ true
+-- ---- number signs
+binary : first_piece (codes "#b101)") ≡ Part 5 (lexeme.Atom (atoms.Integer (pos 5)))
+binary = refl
+
+hexadecimal : first_piece (codes "#X-fF") ≡ Part 5 (lexeme.Atom (atoms.Integer (negsuc 254)))
+hexadecimal = refl
+
+no_octal : first_piece (codes "#o8 ") ≡ Faulty 0 BadHash
+no_octal = refl
+
+no_digits : first_piece (codes "#x") ≡ Faulty 0 BadHash
+no_digits = refl
+
+wide : first_piece (codes "#x80000000000000000000000000000000") ≡ Faulty 0 WideNumber
+wide = refl
+
+bare : first_piece (codes "#") ≡ Torn
+bare = refl
+
+bare_inside : first_piece (codes "# ") ≡ Faulty 0 BadHash
+bare_inside = refl
+
+vector : first_piece (codes "#(1)") ≡ Faulty 0 BadHash
+vector = refl
+
+one_character : first_piece (codes "#\\(a") ≡ character 3 40
+one_character = refl
+
+hash_character : first_piece (codes "#\\# ") ≡ character 3 35
+hash_character = refl
+
+space : first_piece (codes "#\\sPace)") ≡ character 7 32
+space = refl
+
+rubout : first_piece (codes "#\\Rubout") ≡ character 8 127
+rubout = refl
+
+no_character : first_piece (codes "#\\1x") ≡ Faulty 0 BadHash
+no_character = refl
+
+control_character : first_piece (codes "#\\\n") ≡ Faulty 0 BadHash
+control_character = refl
+
+cut_character : first_piece (codes "#\\") ≡ Faulty 2 EndInside
+cut_character = refl
+
+-- ---- comments and strings
+nested : first_piece (codes "#| a #| |# || |#x") ≡ Gap 16
 nested = refl
 
-nested_deeper : is_some (reading names (replicate 1001 40 ++ replicate 1001 41)) ≡ false
-nested_deeper = refl
+overlapping : first_piece (codes "#|#|#") ≡ Torn
+overlapping = refl
 
-quoted : is_some (reading names (replicate 999 39 ++ codes "()")) ≡ true
-quoted = refl
+line : first_piece (codes "; a\nb") ≡ Gap 3
+line = refl
 
-quoted_deeper : is_some (reading names (replicate 1000 39 ++ codes "()")) ≡ false
-quoted_deeper = refl
+text : first_piece (codes "\"a\\\"\nb\"c") ≡ Part 7 (lexeme.Atom (atoms.String (codes "a\"\nb")))
+text = refl
+
+open_text : first_piece (codes "\"abc") ≡ Faulty 4 EndInside
+open_text = refl
+
+escaped_end : first_piece (codes "\"ab\\") ≡ Faulty 4 EndInside
+escaped_end = refl
+
+bad_text : first_piece (34 ∷ 97 ∷ 92 ∷ 127 ∷ []) ≡ Faulty 3 BadByte
+bad_text = refl
+
+-- ---- the rest
+spliced : first_piece (codes ",@x") ≡ Part 1 lexeme.Splice
+spliced = refl
+
+comma : first_piece (codes ", @x") ≡ Part 1 (lexeme.Prefix Comma)
+comma = refl
+
+bar : first_piece (codes "|#") ≡ Faulty 0 BadByte
+bar = refl
+
+high : first_piece (200 ∷ []) ≡ Faulty 0 BadByte
+high = refl

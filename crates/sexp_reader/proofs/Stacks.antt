@@ -1,119 +1,98 @@
--- The reader's stack, step by step.
-use Rattle.std.proofs.Common.{◌≡◌, ◌∙◌, sym, ap, refl, ℕ, List, [], ◌∷◌, ◌++◌, map, max, arith, append_assoc, Bool, true, false, Option, Some, None}
-use Rattle.std.specs.Prelude.{option_map, option_and_then}
-use Rattle.gl_logic.specs.Object.{Object, Cons, nil}
+-- The steps of a whole stack.
+use Rattle.std.proofs.Common.{◌≡◌, ◌∙◌, sym, ap, subst, ℕ, List, [], ◌∷◌, ◌++◌, Result, Ok, Err, OnOk}
+use Rattle.std.specs.Prelude.{reverse}
+use Rattle.std.proofs.lemmas.Option.{same_Some}
+use Rattle.gl_logic.specs.Object.{Object}
+use Rattle.gl_logic.specs.declared.ids.TextId.{TextId}
 use Rattle.sexp_reader.specs.declared.place.Place.{Place}
 use Rattle.sexp_reader.specs.declared.list.Form.{Form}
+use Rattle.sexp_reader.specs.declared.ends.End.{End}
+use Rattle.sexp_reader.specs.declared.lexeme.Mark.{Mark}
+use Rattle.sexp_reader.specs.declared.lexeme.Atom.{Atom}
+use Rattle.sexp_reader.specs.declared.lexeme.Piece.{Piece}
+use Rattle.sexp_reader.specs.declared.lexeme.Piece.TheVariants.{Gap, Part}
+use Rattle.sexp_reader.specs.declared.lexeme.Lexeme.TheVariants as lexeme
+use Rattle.sexp_reader.specs.declared.stack.ListEnd.TheVariants.{Plain, Dotted}
+use Rattle.sexp_reader.specs.declared.stack.OpenList.{OpenList}
 use Rattle.sexp_reader.specs.declared.stack.Frame.{Frame}
 use Rattle.sexp_reader.specs.declared.stack.Frame.TheVariants as frame
-use Rattle.sexp_reader.specs.declared.stack.OpenList.{OpenList}
-use Rattle.sexp_reader.specs.declared.stack.Item.{Item}
 use Rattle.sexp_reader.specs.declared.stack.Stack.{Stack}
-use Rattle.sexp_reader.specs.Levels.{Levels, item_around, listed, deepest, objects_of, open_at, quote_at, put}
-use Rattle.sexp_reader.specs.Reads.{closed}
-use Rattle.sexp_reader.specs.Stack.{open_with, resume, resume_all, finish, run, finished, Makes}
+use Rattle.sexp_reader.specs.Pieces.{count_of}
+use Rattle.sexp_reader.specs.Grammar.{Spot, past, Got, place_in, object_of, mark_text}
+use Rattle.sexp_reader.specs.Stack.{listed, tail_of, inner_first, begun, flaw_in, Leads, GoesIn, Goes, Follows, CanStandIn, CanStand, FollowsPiece}
+use Rattle.sexp_reader.proofs.Frames.{inner_last, reads_atom, passes, opens_list, opens_prefix, closes_list, dots_list, no_close, no_dot, prefix_no_close, prefix_no_dot}
 
--- ---- lists of objects
-pub listed_push : (xs : List Object) (x t : Object) → listed (xs ++ x ∷ []) t ≡ listed xs (Cons x t)
-listed_push [] x t = refl
-listed_push (y ∷ xs) x t = ap (Cons y) (listed_push xs x t)
+pub on_ok : {A E P Q : Type 0} (r : Result A E) → (P → Q) → OnOk r P → OnOk r Q
+on_ok (Ok x) f h = f h
+on_ok (Err e) f h = tt
 
--- ---- one open list
-pub open_none : (place : Place) (items : List Item) (outer : List (List Item)) → open_with place [] 0 items outer ≡ open_at place items outer
-open_none place items [] = refl
-open_none place items (next ∷ outer) =
-    let e : max 0 (deepest items) ≡ deepest items = omega arith in
-    λ i. option_map (λ item. record { front = item ∷ next; outer = outer }) (item_around place (listed (objects_of items) nil) (e i))
+-- equal parts go on alike
+goes_by : (names : List (List ℕ)) (b b' : Place) (d d' : List Form) (f f' : List Frame) (spot : Spot) (forms : List Form) (end : End) → b ≡ b' → d ≡ d' → f ≡ f'
+    → GoesIn names b d f spot forms end → GoesIn names b' d' f' spot forms end
+goes_by names b b' d d' f f' spot forms end eb ed ef = subst (λ (t : Type 0). t) (λ i. GoesIn names (eb i) (ed i) (ef i) spot forms end)
 
-pub open_more : (place : Place) (es : List Object) (d : ℕ) (item : Item) (items : List Item) (outer : List (List Item))
-    → open_with place (es ++ item.form.tree ∷ []) (max d item.depth) items outer ≡ open_with place es d (item ∷ items) outer
-open_more place es d item items [] = refl
-open_more place es d item items (next ∷ outer) =
-    let e : max (max d item.depth) (deepest items) ≡ max d (max item.depth (deepest items)) = omega arith in
-    let l = listed_push es item.form.tree (listed (objects_of items) nil) in
-    λ i. option_map (λ whole. record { front = whole ∷ next; outer = outer }) (item_around place (l i) (e i))
+module _ (names : List (List ℕ)) (old : Stack) (place : Place) where
+  abbrev begins : Place
+  begins = begun place old.begin (inner_first old)
 
-pub open_all : (place : Place) (es : List Object) (d : ℕ) (next : List Item) (outer : List (List Item))
-    → open_with place es d [] (next ∷ outer) ≡ option_map (λ item. record { front = item ∷ next; outer = outer }) (item_around place (listed es nil) d)
-open_all place es d next outer =
-    let e : max d 0 ≡ d = omega arith in
-    λ i. option_map (λ item. record { front = item ∷ next; outer = outer }) (item_around place (listed es nil) (e i))
+  begun_here : (spot : Spot) → spot.place ≡ place → begins ≡ begun spot.place old.begin (inner_first old)
+  begun_here spot p = ap (λ q. begun q old.begin (inner_first old)) (sym p)
 
--- ---- all frames
-resume_push : (q : ℕ) (fs : List Frame) (f : Frame) (o : Option Levels) → resume_all q (fs ++ f ∷ []) o ≡ resume_all q fs (option_and_then (resume q f) o)
-resume_push q [] f o = refl
-resume_push q (g ∷ fs) f o = ap (option_and_then (resume q g)) (resume_push q fs f o)
+  pub opened : (new : Stack) (l : OpenList) → new.forms ≡ old.forms → new.begin ≡ begins → new.frames.items ≡ old.frames.items ++ frame.List l ∷ [] → l.elements.items ≡ [] → l.end ≡ Plain
+      → CanStand old lexeme.Open → Follows names old place lexeme.Open new
+  opened new l ef eb ei x q can spot count forms end p e h =
+      opens_list names old.forms forms end old.begin (inner_first old) spot count l x q e (can spot count)
+      (goes_by names _ _ _ _ _ _ (past spot count) forms end (eb ∙ begun_here spot p) ef (inner_last new.frames.items old.frames.items (frame.List l) ei) h)
 
-resume_none : (q : ℕ) (fs : List Frame) → resume_all q fs None ≡ None
-resume_none q [] = refl
-resume_none q (f ∷ fs) = ap (option_and_then (resume q f)) (resume_none q fs)
+  pub prefixed : (new : Stack) (mark : Mark) (symbol : TextId) → new.forms ≡ old.forms → new.begin ≡ begins → new.frames.items ≡ old.frames.items ++ frame.Prefix symbol ∷ [] → symbol.number ≡ place_in names (mark_text mark)
+      → CanStand old (lexeme.Prefix mark) → Follows names old place (lexeme.Prefix mark) new
+  prefixed new mark symbol ef eb ei m can spot count forms end p e h =
+      opens_prefix names old.forms forms end old.begin (inner_first old) spot count mark symbol m e (can spot count)
+      (goes_by names _ _ _ _ _ _ (past spot count) forms end (eb ∙ begun_here spot p) ef (inner_last new.frames.items old.frames.items (frame.Prefix symbol) ei) h)
 
-pub run_push : (q : ℕ) (forms : List Form) (all fs : List Frame) (f : Frame) (o : Option Levels) → all ≡ fs ++ f ∷ [] → run q forms all o ≡ run q forms fs (option_and_then (resume q f) o)
-run_push q forms all fs f o e = ap (λ (a : List Frame). run q forms a o) e ∙ ap (option_and_then (λ l. finish forms l.front l.outer)) (resume_push q fs f o)
+  pub atomic : (middle new : Stack) (leaf : Atom) (tree : Object) → middle.forms ≡ old.forms → middle.frames ≡ old.frames → middle.begin ≡ begins → tree ≡ object_of names leaf
+      → ((next : Spot) (forms : List Form) (end : End) → Goes names new next forms end → Leads names middle.begin middle.forms (Got tree next) (inner_first middle) forms end)
+      → CanStand old (lexeme.Atom leaf) → Follows names old place (lexeme.Atom leaf) new
+  atomic middle new leaf tree ef ei eb t give can spot count forms end p e h =
+      reads_atom names old.forms forms end old.begin (inner_first old) spot count leaf e (can spot count)
+      (subst (λ (k : Type 0). k) (λ i. Leads names ((eb ∙ begun_here spot p) i) (ef i) (Got (t i) (past spot count)) (reverse (ei i).items) forms end) (give (past spot count) forms end h))
 
-pub run_none : (q : ℕ) (forms : List Form) (fs : List Frame) → run q forms fs None ≡ None
-run_none q forms fs = ap (option_and_then (λ l. finish forms l.front l.outer)) (resume_none q fs)
+  pub closed : (new : Stack) (rest : List Frame) (l : OpenList) (tree : Object) → old.frames.items ≡ rest ++ frame.List l ∷ [] → tree ≡ listed l.elements.items (tail_of l.end)
+      → ((next : Spot) (forms : List Form) (end : End) → Goes names new next forms end → Leads names old.begin old.forms (Got tree next) (reverse rest) forms end)
+      → CanStand old lexeme.Close → Follows names old place lexeme.Close new
+  closed new rest l tree ei t give can spot count forms end p e h =
+      let inner = inner_last old.frames.items rest (frame.List l) ei in
+      subst (λ fs. GoesIn names old.begin old.forms fs spot forms end) (sym inner)
+      (closes_list names old.forms forms end old.begin (reverse rest) spot count l e (ap (λ fs. flaw_in fs spot (Part count lexeme.Close)) (sym inner) ∙ can spot count)
+      (subst (λ x. Leads names old.begin old.forms (Got x (past spot count)) (reverse rest) forms end) t (give (past spot count) forms end h)))
 
--- ---- the forms of the whole
-pub finish_more : (forms : List Form) (item : Item) (items : List Item) (outer : List (List Item)) → finish (forms ++ item.form ∷ []) items outer ≡ finish forms (item ∷ items) outer
-finish_more forms item items [] = ap (λ l. Some l) (append_assoc forms (item.form ∷ []) (map (λ i. i.form) items))
-finish_more forms item items (next ∷ outer) = refl
+  pub dotted : (new : Stack) (rest : List Frame) (l m : OpenList) → new.forms ≡ old.forms → new.begin ≡ old.begin → old.frames.items ≡ rest ++ frame.List l ∷ [] → new.frames.items ≡ rest ++ frame.List m ∷ []
+      → m.elements.items ≡ l.elements.items → m.end ≡ Dotted → CanStand old lexeme.Dot → Follows names old place lexeme.Dot new
+  dotted new rest l m ef eb ei en x q can spot count forms end p e h =
+      let inner = inner_last old.frames.items rest (frame.List l) ei in
+      subst (λ fs. GoesIn names old.begin old.forms fs spot forms end) (sym inner)
+      (dots_list names old.forms forms end old.begin (reverse rest) spot count l m x q e (ap (λ fs. flaw_in fs spot (Part count lexeme.Dot)) (sym inner) ∙ can spot count)
+      (goes_by names _ _ _ _ _ _ (past spot count) forms end eb ef (inner_last new.frames.items rest (frame.List m) en) h))
 
-pub finish_none : (items : List Item) (outer : List (List Item)) → finish [] items outer ≡ closed items outer
-finish_none items [] = refl
-finish_none items (next ∷ outer) = refl
+-- a gap
+pub gap_follows : (names : List (List ℕ)) (stack : Stack) (place : Place) (piece : Piece) (n : ℕ) → piece ≡ Gap n → FollowsPiece names stack place piece stack
+gap_follows names stack place piece n g spot count forms end p e k h =
+    let same : n ≡ count = same_Some n count (sym (ap count_of g) ∙ k) in
+    passes names stack.forms forms end stack.begin (inner_first stack) spot count (e ∙ (g ∙ ap Gap same)) h
 
-pub start_none : (q : ℕ) (o : Option Levels) → run q [] [] o ≡ option_and_then (λ l. closed l.front l.outer) o
-start_none q None = refl
-start_none q (Some l) = finish_none l.front l.outer
+-- ---- what can't be
+module _ (old : Stack) (rest : List Frame) (f : Frame) (symbol : TextId) (ei : old.frames.items ≡ rest ++ f ∷ []) (ef : f ≡ frame.Prefix symbol) where
+  inside_prefix : inner_first old ≡ frame.Prefix symbol ∷ reverse rest
+  inside_prefix = inner_last old.frames.items rest f ei ∙ ap (λ g. g ∷ reverse rest) ef
 
--- ---- one form
--- what waits for a form, where no form comes
-pub resume_end : (q : ℕ) (f : Frame) → resume q f (record { front = []; outer = [] }) ≡ None
-resume_end q (frame.List list) = refl
-resume_end q (frame.Quote place) = refl
+  pub closes_prefix : CanStand old lexeme.Close → ⊥
+  closes_prefix can = prefix_no_close symbol (reverse rest) (subst (λ fs. CanStandIn fs lexeme.Close) inside_prefix can)
 
-pub give_list : (q : ℕ) (forms : List Form) (all fs back : List Frame) (list more : OpenList) (f : Frame) (item : Item) (levels : Levels)
-    → all ≡ fs ++ f ∷ [] → f ≡ frame.List list → back ≡ fs ++ frame.List more ∷ [] → more.place ≡ list.place → more.elements.items ≡ list.elements.items ++ item.form.tree ∷ [] → more.deepest ≡ max list.deepest item.depth
-    → run q forms back (Some levels) ≡ run q forms all (Some (put levels item))
-give_list q forms all fs back list more f item levels a l b p es d =
-    run_push q forms back fs (frame.List more) (Some levels) b
-    ∙ (ap (run q forms fs) ((λ i. open_with (p i) (es i) (d i) levels.front levels.outer) ∙ open_more list.place list.elements.items list.deepest item levels.front levels.outer)
-    ∙ sym (run_push q forms all fs (frame.List list) (Some (put levels item)) (a ∙ ap (λ g. fs ++ g ∷ []) l)))
+  pub dots_prefix : CanStand old lexeme.Dot → ⊥
+  dots_prefix can = prefix_no_dot symbol (reverse rest) (subst (λ fs. CanStandIn fs lexeme.Dot) inside_prefix can)
 
-pub give_quote : (q : ℕ) (forms : List Form) (all fs : List Frame) (f : Frame) (place : Place) (item : Item) (o : Option Item) (levels : Levels)
-    → all ≡ fs ++ f ∷ [] → f ≡ frame.Quote place → o ≡ quote_at q place item
-    → run q forms all (Some (put levels item)) ≡ run q forms fs (option_map (put levels) o)
-give_quote q forms all fs f place item o levels a l e =
-    run_push q forms all fs (frame.Quote place) (Some (put levels item)) (a ∙ ap (λ g. fs ++ g ∷ []) l)
-    ∙ ap (λ r. run q forms fs (option_map (put levels) r)) (sym e)
+pub closes_nothing : (old : Stack) → old.frames.items ≡ [] → CanStand old lexeme.Close → ⊥
+closes_nothing old e can = no_close (subst (λ fs. CanStandIn fs lexeme.Close) (ap reverse e) can)
 
-pub close_list : (q : ℕ) (forms : List Form) (all fs : List Frame) (f : Frame) (list : OpenList) (o : Option Item) (levels : Levels)
-    → all ≡ fs ++ f ∷ [] → f ≡ frame.List list → o ≡ item_around list.place (listed list.elements.items nil) list.deepest
-    → run q forms all (Some (record { front = []; outer = levels.front ∷ levels.outer })) ≡ run q forms fs (option_map (put levels) o)
-close_list q forms all fs f list o levels a l e =
-    run_push q forms all fs (frame.List list) _ (a ∙ ap (λ g. fs ++ g ∷ []) l)
-    ∙ ap (run q forms fs) (open_all list.place list.elements.items list.deepest levels.front levels.outer ∙ ap (option_map (put levels)) (sym e))
-
-pub close_quote : (q : ℕ) (forms : List Form) (all fs : List Frame) (f : Frame) (place : Place) (levels : Levels)
-    → all ≡ fs ++ f ∷ [] → f ≡ frame.Quote place
-    → run q forms all (Some (record { front = []; outer = levels.front ∷ levels.outer })) ≡ None
-close_quote q forms all fs f place levels a l = run_push q forms all fs (frame.Quote place) _ (a ∙ ap (λ g. fs ++ g ∷ []) l) ∙ run_none q forms fs
-
--- ---- steps one after another
-pub makes_after : (old middle new : Stack) (step : Levels → Option Levels) (g : Levels → Levels) (going : Bool)
-    → ((l : Levels) → finished old (step l) ≡ finished middle (Some (g l))) → Makes middle new (λ l. Some (g l)) going → Makes old new step going
-makes_after old middle new step g true e h = λ l. h l ∙ sym (e l)
-makes_after old middle new step g false e h = λ l. e l ∙ h l
-
-pub makes_same : (old new : Stack) (step other : Levels → Option Levels) (going : Bool) → ((l : Levels) → step l ≡ other l) → Makes old new other going → Makes old new step going
-makes_same old new step other true e h = λ l. h l ∙ ap (finished old) (sym (e l))
-makes_same old new step other false e h = λ l. ap (finished old) (e l) ∙ h l
-
-pub makes_on : (old new : Stack) (step : Levels → Option Levels) → Makes old new step true → (o : Option Levels) → finished new o ≡ finished old (option_and_then step o)
-makes_on old new step h None = run_none new.quote.number new.forms new.frames.items ∙ sym (run_none old.quote.number old.forms old.frames.items)
-makes_on old new step h (Some l) = h l
-
-pub makes_none : (old new : Stack) (step : Levels → Option Levels) → Makes old new step false → (o : Option Levels) → finished old (option_and_then step o) ≡ None
-makes_none old new step h None = run_none old.quote.number old.forms old.frames.items
-makes_none old new step h (Some l) = h l
+pub dots_nothing : (old : Stack) → old.frames.items ≡ [] → CanStand old lexeme.Dot → ⊥
+dots_nothing old e can = no_dot (subst (λ fs. CanStandIn fs lexeme.Dot) (ap reverse e) can)

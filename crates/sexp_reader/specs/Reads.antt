@@ -1,23 +1,43 @@
--- The forms that a text spells.
-use Rattle.std.specs.Prelude.{◌≡◌, ℕ, List, [], ◌∷◌, map, Option, Some, None, option_and_then}
+-- The forms that a text spells, and how it ends.
+use Rattle.std.specs.Prelude.{◌≡◌, ℕ, Bool, true, false, List, [], ◌∷◌}
+use Rattle.gl_logic.specs.Object.{Object}
+use Rattle.sexp_reader.specs.declared.place.Place.{Place}
 use Rattle.sexp_reader.specs.declared.list.Form.{Form}
+use Rattle.sexp_reader.specs.declared.ends.ReadCode.{ReadCode}
 use Rattle.sexp_reader.specs.declared.ends.End.{End}
 use Rattle.sexp_reader.specs.declared.ends.End.TheVariants.{Clean, Bad}
+use Rattle.sexp_reader.specs.declared.lexeme.Piece.{Piece}
+use Rattle.sexp_reader.specs.declared.lexeme.Piece.TheVariants.{Ended, Gap}
 use Rattle.sexp_reader.specs.Places.{first_place}
-use Rattle.sexp_reader.specs.Pieces.{pieces_of}
-use Rattle.sexp_reader.specs.declared.stack.Item.{Item}
-use Rattle.sexp_reader.specs.Levels.{levels_of}
+use Rattle.sexp_reader.specs.Pieces.{first_piece}
+use Rattle.sexp_reader.specs.Grammar as grammar
+use Rattle.sexp_reader.specs.Grammar.{Spot, past, Got, Fault, Gives}
 
--- all parentheses are closed and none is left
-abbrev pub closed : List Item → List (List Item) → Option (List Form)
-closed items [] = Some (map (λ item. item.form) items)
-closed items (next ∷ outer) = None
+abbrev pub form_at : Place → Object → Form
+form_at place object = record { tree = object; line = place.line; column = place.column }
 
--- the forms that bytes spell, their symbols numbered by a table of texts; none where they spell no forms
-abbrev pub reading : List (List ℕ) → List ℕ → Option (List Form)
-reading names bytes = option_and_then (λ levels. closed levels.front levels.outer) (levels_of names (pieces_of first_place bytes))
+abbrev pub bad_at : Place → ReadCode → End
+bad_at place code = Bad place.line place.column code
 
--- Clean with the forms of the text, Bad where there are none
+-- whether something stands here, and no gap
+abbrev pub is_shown : Piece → Bool
+is_shown Ended = false
+is_shown (Gap count) = false
+is_shown piece = true
+
+-- a text from a spot on: gaps, forms with their places, and the end; or the first fault
+pub data ReadsFrom (names : List (List ℕ)) : Spot → List Form → End → Type 0 where
+  ended : (spot : Spot) → first_piece spot.bytes ≡ Ended → ReadsFrom names spot [] Clean
+  gap : (spot : Spot) (count : ℕ) (forms : List Form) (end : End) → first_piece spot.bytes ≡ Gap count
+      → ReadsFrom names (past spot count) forms end → ReadsFrom names spot forms end
+  form : (spot next : Spot) (object : Object) (forms : List Form) (end : End) → is_shown (first_piece spot.bytes) ≡ true
+      → Gives names grammar.Form 0 spot (Got object next) → ReadsFrom names next forms end → ReadsFrom names spot (form_at spot.place object ∷ forms) end
+  fault : (spot : Spot) (place : Place) (code : ReadCode) → is_shown (first_piece spot.bytes) ≡ true
+      → Gives names grammar.Form 0 spot (Fault place code) → ReadsFrom names spot [] (bad_at place code)
+
+abbrev pub start : List ℕ → Spot
+start bytes = record { place = first_place; bytes = bytes }
+
+-- the forms of a text before its first fault, their symbols and strings numbered by a table of texts, and the text's end
 abbrev pub Reads : List (List ℕ) → List ℕ → List Form → End → Type 0
-Reads names bytes forms Clean = reading names bytes ≡ Some forms
-Reads names bytes forms Bad = (reading names bytes ≡ None) × (forms ≡ [])
+Reads names bytes forms end = ReadsFrom names (start bytes) forms end

@@ -1,6 +1,6 @@
 //! Reading a book whole.
 
-ghost use Rattle.std.specs.Prelude.{◌≡◌, ◌≤◌, ◌<◌, ◌+◌, ◌^◌, ℕ, List, IfOk, IfErr, IfSome, IsErrOf, vec_len};
+ghost use Rattle.std.specs.Prelude.{◌≡◌, ◌≢◌, ◌≤◌, ◌<◌, ◌+◌, ◌^◌, ℕ, List, Err, IfOk, IfErr, IfSome, IsErrOf, vec_len};
 ghost use Rattle.gl_base.specs.Outside.{Rose};
 ghost use Rattle.sexp_reader.specs.Book.{IsLongAt};
 
@@ -9,7 +9,7 @@ use gl_base::shelf::Shelf;
 use std::alloc::Global;
 
 /// The bytes that a book may have.
-pub const MOST_BYTES: usize = 65_536;
+pub const MOST_BYTES: usize = 4_194_304;
 
 /// Why a book was not read.
 #[derive(Clone, Copy, Debug, PartialEq, Eq)]
@@ -23,7 +23,7 @@ pub enum ReadEnd {
 }
 
 /// Reads the text with this name from its first byte to its last. Every read takes a byte at least or
-/// ends the loop.
+/// ends the loop, and the first call of the shelf that fails ends it.
 pub fn read_book<S: Shelf>(alloc: Global, shelf: &mut S, name: &str) -> Result<Vec<u8>, ReadEnd>
     // Where the shelf tells its bytes, these are all of them.
     ensures whole { IfOk result (λ bytes. IfSome (S.holds shelf.old name.now) (λ text. bytes.items ≡ text)) }
@@ -31,6 +31,7 @@ pub fn read_book<S: Shelf>(alloc: Global, shelf: &mut S, name: &str) -> Result<V
 
     ensures long { IfErr result (IsLongAt MOST_BYTES (S.holds shelf.old name.now)) }
     ensures failed { IsErrOf result ReadEnd.Failed → Rose (S.faults shelf.old) (S.faults shelf.new) }
+    ensures stayed { result ≢ Err ReadEnd.Failed → S.faults shelf.new ≡ S.faults shelf.old }
     ensures later { S.faults shelf.old ≤ S.faults shelf.new }
     ensures kept { (other : List ℕ) → S.holds shelf.new other ≡ S.holds shelf.old other }
 {
@@ -49,6 +50,7 @@ fn read_at_most<S: Shelf>(
     ensures within { IfOk result (λ bytes. vec_len bytes ≤ limit) }
     ensures long { IfErr result (IsLongAt limit (S.holds shelf.old name.now)) }
     ensures failed { IsErrOf result ReadEnd.Failed → Rose (S.faults shelf.old) (S.faults shelf.new) }
+    ensures stayed { result ≢ Err ReadEnd.Failed → S.faults shelf.new ≡ S.faults shelf.old }
     ensures later { S.faults shelf.old ≤ S.faults shelf.new }
     ensures kept { (other : List ℕ) → S.holds shelf.new other ≡ S.holds shelf.old other }
 {

@@ -1,81 +1,94 @@
 //! The forms of a text.
 
-ghost use Rattle.std.specs.Prelude.{◌≡◌, ◌<◌, ◌↔◌, ℕ, List, [], length, Some, IfOk, All};
+ghost use Rattle.std.specs.Prelude.{◌≡◌, ◌<◌, ◌≤◌, ℕ, List, length, IfOk, All};
 ghost use Rattle.gl_logic.specs.Names.{Extends};
 ghost use Rattle.gl_logic.specs.Numbered.{IsNumbered};
-ghost use Rattle.sexp_reader.specs.Grammar.{IsSpelled};
-ghost use Rattle.sexp_reader.specs.Reads.{Reads, reading};
+ghost use Rattle.gl_logic.specs.Parts.{car_steps};
+ghost use Rattle.sexp_reader.specs.Sizes.{IsNarrow, IsAscii};
+ghost use Rattle.sexp_reader.specs.Gains.{Gains};
+ghost use Rattle.sexp_reader.specs.Reads.{Reads};
 ghost use Rattle.sexp_reader.specs.declared.list.Form.{Form};
-ghost use Rattle.sexp_reader.specs.Stack.{KnowsQuote};
+ghost use Rattle.sexp_reader.specs.declared.ends.End.{End as EndSeen};
 
 use crate::ends::{End, Forms};
-use crate::list::FormList;
-use crate::pieces::piece_len;
+use crate::flaw::Flaw;
+use crate::piece::first_piece;
 use crate::place::Place;
 use crate::stack::Stack;
 use gl_logic::{NoMemory, Texts};
 use std::alloc::Global;
 
-/// Reads a text's forms, and numbers their symbols by the table, which gains the names that are new.
-///
-/// White space is bytes 10 and 32. A word is an integer from -2^127 to 2^127 - 1, a symbol (a letter,
-/// and then letters, digits and `-`; or `<`) or a keyword (`:` and a symbol), read to upper case. `'x`
-/// is `(quote x)`, and `()` is NIL. At most 1,000 parentheses and quotes stand inside one another.
-/// Where memory runs out the table may have gained names.
+/// Reads a text's forms up to its first fault, and numbers their symbols and strings by the table,
+/// which gains the names that are new. Where memory runs out the table may have gained names.
 pub fn forms(alloc: Global, bytes: &[u8], texts: &mut Texts) -> Result<Forms, NoMemory>
     requires { length bytes.now < 4294967295 }
-    // The forms are the text's, in this table and in each that begins with it.
+    // The forms and the end are the text's, in this table and in each that begins with it.
     ensures reads { IfOk result (λ forms. (later : List (List ℕ)) → Extends texts.new later
         → Reads later bytes.now forms.list forms.end) }
     ensures kept { Extends texts.old texts.new }
-    // The table has the name of each symbol in them.
+    // The table gains the texts of lexemes of the text, and no others.
+    ensures gains { Gains bytes.now texts.old texts.new }
+    // The table has the text of each symbol and string in them.
     ensures numbered { IfOk result (λ forms. All (λ form. IsNumbered (length texts.new) form.tree) forms.list) }
+    // Their integers are within 128 bits, their characters' codes at most 127, and no car is nested deeper than 1,000 times.
+    ensures narrow { IfOk result (λ forms. All (λ form. IsNarrow form.tree) forms.list) }
+    ensures ascii { IfOk result (λ forms. All (λ form. IsAscii form.tree) forms.list) }
+    ensures flat { IfOk result (λ forms. All (λ form. car_steps form.tree ≤ 1000) forms.list) }
 {
     let forms = read_all(alloc, bytes, texts)?;
+    texts.is_table();
     Ok(forms)
 }
 
-// The same, by a table that has QUOTE.
 fn read_all(alloc: Global, bytes: &[u8], texts: &mut Texts) -> Result<Forms, NoMemory>
     requires { length bytes.now < 4294967295 }
     ensures reads { IfOk result (λ forms. (later : List (List ℕ)) → Extends texts.new later
         → Reads later bytes.now forms.list forms.end) }
     ensures kept { Extends texts.old texts.new }
-    ensures quote { IfOk result (λ _. (quote : ℕ) × KnowsQuote texts.new quote) }
+    ensures gains { Gains bytes.now texts.old texts.new }
 {
-    let mut stack = Stack::new(alloc, texts.id_of(b"QUOTE")?);
+    let mut stack = Stack::new(alloc);
     let mut place = Place::first();
     let mut rest = bytes;
-    while !rest.is_empty() {
-        let (piece, behind) = rest.split_at(piece_len(rest));
-        if !stack.read(alloc, piece, place, texts)? {
-            return Ok(bad(alloc));
+    loop {
+        let piece = first_piece(alloc, rest)?;
+        if let Some(flaw) = stack.flaw(&piece, place, rest) {
+            return Ok(bad(stack, flaw));
         }
-        place = place.behind(piece);
+        let Some(count) = stack.take(alloc, piece, place, texts)? else {
+            return Ok(clean(stack));
+        };
+        let (front, behind) = rest.split_at(count);
+        place = place.behind(front);
         rest = behind;
     }
-    match stack.finish() {
-        Some(list) => Ok(Forms {
-            list,
-            end: End::Clean,
-        }),
-        None => Ok(bad(alloc)),
-    }
 }
 
-fn bad(alloc: Global) -> Forms
-    ensures list { result.list ≡ [] }
-    ensures end { result.end ≡ End.Bad }
+// The forms before a fault.
+fn bad(stack: Stack, flaw: Flaw) -> Forms
+    ensures list { result.list ≡ stack.forms }
+    ensures end { result.end ≡ End.Bad flaw.place.line flaw.place.column flaw.code }
 {
     Forms {
-        list: FormList::new(alloc),
-        end: End::Bad,
+        list: stack.forms,
+        end: End::Bad(flaw.place.line, flaw.place.column, flaw.code),
     }
 }
 
-/// A law: the forms that a text reads as, by any table, are the forms that the grammar gives it. So a
-/// text has the forms of one reading at most.
-pub fn is_grammar()
-    ensures { (names : List (List ℕ)) (bytes : List ℕ) (forms : List Form)
-        → (reading names bytes ≡ Some forms) ↔ IsSpelled names bytes forms }
+// The forms of a text that is whole.
+fn clean(stack: Stack) -> Forms
+    ensures list { result.list ≡ stack.forms }
+    ensures end { result.end ≡ End.Clean }
+{
+    Forms {
+        list: stack.forms,
+        end: End::Clean,
+    }
+}
+
+/// A law: a text has one reading by a table of texts, and only one.
+pub fn has_one_reading()
+    ensures some { (names : List (List ℕ)) (bytes : List ℕ) → (forms : List Form) × (end : EndSeen) × Reads names bytes forms end }
+    ensures one { (names : List (List ℕ)) (bytes : List ℕ) (forms others : List Form) (end other : EndSeen)
+        → Reads names bytes forms end → Reads names bytes others other → (forms ≡ others) × (end ≡ other) }
 {}

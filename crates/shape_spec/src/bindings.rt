@@ -82,9 +82,10 @@ impl Bindings {
         Ok(())
     }
 
-    /// How many variables there are.
+    /// How many variables there are. With it stands what all bindings keep.
     pub fn len(&self) -> u64
-        ensures { result ≡ length self.now }
+        ensures len { result ≡ length self.now }
+        ensures proper { IsBindings self.now }
     {
         self.items.len() as u64
     }
@@ -104,18 +105,12 @@ impl Bindings {
     {
         &self.items[i as usize].shape
     }
-
-    /// What all bindings keep.
-    pub fn proper(&self)
-        ensures { IsBindings self.now }
-    {
-        let _ = &self.items;
-    }
 }
 
-/// How many indices the bindings have. Takes no memory.
+/// How many indices the bindings have, and what all bindings keep. Takes no memory.
 pub fn bit_count(b: &Bindings) -> u32
-    ensures { result ≡ width_of b.now }
+    ensures count { result ≡ width_of b.now }
+    ensures proper { IsBindings b.now }
 {
     b.indices.len() as u32
 }

@@ -1,5 +1,8 @@
+use super::rows::words_in;
 use crate::adapters::{FileShelf, WriterSink, read_some};
+use crate::run::run;
 use gl_base::failed::Failed;
+use gl_base::memory_sink::MemorySink;
 use gl_base::shelf::Shelf;
 use gl_base::sink::Sink;
 use std::io::{ErrorKind, Read, Write};
@@ -20,6 +23,19 @@ fn real_file(rt: HostRuntime) -> Result<(), Fail> {
     assert_eq!(rt; &piece[..2], b"b)".as_slice());
     assert_eq!(rt; shelf.read(&mut piece), Ok(0));
     fs::remove_file(&rt, name)?;
+    Ok(())
+}
+
+/// A folder opens as a file does, and its first read fails.
+#[test]
+fn folder(rt: HostRuntime) -> Result<(), Fail> {
+    let alloc = rt.alloc();
+    let mut shelf = FileShelf::new(&rt);
+    let mut out = MemorySink::new(alloc, 100, Vec::new(alloc))?;
+    let words = words_in(alloc, ".")?;
+    let status = run(&rt, alloc, words.as_slice(), &mut shelf, &mut out);
+    assert_eq!(rt; status.code(), 4);
+    assert_eq!(rt; out.bytes(), b"".as_slice());
     Ok(())
 }
 
@@ -80,17 +96,11 @@ fn uneven_reader(rt: HostRuntime) -> Result<(), Fail> {
         taken: b"ab".to_vec(rt.alloc())?,
         calls: 0,
     };
-    let mut faults = 0;
     let mut piece = [0u8; 3];
-    assert_eq!(rt; read_some(&mut reader, &mut faults, &mut piece), Ok(2));
+    assert_eq!(rt; read_some(&mut reader, &mut piece), Ok(2));
     assert_eq!(rt; &piece[..2], b"ab".as_slice());
-    assert_eq!(rt; faults, 0);
-    assert_eq!(rt; read_some(&mut reader, &mut faults, &mut piece), Ok(0));
-    assert_eq!(rt;
-        read_some(&mut reader, &mut faults, &mut piece),
-        Err(Failed)
-    );
-    assert_eq!(rt; faults, 1);
+    assert_eq!(rt; read_some(&mut reader, &mut piece), Ok(0));
+    assert_eq!(rt; read_some(&mut reader, &mut piece), Err(Failed));
     Ok(())
 }
 

@@ -1,6 +1,9 @@
-use Rattle.std.proofs.Common.{inr}
-use Rattle.gl_book.proofs.Ends.{if_some}
+use Rattle.std.proofs.Common.{refl}
+use Rattle.gl_book.proofs.Ends.{of_long_book, of_no_memory}
 use Rattle.gl_book.proofs.run.run_book.Goals as goal
 
 pub returns-in-Err-TooLong-clause-written : goal.returns-in-Err-TooLong-clause-written
-returns-in-Err-TooLong-clause-written g c = if_some (g.S.Shelf.holds c.args.shelf.now c.args.name.now) _ _ (λ text h. inr (c.refuse_long.ensures.written c.args.limits.now.enum_bits text h.0)) (rw c.in-Err-TooLong.field-0-is at c.in-Err-TooLong.ensures.long)
+returns-in-Err-TooLong-clause-written g c = λ _. of_long_book c.args.limits.now.enum_bits (g.S.Shelf.holds c.args.shelf.now c.args.name.now) _ _ _ _ (rw c.in-Err-TooLong.field-0-is at c.in-Err-TooLong.ensures.long) c.refuse_long.ensures.written
+
+pub returns-in-Err-Memory-clause-written : goal.returns-in-Err-Memory-clause-written
+returns-in-Err-Memory-clause-written g c = λ _. of_no_memory c.args.limits.now.enum_bits (g.S.Shelf.holds c.args.shelf.now c.args.name.now) _ _ refl

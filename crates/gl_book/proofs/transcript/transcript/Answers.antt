@@ -1,8 +1,8 @@
 use Rattle.std.proofs.Common.{sym, subst, []}
 use Rattle.std.proofs.lemmas.List.{append-nil}
 use Rattle.std.proofs.lemmas.Result.{IfOk-weaker}
-use Rattle.sexp_reader.specs.declared.ends.End.{End}
-use Rattle.sexp_reader.specs.Reads.{Reads}
+use Rattle.plain_reader.specs.declared.ends.End.{End}
+use Rattle.plain_reader.specs.Reads.{Reads}
 use Rattle.gl_book.proofs.Transcripts.{of_bad, of_forms}
 use Rattle.gl_book.proofs.Printable.{book_of_forms}
 use Rattle.gl_book.proofs.transcript.transcript.Goals as goal

@@ -1,4 +1,4 @@
-use Rattle.std.proofs.Common.{rules, arith, ◌∙◌}
+use Rattle.std.proofs.Common.{rules, ◌∙◌}
 use Rattle.sexp_reader.proofs.Told.{takes_then, takes_all}
 use Rattle.sexp_reader.proofs.book.read_at_most.Goals as goal
 
@@ -9,7 +9,7 @@ pub loop-buffer-preserved : goal.loop-buffer-preserved
 loop-buffer-preserved g c = record {
   told = rw c.in-Ok-extend_from_slice.ensures.items (takes_then _ _ _ _ _ c.loop-buffer.invariant.told c.in-Ok-read.ensures.bytes);
   opened = c.in-Ok-read.ensures.open;
-  later = omega (arith, c.in-Ok-read.ensures.cause.later, c.loop-buffer.invariant.later);
+  stayed = c.in-Ok-read.ensures.cause.stayed ∙ c.loop-buffer.invariant.stayed;
   kept = λ other. c.in-Ok-read.ensures.kept other ∙ c.loop-buffer.invariant.kept other;
   sized = search rules;
 }

@@ -1,4 +1,4 @@
-use Rattle.std.proofs.Common.{◌≡◌, ◌≤◌, ◌+◌, ◌-◌, ℕ, List, length, true, vec_len}
+use Rattle.std.proofs.Common.{◌≡◌, ◌+◌, ◌-◌, ℕ, List, length, true, vec_len}
 use Rattle.gl_base.specs.Outside.{Takes}
 use Rattle.sexp_reader.proofs.book.read_at_most.Given as goal
 
@@ -7,7 +7,7 @@ abbrev pub invariant-loop-buffer : goal.invariant-loop-buffer
 invariant-loop-buffer g l = record {
   told : Takes (g.S.Shelf.holds l.fn.shelf l.name) (g.S.Shelf.rest l.shelf) l.bytes.items;
   opened : g.S.Shelf.is_open l.shelf ≡ true;
-  later : g.S.Shelf.faults l.fn.shelf ≤ g.S.Shelf.faults l.shelf;
+  stayed : g.S.Shelf.faults l.shelf ≡ g.S.Shelf.faults l.fn.shelf;
   kept : (other : List ℕ) → g.S.Shelf.holds l.shelf other ≡ g.S.Shelf.holds l.fn.shelf other;
   sized : length l.buffer ≡ 4096;
 }

@@ -1,42 +1,42 @@
-use Rattle.std.proofs.Common.{◌∙◌, sym, ap, subst, arith, length}
-use Rattle.std.specs.Prelude.{option_and_then}
-use Rattle.sexp_reader.specs.Pieces.{pieces_of}
-use Rattle.sexp_reader.specs.Levels.{levels_of, put_piece, quote_text}
-use Rattle.sexp_reader.specs.Reads.{closed, reading}
-use Rattle.sexp_reader.specs.Stack.{Makes, piece_at}
-use Rattle.sexp_reader.proofs.Atoms.{place_later}
-use Rattle.sexp_reader.proofs.Steps.{extends_then, extends_name, fits_behind, goes_on, stops, reads_bad}
+use Rattle.std.proofs.Common.{◌∙◌, sym, ap, arith, length}
+use Rattle.sexp_reader.specs.Places.{behind}
+use Rattle.sexp_reader.proofs.Tables.{extends_then}
+use Rattle.sexp_reader.proofs.Reading.{ends_bad, ends_clean, goes_on}
+use Rattle.sexp_reader.proofs.Gained.{gains_piece, inside_rest}
+use Rattle.sexp_reader.proofs.Fits.{fits_behind}
 use Rattle.sexp_reader.proofs.text.read_all.Goals as goal
 
-pub loop-rest-init : goal.loop-rest-init
-loop-rest-init c = record {
-  whole = λ later x.
-      c.new-stack.ensures.none (levels_of later (pieces_of c.first-place.result c.args.bytes.now))
-      ∙ ap (λ p. option_and_then (λ l. closed l.front l.outer) (levels_of later (pieces_of p c.args.bytes.now))) c.first-place.ensures;
-  knows = λ later x. place_later quote_text c.id_of.new.self later c.in_ok-id_of.field-0.number c.in_ok-id_of.ensures.number x ∙ ap (λ t. t.number) (sym c.new-stack.ensures.quote);
-  kept = extends_name c.args.texts.now quote_text c.id_of.new.self c.in_ok-id_of.ensures.ok;
-  fits = rw c.first-place.ensures (omega arith, omega arith, omega arith);
-}
+pub returns-in-Some-clause-reads : goal.returns-in-Some-clause-reads
+returns-in-Some-clause-reads c later x =
+    let l = c.loop-stack in
+    l.invariant.whole later c.bad.result.list c.bad.result.end x
+    (ends_bad later l.stack l.place l.rest.now c.in_ok-piece.piece c.in_ok-piece.ensures.piece c.in-Some.flaw c.bad.result.list c.bad.result.end (sym c.in-Some.is ∙ c.flaw.ensures) c.bad.ensures.list c.bad.ensures.end)
 
-pub returns-then-not-branch-clause-reads : goal.returns-then-not-branch-clause-reads
-returns-then-not-branch-clause-reads c later x =
-    let s = c.loop-rest in
-    let going = subst (Makes s.stack c.read.new.self (put_piece later (piece_at s.place c.split_at.result.0.now))) c.if-not-branch.true (c.in_ok-read.ensures.step later x) in
-    reads_bad later c.args.bytes.now _ _
-    (stops s.stack c.read.new.self later s.place s.rest.now c.split_at.result.0.now c.split_at.result.1.now c.piece_len.result (reading later c.args.bytes.now)
-    (s.invariant.whole later (extends_then _ _ _ c.in_ok-read.ensures.kept x)) (c.piece_len.ensures.cut s.place) c.split_at.ensures.front c.split_at.ensures.back going)
-    c.bad.ensures.list c.bad.ensures.end
+pub returns-in_default-2-clause-reads : goal.returns-in_default-2-clause-reads
+returns-in_default-2-clause-reads c later x =
+    let l = c.loop-stack in
+    let none = sym c.in_ok-count.ensures.count ∙ c.in_default-2.is in
+    let same = c.in_ok-count.ensures.none none in
+    l.invariant.whole later c.clean.result.list c.clean.result.end (extends_then _ _ _ c.in_ok-count.ensures.kept x)
+    (ends_clean later l.stack l.place l.rest.now c.in_ok-piece.piece c.in_ok-piece.ensures.piece c.clean.result.list c.clean.result.end (sym c.in_default.is ∙ c.flaw.ensures) none
+    (c.clean.ensures.list ∙ ap (λ s. s.forms) same.0) c.clean.ensures.end)
 
-pub loop-rest-preserved : goal.loop-rest-preserved
-loop-rest-preserved c = let s = c.loop-rest in record {
-  whole = λ later x.
-      let going = subst (Makes s.stack c.read.new.self (put_piece later (piece_at s.place c.split_at.result.0.now))) c.if-not-branch.false (c.in_ok-read.ensures.step later x) in
-      goes_on s.stack c.read.new.self later s.place s.rest.now c.split_at.result.0.now c.split_at.result.1.now c.piece_len.result (reading later c.args.bytes.now)
-      (s.invariant.whole later (extends_then _ _ _ c.in_ok-read.ensures.kept x)) (c.piece_len.ensures.cut s.place) c.split_at.ensures.front c.split_at.ensures.back c.behind-place.result c.behind-place.ensures going;
-  knows = λ later x. s.invariant.knows later (extends_then _ _ _ c.in_ok-read.ensures.kept x) ∙ ap (λ t. t.number) (sym c.in_ok-read.ensures.quote);
-  kept = extends_then _ _ _ s.invariant.kept c.in_ok-read.ensures.kept;
-  fits = rw c.behind-place.ensures (fits_behind s.place c.split_at.result.0.now (length c.split_at.result.1.now) (omega arith, omega arith, omega arith));
-}
+pub loop-stack-preserved : goal.loop-stack-preserved
+loop-stack-preserved c =
+    let l = c.loop-stack in
+    record {
+      whole = λ later forms end x h.
+          l.invariant.whole later forms end (extends_then _ _ _ c.in_ok-count.ensures.kept x)
+          (goes_on later l.stack l.place l.rest.now c.in_ok-piece.piece c.in_ok-piece.ensures.piece c.take.new.self c.in-Some-2.count c.behind-place.result c.split_at.result.1.now forms end (c.in_ok-count.ensures.step later x)
+          (sym c.in_ok-count.ensures.count ∙ c.in-Some-2.is) (c.behind-place.ensures ∙ ap (behind l.place) c.split_at.ensures.front) c.split_at.ensures.back h);
+      gains = gains_piece c.args.bytes.now c.args.texts.now l.texts c.take.new.texts l.invariant.gains l.rest.now c.in_ok-piece.piece c.in_ok-piece.ensures.piece l.invariant.inside c.in_ok-count.ensures.adds;
+      inside = inside_rest c.args.bytes.now l.rest.now c.split_at.result.1.now c.in_ok-piece.piece c.in-Some-2.count c.in_ok-piece.ensures.piece (sym c.in_ok-count.ensures.count ∙ c.in-Some-2.is) c.split_at.ensures.back l.invariant.inside;
+      kept = extends_then _ _ _ l.invariant.kept c.in_ok-count.ensures.kept;
+      fits = rw c.behind-place.ensures (fits_behind l.place c.split_at.result.0.now (length c.split_at.result.1.now) (omega arith, omega arith, omega arith));
+    }
 
-pub returns-then-not-branch-clause-quote : goal.returns-then-not-branch-clause-quote
-returns-then-not-branch-clause-quote c = let s = c.loop-rest in (s.stack.quote.number, λ later x. s.invariant.knows later (extends_then _ _ _ c.in_ok-read.ensures.kept x))
+pub returns-in_default-2-clause-gains : goal.returns-in_default-2-clause-gains
+returns-in_default-2-clause-gains c = let l = c.loop-stack in gains_piece c.args.bytes.now c.args.texts.now l.texts c.take.new.texts l.invariant.gains l.rest.now c.in_ok-piece.piece c.in_ok-piece.ensures.piece l.invariant.inside c.in_ok-count.ensures.adds
+
+pub returns-in_err-count-clause-gains : goal.returns-in_err-count-clause-gains
+returns-in_err-count-clause-gains c = let l = c.loop-stack in gains_piece c.args.bytes.now c.args.texts.now l.texts c.take.new.texts l.invariant.gains l.rest.now c.in_ok-piece.piece c.in_ok-piece.ensures.piece l.invariant.inside c.take.ensures.adds

@@ -4,6 +4,6 @@ use Rattle.bdd_store.proofs.bits.BddBits.and.Goals as goal
 
 pub returns-clause-room : goal.returns-clause-room
 returns-clause-room c = λ narrow room.
-    let new = c.both-answer.new.self in
-    ok_unless c.both-answer.result (length new.nodes ≡ new.limit + 1) c.both-answer.ensures.full (λ full.
-    omega (arith, full, c.both-answer.ensures.extends.same_limit, few new.nodes new.width c.width_of-width.ensures.ordered c.width_of-width.ensures.distinct (omega (arith, c.both-answer.ensures.extends.same_width))))
+    let new = c.both.new.self in let e = c.both.ensures in
+    ok_unless c.both.result (length new.nodes ≡ new.limit + 1) e.full (λ full.
+    omega (arith, full, e.extends.same_limit, few new.nodes new.width e.extends.ordered e.extends.distinct (omega (arith, e.extends.same_width))))

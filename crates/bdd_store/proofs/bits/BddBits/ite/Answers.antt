@@ -4,6 +4,6 @@ use Rattle.bdd_store.proofs.bits.BddBits.ite.Goals as goal
 
 pub returns-clause-room : goal.returns-clause-room
 returns-clause-room c = λ narrow room.
-    let new = c.choose-answer.new.self in
-    ok_unless c.choose-answer.result (length new.nodes ≡ new.limit + 1) c.choose-answer.ensures.full (λ full.
-    omega (arith, full, c.choose-answer.ensures.extends.same_limit, few new.nodes new.width c.width_of-width.ensures.ordered c.width_of-width.ensures.distinct (omega (arith, c.choose-answer.ensures.extends.same_width))))
+    let new = c.choose.new.self in let e = c.choose.ensures in
+    ok_unless c.choose.result (length new.nodes ≡ new.limit + 1) e.full (λ full.
+    omega (arith, full, e.extends.same_limit, few new.nodes new.width e.extends.ordered e.extends.distinct (omega (arith, e.extends.same_width))))

@@ -1,18 +1,25 @@
-use Rattle.std.proofs.Common.{◌≡◌, ◌++◌, ◌∷◌, [], refl, ap, ◌∙◌, arith, length}
+use Rattle.std.proofs.Common.{◌≡◌, ◌+◌, ◌++◌, ◌∷◌, [], Bool, true, false, cond, refl, sym, ap, ◌∙◌, arith, length, rules}
 use Rattle.std.proofs.lemmas.List.{length_push}
 use Rattle.bdd_store.specs.declared.node.Node.{Node}
-use Rattle.bdd_store.specs.Nodes.{Diagrams, node_at}
+use Rattle.bdd_store.specs.Nodes.{Diagrams, node_at, truth_of}
 use Rattle.bdd_store.specs.Inside.{IsBranch, IsOrdered}
 use Rattle.bdd_store.proofs.Nodes.{top-constant}
-use Rattle.bdd_store.proofs.Drawn.{variable-says}
+use Rattle.bdd_store.proofs.Drawn.{variable-says, true-says, false-says}
 use Rattle.bdd_store.proofs.Pushes.{truth-before, node-last, ordered-push, ordered-widen}
 use Rattle.bdd_store.proofs.Room.{few}
+use Rattle.bdd_store.proofs.Held.{unheld_branch, held_as}
 use Rattle.bdd_store.proofs.bits.BddBits.var.Goals as goal
 use Rattle.bdd_store.proofs.bits.BddBits.var.Goals.{After-max, After-edge_of-2}
 
-pub returns-in-Some-clause-truth : goal.returns-in-Some-clause-truth
-returns-in-Some-clause-truth c a =
-    variable-says c.args.self.now.nodes _ c.width_of-width.ensures.ordered c.edge_of.result (node_at c.args.self.now.nodes c.in-Some.found) c.args.k c.edge_of.ensures.truth c.in-Some.ensures.found.2 a
+pub returns-in-Some-clause-makes : goal.returns-in-Some-clause-makes
+returns-in-Some-clause-makes c = record {
+  grows = search rules;
+  same_spent = refl;
+  width = search rules;
+  live = search rules;
+  truth = λ a. variable-says c.args.self.now.nodes _ c.width_of-width.ensures.ordered c.edge_of.result (node_at c.args.self.now.nodes c.in-Some.found) c.args.k c.edge_of.ensures.truth c.in-Some.ensures.found.2 a;
+  full = search rules;
+}
 
 branch : (c : After-max) → IsBranch c.args.self.now.nodes c.max.result (length c.args.self.now.nodes) (record { variable = c.args.k; high = record { number = 0 }; low = record { number = 1 } })
 branch c =
@@ -34,27 +41,50 @@ push-number-requires-clause-branch c = rw c.widen.ensures (branch ((goal.at.push
 nodes_are : (c : After-edge_of-2) → c.push-number.new.self.nodes ≡ c.args.self.now.nodes ++ record { variable = c.args.k; high = record { number = 0 }; low = record { number = 1 } } ∷ []
 nodes_are c = ap (λ (s : Diagrams). s.nodes) c.push-number.ensures.added ∙ ap (λ (s : Diagrams). s.nodes ++ record { variable = c.args.k; high = record { number = 0 }; low = record { number = 1 } } ∷ []) c.widen.ensures
 
-pub returns-clause-grows : goal.returns-clause-grows
-returns-clause-grows c =
-    let old = c.args.self.now.nodes in
-    let node : Node = record { variable = c.args.k; high = record { number = 0 }; low = record { number = 1 } } in
-    let is = nodes_are c in
-    record {
-      stays = λ e h. rw is (omega (arith, h, length_push old node));
-      same = λ e a h. rw is (truth-before old node e a h);
-      same_limit = ap (λ (s : Diagrams). s.limit) c.push-number.ensures.added ∙ ap (λ (s : Diagrams). s.limit) c.widen.ensures;
-      no_fewer = rw is (omega (arith, length_push old node));
-    }
-
-pub returns-clause-truth : goal.returns-clause-truth
-returns-clause-truth c a =
-    let d = (goal.at.returns-clause-truth c).After-max in
+pub returns-clause-makes : goal.returns-clause-makes
+returns-clause-makes c =
+    let d = (goal.at.returns-clause-makes c).After-max in
     let old = c.args.self.now.nodes in
     let node : Node = record { variable = c.args.k; high = record { number = 0 }; low = record { number = 1 } } in
     let is = nodes_are c in
     let o : IsOrdered c.push-number.new.self.nodes c.max.result = rw is (ordered-push old node c.max.result (ordered-widen old _ c.max.result c.width_of-width.ensures.ordered (omega (arith, c.max.ensures)) (omega (arith, c.max.ensures, c.requires, c.width_of-width.ensures.ordered.narrow))) (branch d)) in
     let last : node_at c.push-number.new.self.nodes c.push-number.result ≡ node = rw is (node-last old node c.push-number.result (c.push-number.ensures.number ∙ ap (λ (s : Diagrams). length s.nodes) c.widen.ensures)) in
-    variable-says c.push-number.new.self.nodes _ o c.edge_of-2.result (node_at c.push-number.new.self.nodes c.push-number.result) c.args.k c.edge_of-2.ensures.truth last a
+    record {
+      grows = record {
+        stays = λ e h. rw is (omega (arith, h, length_push old node));
+        same = λ e a h. rw is (truth-before old node e a h);
+        same_limit = ap (λ (s : Diagrams). s.limit) c.push-number.ensures.added ∙ ap (λ (s : Diagrams). s.limit) c.widen.ensures;
+        no_fewer = rw is (omega (arith, length_push old node));
+      };
+      same_spent = refl;
+      width = ap (λ (s : Diagrams). s.width) c.push-number.ensures.added ∙ ap (λ (s : Diagrams). s.width) c.widen.ensures ∙ search rules;
+      live = rw is (omega (arith, c.edge_of-2.ensures.node, c.push-number.ensures.number, ap (λ (s : Diagrams). length s.nodes) c.widen.ensures, length_push old node));
+      truth = λ a. variable-says c.push-number.new.self.nodes _ o c.edge_of-2.result (node_at c.push-number.new.self.nodes c.push-number.result) c.args.k c.edge_of-2.ensures.truth last a;
+      full = tt;
+    }
+
+pub returns-then-len-limit-clause-unheld : goal.returns-then-len-limit-clause-unheld
+returns-then-len-limit-clause-unheld c = λ held.
+    let nodes = c.args.self.now.nodes in
+    let o = c.width_of-width.ensures.ordered in
+    let d = c.width_of-width.ensures.distinct in
+    let n : Node = record { variable = c.args.k; high = record { number = 0 }; low = record { number = 1 } } in
+    let is : IsBranch nodes (c.args.k + 1) (length nodes) n = record {
+      high_below = o.some;
+      low_below = o.some;
+      regular = refl;
+      differ = λ e. omega arith;
+      above_high = omega (arith, top-constant nodes _ o n.high refl, c.requires);
+      above_low = omega (arith, top-constant nodes _ o n.low refl, c.requires);
+      in_width = omega arith;
+    } in
+    unheld_branch nodes _ o d (c.args.k + 1) n is c.requires c.in_default.ensures.absent
+    (held_as nodes _ o d (λ a. a c.args.k) (λ a. cond (a c.args.k) (truth_of nodes n.high a) (truth_of nodes n.low a))
+    (λ a. sym (cond_same (a c.args.k)) ∙ (λ i. cond (a c.args.k) (sym (true-says nodes _ o n.high refl a) i) (sym (false-says nodes _ o n.low refl a) i))) held)
+  where
+    cond_same : (b : Bool) → cond b true false ≡ b
+    cond_same true = refl
+    cond_same false = refl
 
 pub returns-then-len-limit-clause-room : goal.returns-then-len-limit-clause-room
 returns-then-len-limit-clause-room c = λ narrow small room.

@@ -12,4 +12,4 @@ invariant_of-self-2 c =
     let items = c.in_ok-push.ensures.items in
     let count : c.len-place.result ≡ length old = search rules in
     let after = ap (λ es. names_of (map entry_of es)) items ∙ (ap names_of (map-append entry_of old _) ∙ map-append (λ (e : ℕ × Object). e.0) (map entry_of old) _) in
-    index_push c.self.inside.index c.reserve.new.self c.put.new.self (names_of (map entry_of old)) _ c.args.name.number c.len-place.result c.self.invariant (subst (λ (es : List (ℕ × Object)). IsFree (names_of es) c.args.name.number) (sym c.self.view_is) c.requires) (count ∙ (sym (length-map old entry_of) ∙ sym (length-map (map entry_of old) (λ (e : ℕ × Object). e.0)))) after c.reserve.ensures.same c.put.ensures
+    index_push c.self.inside.index c.reserve.new.self c.put.new.self (names_of (map entry_of old)) _ c.args.name.number c.len-place.result c.self.invariant (subst (λ (es : List (ℕ × Object)). IsFree (names_of es) c.args.name.number) (sym c.self.view_is) c.requires) (count ∙ (sym (length-map old entry_of) ∙ sym (length-map (map entry_of old) (λ (e : ℕ × Object). e.0)))) after c.reserve.ensures.same c.put.ensures.places

@@ -1,35 +1,35 @@
-use Rattle.std.proofs.Common.{rules, arith, length, ◌≡◌, ◌+◌, ◌-◌, ◌≤◌, sym, subst, ℕ, take}
+use Rattle.std.proofs.Common.{rules, arith, length, ◌≡◌, ◌+◌, ◌-◌, ◌<◌, ◌≤◌, sym, ◌∙◌, ap₂, ap, subst, ℕ, List, take}
 use Rattle.std.specs.Vec.{vec_capacity}
 use Rattle.std.proofs.lemmas.List.{get_or_read}
-use Rattle.hons_arena.specs.declared.cell.Cell.{Cell}
 use Rattle.hons_arena.specs.Cells.{cell_at}
-use Rattle.hons_arena.specs.Probe.{IsFoundAt}
-use Rattle.hons_arena.proofs.Entering.{count_is, found_here, IsEmptyEnd, empty_here}
-use Rattle.hons_arena.proofs.Reading.{newest_found, sound_pop, objects_left}
+use Rattle.hons_arena.specs.Hash.{home_of}
+use Rattle.hons_arena.specs.Probe.{IsNowhere, IsFirstWith}
+use Rattle.hons_arena.proofs.Entering.{count_is}
+use Rattle.hons_arena.proofs.Reading.{sound_pop, objects_left}
+use Rattle.hons_arena.proofs.Walks.{somewhere}
 use Rattle.hons_arena.proofs.arena.HonsArena.remove_newest.Goals as goal
 
-pub unreachable-requires : goal.unreachable-requires
-unreachable-requires c =
+pub slot_with-slot-requires-clause-somewhere : goal.slot_with-slot-requires-clause-somewhere
+slot_with-slot-requires-clause-somewhere c =
     let s = c.self in
     let k : ℕ = c.len-newest.result - 1 in
     let last : k + 1 ≡ length s.inside.cells.items = search (rules, count_is s.inside.limit s.inside.cells.items c.args.self.now s.invariant.interned s.view_is) in
-    let read : cell_at s.inside.cells.items k ≡ c.index-cell.result.now = sym (get_or_read s.inside.cells.items k c.index-cell.result.now (omega (arith, last)) c.index-cell.ensures _) in
-    let end : IsEmptyEnd s.inside.cells.items s.inside.slots.items c.index-cell.result.now c.in_default.field-0 = empty_here _ _ _ _ _ _ c.as_slice.ensures.value c.as_slice-2.ensures.value c.in_default.ensures in
-    end.absent k (omega (arith, last)) read
+    let size : c.len.result ≡ length s.inside.slots.items = search rules in
+    let read : c.index.result.now ≡ cell_at s.inside.cells.items k = get_or_read s.inside.cells.items k c.index.result.now (omega (arith, last)) c.index.ensures _ in
+    let home : c.home-home.result ≡ home_of (length s.inside.slots.items) (cell_at s.inside.cells.items k) = c.home-home.ensures.home ∙ ap₂ home_of size read in
+    subst (λ (xs : List ℕ). IsNowhere xs c.home-home.result k → ⊥) (sym c.as_slice.ensures.value)
+    (subst (λ (h : ℕ). IsNowhere s.inside.slots.items h k → ⊥) (sym home) (somewhere s.inside.cells.items s.inside.slots.items k s.invariant.table (omega (arith, last))))
 
 pub invariant_of-self : goal.invariant_of-self
 invariant_of-self c =
     let s = c.self in
     let k : ℕ = c.len-newest.result - 1 in
     let last : k + 1 ≡ length s.inside.cells.items = search (rules, count_is s.inside.limit s.inside.cells.items c.args.self.now s.invariant.interned s.view_is) in
-    let read : cell_at s.inside.cells.items k ≡ c.index-cell.result.now = sym (get_or_read s.inside.cells.items k c.index-cell.result.now (omega (arith, last)) c.index-cell.ensures _) in
-    let at : IsFoundAt s.inside.cells.items s.inside.slots.items c.index-cell.result.now c.in-Found.slot c.in-Found.field-1 = found_here _ _ _ _ _ _ _ c.as_slice.ensures.value c.as_slice-2.ensures.value c.in-Found.ensures in
-    let same : c.in-Found.field-1 ≡ k = newest_found s.inside.cells.items s.inside.slots.items c.index-cell.result.now k c.in-Found.slot c.in-Found.field-1 s.invariant.interned last read at in
-    let there : IsFoundAt s.inside.cells.items s.inside.slots.items (cell_at s.inside.cells.items k) c.in-Found.slot k =
-    subst (λ (e : Cell). IsFoundAt s.inside.cells.items s.inside.slots.items e c.in-Found.slot k) (sym read) (subst (λ (j : ℕ). IsFoundAt s.inside.cells.items s.inside.slots.items c.index-cell.result.now c.in-Found.slot j) same at) in
+    let first : IsFirstWith s.inside.slots.items c.home-home.result k c.slot_with-slot.result = subst (λ (xs : List ℕ). IsFirstWith xs c.home-home.result k c.slot_with-slot.result) c.as_slice.ensures.value c.slot_with-slot.ensures.first in
+    let within : c.slot_with-slot.result < length s.inside.slots.items = omega (arith, c.slot_with-slot.ensures.within, ap length c.as_slice.ensures.value) in
     let left : c.truncate.new.self.items ≡ take k s.inside.cells.items = search rules in
     let room : s.inside.limit ≤ vec_capacity c.truncate.new.self = search rules in
-    sound_pop s.inside.limit s.inside.cells.items (vec_capacity s.inside.cells) s.inside.slots.items k c.in-Found.slot c.truncate.new.self.items (vec_capacity c.truncate.new.self) s.invariant last there left room
+    sound_pop s.inside.limit s.inside.cells.items (vec_capacity s.inside.cells) s.inside.slots.items (vec_capacity s.inside.slots) k c.slot_with-slot.result c.truncate.new.self.items (vec_capacity c.truncate.new.self) s.invariant last within first.is left room
 
 pub returns-clause-objects : goal.returns-clause-objects
 returns-clause-objects c =

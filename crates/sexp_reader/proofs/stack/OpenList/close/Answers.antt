@@ -1,6 +1,6 @@
 use Rattle.std.proofs.Common.{◌∙◌, sym, ap}
-use Rattle.sexp_reader.specs.Levels.{listed}
-use Rattle.sexp_reader.proofs.Stacks.{listed_push}
+use Rattle.sexp_reader.specs.Stack.{listed}
+use Rattle.sexp_reader.proofs.Frames.{listed_push}
 use Rattle.sexp_reader.proofs.stack.OpenList.close.Goals as goal
 
 pub loop-element-preserved : goal.loop-element-preserved

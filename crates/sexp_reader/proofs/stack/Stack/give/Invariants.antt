@@ -1,13 +1,15 @@
-use Rattle.std.proofs.Common.{◌≡◌, Some, vec_len}
-use Rattle.sexp_reader.specs.Levels.{Levels, put}
-use Rattle.sexp_reader.specs.Stack.{finished}
+use Rattle.std.proofs.Common.{ℕ, List, vec_len}
+use Rattle.sexp_reader.specs.declared.list.Form.{Form}
+use Rattle.sexp_reader.specs.declared.ends.End.{End}
+use Rattle.sexp_reader.specs.Grammar.{Spot, Got}
+use Rattle.sexp_reader.specs.Stack.{Leads, inner_first}
 use Rattle.sexp_reader.proofs.stack.Stack.give.Given as goal
 
--- the stack that is left makes of this form what the whole makes of the first one
+-- what comes of this form inside the frames that are left comes of the first one
 abbrev pub invariant-loop-self : goal.invariant-loop-self
 invariant-loop-self l = record {
-  whole : (levels : Levels) → finished l.self (Some (put levels l.item)) ≡ finished l.fn.self (Some (put levels l.fn.item));
-  quote : l.self.quote ≡ l.fn.self.quote;
+  whole : (names : List (List ℕ)) (next : Spot) (forms : List Form) (end : End) → Leads names l.self.begin l.self.forms (Got l.tree next) (inner_first l.self) forms end
+      → Leads names l.fn.self.begin l.fn.self.forms (Got l.fn.tree next) (inner_first l.fn.self) forms end;
 }
 
 abbrev pub decreases-loop-self : goal.decreases-loop-self

@@ -1,11 +1,12 @@
-use Rattle.std.proofs.Common.{◌∙◌, ap, Some}
-use Rattle.sexp_reader.proofs.Stacks.{run_push, open_none}
-use Rattle.sexp_reader.specs.Stack.{run, open_with}
+use Rattle.std.proofs.Common.{◌∙◌, ap, refl, ◌++◌, ◌∷◌, []}
+use Rattle.sexp_reader.specs.declared.stack.ListEnd.TheVariants.{Plain}
+use Rattle.sexp_reader.specs.declared.stack.OpenList.{OpenList}
+use Rattle.sexp_reader.specs.declared.stack.Frame.TheVariants as frame
+use Rattle.sexp_reader.proofs.Stacks.{opened}
 use Rattle.sexp_reader.proofs.stack.Stack.open.Goals as goal
 
-pub returns-clause-step : goal.returns-clause-step
-returns-clause-step c levels =
-    let s = c.args.self.now in
-    run_push s.quote.number s.forms c.push.new.self.items s.frames.items _ (Some levels) c.in_ok-push.ensures.items
-    ∙ (ap (λ es. run s.quote.number s.forms s.frames.items (open_with c.args.place es 0 levels.front levels.outer)) c.new.ensures.items
-    ∙ ap (run s.quote.number s.forms s.frames.items) (open_none c.args.place levels.front levels.outer))
+pub returns : goal.returns
+returns c names =
+    let l : OpenList = record { elements = c.new.result; end = Plain } in
+    opened names c.args.self.now c.args.place (record { forms = c.begin.new.self.forms; begin = c.begin.new.self.begin; frames = c.push.new.self }) l
+    c.begin.ensures.forms c.begin.ensures.begin (c.in_ok-push.ensures.items ∙ ap (λ f. f.items ++ frame.List l ∷ []) c.begin.ensures.frames) c.new.ensures.items refl c.requires

@@ -1,0 +1,5 @@
+use Rattle.admission.proofs.ActualTerms.{no_less}
+use Rattle.admission.proofs.actuals.less_of_two.Goals as goal
+
+pub returns-then-terms-ne2 : goal.returns-then-terms-ne2
+returns-then-terms-ne2 c = no_less c.args.v.number c.args.terms.now c.if-terms-ne2.true

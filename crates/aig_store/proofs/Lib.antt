@@ -1,0 +1,6 @@
+pub mod Chains
+pub mod Nodes
+pub mod Pushes
+pub mod Spread
+pub mod Stores
+pub mod Walks

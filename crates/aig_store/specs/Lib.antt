@@ -1,0 +1,4 @@
+pub mod Hashes
+pub mod Nodes
+pub mod Inside
+pub mod Walks

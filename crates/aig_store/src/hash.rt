@@ -1,0 +1,27 @@
+//! Where tables keep what they are asked for by two numbers.
+
+ghost use Rattle.std.specs.Prelude.{◌≡◌, ◌<◌, ◌*◌, ◌/◌, ◌^◌};
+ghost use Rattle.aig_store.specs.Hashes.{hash_of};
+
+/// The hash of two numbers: a sum that differs where they do, as a rule, multiplied by the odd number nearest to 2^64
+/// over the golden ratio, so that the high bits depend on all (Knuth's multiplicative hashing).
+#[inline]
+#[tactic(auto, unfolding(crate::specs::Hashes::hash_of))]
+pub fn hash(first: u32, second: u32) -> u64
+    ensures { result ≡ hash_of first second }
+{
+    let sum = first as u64 * 625_341_585 + second as u64 * 1_013_904_223;
+    sum.wrapping_mul(11_400_714_819_323_198_485)
+}
+
+/// The place of a hash among `count`: the high half of their product, which takes no division.
+#[inline]
+#[tactic(auto, using(crate::proofs::Spread::spread_below))]
+pub fn spread(hash: u64, count: usize) -> usize
+    requires { 0 < count }
+    ensures place { result ≡ hash * count / 2 ^ 64 }
+    ensures within { result < count }
+{
+    let product = hash as u128 * count as u128;
+    (product / 18_446_744_073_709_551_616) as usize
+}

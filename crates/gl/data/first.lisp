@@ -1,1 +1,0 @@
-(value-triple (car (cons 'a 2)))

@@ -1,0 +1,26 @@
+use Rattle.std.proofs.Common.{◌≡◌, ◌∙◌, ◌++◌, ◌∷◌, [], sym, subst, refl, List, zero, suc}
+use Rattle.gl_logic.specs.Definition.{Definition}
+use Rattle.gl_logic.specs.Ground.{ground}
+use Rattle.gl_logic.specs.IsGround.{IsGround}
+use Rattle.gl_logic.specs.Named.{AreDifferentNames}
+use Rattle.gl_logic.specs.WorldSeen.{IsClique}
+use Rattle.gl_logic.specs.WorkedDefinitions.{atom_definition}
+use Rattle.gl_logic.proofs.Worlds.{clique_of_one}
+use Rattle.gl_logic.proofs.tests.a_clique_is_added.Goals as goal
+
+first_ground : IsGround 0 atom_definition
+unfolding ground
+first_ground = (refl, refl)
+
+one_name : AreDifferentNames (5 ∷ [])
+one_name zero zero name e h = refl
+one_name zero (suc j) name e h = absurd cc
+one_name (suc i) j name e h = absurd cc
+
+first_clique : IsClique [] (atom_definition ∷ [])
+first_clique = clique_of_one [] atom_definition one_name (refl, ((refl, (tt, tt)), tt)) first_ground tt
+
+pub push_clique-requires-clause-clique : goal.push_clique-requires-clause-clique
+push_clique-requires-clause-clique g c =
+    let members : c.push.new.self ≡ atom_definition ∷ [] = c.in_ok-push.ensures.ok ∙ (λ i. c.new-defs.ensures i ++ c.in_ok-atom.ensures i ∷ []) in
+    subst (λ (ds : List Definition). IsClique ds c.push.new.self) (sym c.in_ok-world.ensures.0) (subst (λ (ds : List Definition). IsClique [] ds) (sym members) first_clique)

@@ -1,0 +1,11 @@
+use Rattle.std.proofs.Common.{◌≡◌, ◌≤◌, length, take}
+use Rattle.std.specs.Vec.{vec_capacity}
+use Rattle.hons_arena.specs.Table.{IsTable}
+use Rattle.hons_arena.proofs.slots.refill.Given as goal
+
+abbrev pub invariant-loop-number : goal.invariant-loop-number
+invariant-loop-number l = record {
+  table : IsTable (take l.number l.cells) l.slots.items;
+  size : length l.slots.items ≡ l.size;
+  capacity : vec_capacity l.fn.slots ≤ vec_capacity l.slots;
+}

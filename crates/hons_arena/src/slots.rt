@@ -1,0 +1,89 @@
+//! The slot table: small at first, it doubles within the room that was reserved for it.
+
+ghost use Rattle.std.specs.Prelude.{◌≡◌, ◌+◌, ◌*◌, ◌<◌, ◌≤◌, length, replicate, vec_capacity};
+ghost use Rattle.hons_arena.specs.Table.{empty, most_slots, IsTable};
+ghost use Rattle.hons_arena.specs.Probe.{IsNowhere, IsFirstWith};
+
+use crate::cell::Cell;
+use crate::hash::home;
+
+/// What an empty slot has: a number that no cell has.
+pub const EMPTY: u32 = u32::MAX;
+
+/// How many slots a table has at first, where so many are reserved.
+pub const FIRST_SLOTS: usize = 1024;
+
+/// The most slots for so many cells: a full arena leaves more than half of them empty.
+pub fn most(limit: u32) -> usize
+    ensures { result ≡ most_slots limit }
+{
+    2 * limit as usize + 1
+}
+
+/// Makes a table of so many slots, all empty.
+pub fn make_empty(slots: &mut Vec<u32>, size: usize)
+    requires { size ≤ vec_capacity slots.old }
+    ensures items { slots.new.items ≡ replicate size empty }
+    ensures capacity { vec_capacity slots.old ≤ vec_capacity slots.new }
+{
+    slots.clear();
+    match slots.resize(size, EMPTY) {
+        Ok(()) => {}
+        Err(_) => unreachable!(),
+    }
+}
+
+/// The first slot with this number, or the first empty one, on the walk from a home.
+pub fn slot_with(slots: &[u32], home: usize, number: u32) -> usize
+    requires home { home < length slots.now }
+    requires somewhere { ¬ IsNowhere slots.now home number }
+    ensures first { IsFirstWith slots.now home number result }
+    ensures within { result < length slots.now }
+{
+    let mut slot = home;
+    for _step in 0..slots.len() {
+        if slots[slot] == number {
+            return slot;
+        }
+        slot = if slot + 1 == slots.len() { 0 } else { slot + 1 };
+    }
+    unreachable!()
+}
+
+/// Makes a table of so many slots, which the cells enter in their order.
+#[cold]
+#[inline(never)]
+pub fn refill(cells: &[Cell], slots: &mut Vec<u32>, size: usize)
+    requires few { length cells.now ≤ empty }
+    requires free { length cells.now < size }
+    requires room { size ≤ vec_capacity slots.old }
+    ensures table { IsTable cells.now slots.new.items }
+    ensures size { length slots.new.items ≡ size }
+    ensures capacity { vec_capacity slots.old ≤ vec_capacity slots.new }
+{
+    make_empty(slots, size);
+    for number in 0..cells.len() {
+        let slot = slot_with(slots.as_slice(), home(cells[number], size), EMPTY);
+        slots[slot] = number as u32;
+    }
+}
+
+/// Doubles a table that is half full, within so many slots.
+#[inline(always)]
+pub fn make_room(cells: &[Cell], slots: &mut Vec<u32>, most: usize)
+    requires table { IsTable cells.now slots.old.items }
+    requires some { 0 < length cells.now }
+    requires few { length cells.now ≤ length slots.old.items }
+    requires fewer { length cells.now < most }
+    requires within { length slots.old.items ≤ most }
+    requires room { most ≤ vec_capacity slots.old }
+    ensures table { IsTable cells.now slots.new.items }
+    ensures free { length cells.now < length slots.new.items }
+    ensures within { length slots.new.items ≤ most }
+    ensures capacity { vec_capacity slots.old ≤ vec_capacity slots.new }
+{
+    if cells.len() < slots.len() / 2 {
+        return;
+    }
+    refill(cells, slots, slots.len().saturating_mul(2).min(most));
+}

@@ -1,0 +1,43 @@
+-- The tests of equality decide it.
+use Rattle.std.proofs.Common.{◌≡◌, ℕ, zero, suc, Bool, true, false, true≢false, ◌&&◌, nat_eq, refl, sym, ap, subst, ◌∙◌, List, arith}
+use Rattle.std.specs.Bool.{Decides}
+use Rattle.std.specs.Cmp.{unsigned_Decides}
+use Rattle.std.specs.Cmp.Lexicographic.{pointwise, pointwise_decides}
+use Rattle.hons_arena.specs.declared.id.Id.{Id}
+use Rattle.hons_arena.specs.declared.id.IdKind.{IdKind}
+use Rattle.hons_arena.specs.declared.id.IdKind.TheVariants as kind
+use Rattle.memo_tables.specs.Calls.{Call}
+use Rattle.memo_tables.specs.Keys.{kind_number, id_eq, call_eq, id_equiv, call_equiv}
+
+abbrev kind_at : ℕ → IdKind
+kind_at zero = kind.Symbol
+kind_at (suc zero) = kind.Text
+kind_at _ = kind.Cell
+
+kind_back : (t : IdKind) → kind_at (kind_number t) ≡ t
+kind_back kind.Symbol = refl
+kind_back kind.Text = refl
+kind_back kind.Cell = refl
+
+same_kind : (s t : IdKind) → kind_number s ≡ kind_number t → s ≡ t
+same_kind s t e = sym (kind_back s) ∙ (ap kind_at e ∙ kind_back t)
+
+both : (a b : Bool) → a && b ≡ true → (a ≡ true) × (b ≡ true)
+both true b h = (refl, h)
+both false b h = absurd (true≢false (sym h))
+
+pub id_eq_decides : (a b : Id) → Decides (id_eq a b) (a ≡ b)
+id_eq_decides a b = (
+  λ h. let p = both (nat_eq (kind_number a.kind) (kind_number b.kind)) (nat_eq a.number b.number) h in
+      let k : a.kind ≡ b.kind = same_kind a.kind b.kind ((unsigned_Decides (kind_number a.kind) (kind_number b.kind)).0 p.0) in
+      let n : a.number ≡ b.number = (unsigned_Decides a.number b.number).0 p.1 in λ i. record { kind = k i; number = n i },
+  λ e. subst (λ (x : Id). id_eq a x ≡ true) e (id_equiv.refl a),
+)
+
+pub call_eq_decides : (a b : Call) → Decides (call_eq a b) (a ≡ b)
+call_eq_decides a b = (
+  λ h. let p = both (nat_eq a.function b.function) (pointwise id_eq a.arguments b.arguments) h in
+      let f : a.function ≡ b.function = (unsigned_Decides a.function b.function).0 p.0 in
+      let g : a.arguments ≡ b.arguments = (pointwise_decides id_eq_decides a.arguments b.arguments).0 p.1 in λ i. record { function = f i; arguments = g i },
+  λ e. subst (λ (x : Call). call_eq a x ≡ true) e (call_equiv.refl a),
+)

@@ -1,0 +1,12 @@
+//! Memo tables: the values of finished calls, by function and arguments.
+#![tactic(auto)]
+
+mod argument;
+mod call;
+mod tables;
+
+pub use call::MemoCall;
+pub use tables::MemoTables;
+
+#[cfg(test)]
+mod tests;

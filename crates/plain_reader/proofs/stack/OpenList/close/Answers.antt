@@ -1,0 +1,10 @@
+use Rattle.std.proofs.Common.{◌∙◌, sym, ap}
+use Rattle.plain_reader.specs.Levels.{listed}
+use Rattle.plain_reader.proofs.Stacks.{listed_push}
+use Rattle.plain_reader.proofs.stack.OpenList.close.Goals as goal
+
+pub loop-element-preserved : goal.loop-element-preserved
+loop-element-preserved c =
+    ap (listed c.pop.new.self.items) c.in_ok-tree.ensures
+    ∙ (sym (listed_push c.pop.new.self.items c.in-Some.element c.loop-element.tree)
+    ∙ (ap (λ xs. listed xs c.loop-element.tree) (sym c.in-Some.ensures.items) ∙ c.loop-element.invariant))

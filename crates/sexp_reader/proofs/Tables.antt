@@ -1,0 +1,43 @@
+-- Tables of texts that grow.
+use Rattle.std.proofs.Common.{◌≡◌, ◌∙◌, sym, ap, ℕ, List, [], ◌∷◌, ◌++◌, length, ◌<◌, arith, Bool, true, false, cond, not, Some, append_assoc, Result, Ok, Err, IfOk}
+use Rattle.std.specs.List.{position_or_len, list_any}
+use Rattle.std.specs.Prelude.{bytes_eq}
+use Rattle.std.proofs.lemmas.List.{append-nil}
+use Rattle.std.proofs.lemmas.List.Folds.{prefix_len-append}
+use Rattle.gl_logic.specs.Names.{number_of, with_name, Extends}
+use Rattle.gl_logic.specs.declared.ids.TextId.{TextId}
+use Rattle.gl_logic.specs.declared.ids.NoMemory.{NoMemory}
+use Rattle.sexp_reader.specs.declared.lexeme.Mark.{Mark}
+use Rattle.sexp_reader.specs.Grammar.{place_in, mark_text}
+
+pub extends_same : (a : List (List ℕ)) → Extends a a
+extends_same a = ([], sym (append-nil a))
+
+pub extends_then : (a b c : List (List ℕ)) → Extends a b → Extends b c → Extends a c
+extends_then a b c h k = (h.0 ++ k.0, k.1 ∙ (ap (λ l. l ++ k.0) h.1 ∙ append_assoc a h.0 k.0))
+
+pub extends_name : (names : List (List ℕ)) (name : List ℕ) (new : List (List ℕ)) → new ≡ with_name names name → Extends names new
+extends_name names name new = elim (list_any (bytes_eq name) names) as (λ b. new ≡ cond b names (names ++ name ∷ []) → Extends names new) [
+  | true ↦ λ e. ([], e ∙ sym (append-nil names))
+  | false ↦ λ e. (name ∷ [], e)
+]
+
+-- a first place stays the first where more is put behind
+place-append : {A : Type 0} (p : A → Bool) (xs ys : List A) → position_or_len p xs < length xs → position_or_len p (xs ++ ys) ≡ position_or_len p xs
+place-append p xs ys h = grind (arith, prefix_len-append (λ x. not (p x)) xs ys, h)
+
+-- where a text has a number
+pub found : (text : List ℕ) (names : List (List ℕ)) (n : ℕ) → number_of text names ≡ Some n → (place_in names text ≡ n) × (n < length names)
+found text names n h = (grind (arith, h), grind (arith, h))
+
+-- a number stays in each later table
+pub place_later : (text : List ℕ) (names later : List (List ℕ)) (n : ℕ) → number_of text names ≡ Some n → Extends names later → n ≡ place_in later text
+place_later text names later n h x =
+    let f = found text names n h in
+    sym (ap (λ (l : List (List ℕ)). place_in l text) x.1 ∙ (place-append (bytes_eq text) names x.0 (omega (arith, f.0, f.1)) ∙ f.0))
+
+-- the symbol of a prefix
+pub marked_place : (mark : Mark) (text : List ℕ) (r : Result TextId NoMemory) (names : List (List ℕ)) → mark_text mark ≡ text → IfOk r (λ id. number_of text names ≡ Some id.number)
+    → IfOk r (λ id. (later : List (List ℕ)) → Extends names later → id.number ≡ place_in later (mark_text mark))
+marked_place mark text (Ok id) names e h = λ later x. place_later text names later id.number h x ∙ ap (place_in later) (sym e)
+marked_place mark text (Err e) names m h = tt

@@ -1,0 +1,7 @@
+use Rattle.std.proofs.Common.{◌≡◌, ℕ, ◌<◌, get_or, true, not}
+use Rattle.std.specs.Prelude.{◌==◌}
+use Rattle.sexp_reader.proofs.symbol.colon_at.Given as goal
+
+-- each byte so far passes
+abbrev pub invariant-loop-i : goal.invariant-loop-i
+invariant-loop-i l = (k : ℕ) → k < l.i → not (get_or l.bytes k 0 == 58) ≡ true

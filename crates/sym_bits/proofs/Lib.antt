@@ -1,0 +1,13 @@
+pub mod Columns
+pub mod Edges
+pub mod Reading
+pub mod Calls
+pub mod GateLaws
+pub mod Comparing
+pub mod Floors
+pub mod Halving
+pub mod Numbers
+pub mod Ring
+pub mod Landing
+pub mod Rests
+pub mod Pairs
