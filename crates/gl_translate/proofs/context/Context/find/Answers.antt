@@ -15,20 +15,20 @@ pub returns-in-Some : goal.returns-in-Some
 returns-in-Some c =
     let ds = c.args.self.now.world.now.definitions in
     let n = c.args.name.number in
-    ap (λ o. place_after (length (map function_of ds)) o (place_of (function_names c.args.self.now.own.now) n)) (c.in-Some.ensures ∙ ap (λ ns. place_of ns n) (names_of_functions ds))
+    ap (λ o. place_after (length (map function_of ds)) o (place_of (function_names c.args.self.now.own.now) n)) (c.in-Some.ensures.place ∙ ap (λ ns. place_of ns n) (names_of_functions ds))
 
 pub returns-in-Some-place : goal.returns-in-Some-place
 returns-in-Some-place c =
     let ds = c.args.self.now.world.now.definitions in
     let n = c.args.name.number in
     let i = c.in-Some-place.place in
-    ap (λ k. Some (k + i)) (c.count.ensures ∙ sym (length-map ds function_of))
+    ap (λ k. Some (k + i)) (c.count.ensures.count ∙ sym (length-map ds function_of))
     ∙ (ap (λ o. place_after (length (map function_of ds)) None o) c.in-Some-place.ensures.place
-    ∙ ap (λ o. place_after (length (map function_of ds)) o (place_of (function_names c.args.self.now.own.now) n)) (c.in-None.ensures ∙ ap (λ ns. place_of ns n) (names_of_functions ds)))
+    ∙ ap (λ o. place_after (length (map function_of ds)) o (place_of (function_names c.args.self.now.own.now) n)) (c.in-None.ensures.place ∙ ap (λ ns. place_of ns n) (names_of_functions ds)))
 
 pub returns-in-None-place : goal.returns-in-None-place
 returns-in-None-place c =
     let ds = c.args.self.now.world.now.definitions in
     let n = c.args.name.number in
     ap (λ o. place_after (length (map function_of ds)) None o) c.in-None-place.ensures.place
-    ∙ ap (λ o. place_after (length (map function_of ds)) o (place_of (function_names c.args.self.now.own.now) n)) (c.in-None.ensures ∙ ap (λ ns. place_of ns n) (names_of_functions ds))
+    ∙ ap (λ o. place_after (length (map function_of ds)) o (place_of (function_names c.args.self.now.own.now) n)) (c.in-None.ensures.place ∙ ap (λ ns. place_of ns n) (names_of_functions ds))
