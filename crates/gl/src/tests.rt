@@ -1,5 +1,9 @@
 mod adapters;
+mod bit_lists;
 mod books;
+mod integers;
+mod node_counts;
+mod plain_circuits;
 mod rows;
 mod texts;
 mod vectors;
