@@ -20,6 +20,20 @@
 //! - a shift is one row of choices, by up to seven bits of the count; a negative count goes to the left by these bits
 //!   too, and then to the right by a constant. What a far count gives is answered at once;
 //! - the bit at an integer place is a tree of choices, one for each bit of the list.
+//!
+//! Node counts in a store of decision diagrams, beside those of textbook circuits for the same functions: what is added to
+//! the nodes of the variables, with parts that are used no more. The variables of two integers stand in turn, the signs
+//! first; those of the count of places stand before the integer's. A test of the crate at the top holds the calls to them,
+//! and compares the edges.
+//!
+//! | call | bits | nodes | a textbook circuit's |
+//! |---|---|---|---|
+//! | [`add`] | 16, 32, 64 | 95, 191, 383 | 126, 254, 510: a ripple adder |
+//! | [`less`] | 16, 32, 64 | 62, 126, 254 | 126, 254, 510: the sign of a difference |
+//! | [`same`] | 16, 32, 64 | 61, 125, 253 | 61, 125, 253: a chain of conjunctions |
+//! | [`times`] | 4, 6, 8 | 269, 2,708, 28,399 | 583, 7,053, 80,111: rows shifted and added at the whole width |
+//! | [`floor_mod`] | 8 by 8 | 36,550 | 53,673: restoring division of magnitudes |
+//! | [`shift`] | 32 by a count of 5 | 196 | 1,221: two barrel shifters and a choice |
 #![tactic(auto)]
 
 mod bitwise;
