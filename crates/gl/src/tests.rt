@@ -4,6 +4,8 @@ mod books;
 mod integers;
 mod node_counts;
 mod plain_circuits;
+mod probes;
+mod refusals;
 mod rows;
 mod texts;
 mod vectors;

@@ -1,11 +1,20 @@
--- What a run has written, by how its writes ended.
-use Rattle.std.proofs.Common.{◌≡◌, ◌<◌, ◌+◌, sym, subst, refl, ℕ, zero, List, [], take, length, replicate, Bool, false, Option, Some, None, Result, Ok, Err, arith}
-use Rattle.std.specs.Prelude.{OnErr, IfSome}
-use Rattle.std.proofs.lemmas.List.{take_all, length-replicate}
-use Rattle.gl_base.specs.Outside.{Grows}
+-- What a run has written, by how it ended.
+use Rattle.std.proofs.Common.{◌≡◌, ◌≤◌, sym, subst, refl, ℕ, List, [], ◌∷◌, take, length, Bool, true, false, cond, Option, Some, None, inl, inr, arith}
+use Rattle.std.specs.Prelude.{OnOk, OnErr, IfOk, IfSome, Result, Ok, Err, nat_lt}
+use Rattle.std.specs.List.{list_any}
+use Rattle.std.proofs.lemmas.List.{take_all}
+use Rattle.gl_base.specs.Outside.{Grows, Rose}
 use Rattle.gl_base.specs.declared.status.Status.{Status}
 use Rattle.gl_base.specs.declared.status.Status.TheVariants as status
-use Rattle.gl_book.specs.Transcript.{told, most_bytes, IsTranscript, IsReported, EndsWith, WritesBook}
+use Rattle.sexp_reader.specs.declared.ends.Forms.{Forms}
+use Rattle.sexp_reader.specs.Book.{IsBeyond}
+use Rattle.gl_book.specs.Entry.{Entry, Refused}
+use Rattle.gl_book.specs.Lines.{transcript_lines, status_of, counts_of, is_refusal}
+use Rattle.gl_book.specs.Transcript.{told, most_bytes, long_refusal, IsReadBy, ComesOf, long, short, IsTranscript, WritesFront, WritesTranscript, EndsWith, WritesBook}
+use Rattle.gl_book.specs.Stops.{IsCounted, IsReported, EndsBy, status_from, closing_lines, WritesLines, WritesLinesFront, WritesWalk, WritesWalkFront}
+use Rattle.gl_book.specs.declared.counts.Counts.{Counts}
+use Rattle.gl_book.specs.declared.stop.Stop.{Stop}
+use Rattle.gl_book.specs.declared.stop.Stop.TheVariants.{Write, Memory}
 
 pub on_err_known : {T E P : Type 0} (r : Result T E) → P → OnErr r P
 on_err_known (Ok x) p = tt
@@ -15,40 +24,102 @@ on_err_known (Err e) p = p
 pub whole_front : (old mid new : Option (List ℕ)) (line : List ℕ) → Grows old mid line → new ≡ mid → (n : ℕ) × Grows old new (take n line)
 whole_front old mid new line h e = (length line, subst (λ (o : Option (List ℕ)). Grows old o (take (length line) line)) (sym e) (subst (Grows old mid) (sym (take_all (length line) line (omega arith))) h))
 
--- a reported status after all was written
-pub ends_well : (most : ℕ) (text : List ℕ) (last : Bool) (old new : Option (List ℕ)) (lines : List (List ℕ)) (s : Status) → IsReported s → IsTranscript most text lines s → Grows old new (told last lines) → EndsWith most text last old new s
-ends_well most text last old new lines status.Good r h g = (lines, h, g)
-ends_well most text last old new lines status.Refuted r h g = (lines, h, g)
-ends_well most text last old new lines status.BookRefused r h g = (lines, h, g)
-ends_well most text last old new lines status.Undecided r h g = (lines, h, g)
-ends_well most text last old new lines status.ReadFault r h g = absurd r
-ends_well most text last old new lines status.WriteFault r h g = absurd r
-ends_well most text last old new lines status.NoMemory r h g = absurd r
-ends_well most text last old new lines status.Usage r h g = absurd r
+-- ---- a run that ends in some way ends with its status
+module _ (most : ℕ) (text : List ℕ) (last : Bool) (old new : Option (List ℕ)) where
+  ends_well : (s : Status) → IsReported s → WritesTranscript most text last old new s → EndsWith most text last old new s
+  ends_well status.Good r h = h
+  ends_well status.Refuted r h = h
+  ends_well status.BookRefused r h = h
+  ends_well status.Undecided r h = h
+  ends_well status.ReadFault r h = absurd r
+  ends_well status.WriteFault r h = absurd r
+  ends_well status.NoMemory r h = absurd r
+  ends_well status.Usage r h = absurd r
 
-pub not_read_fault : (s : Status) → IsReported s → s ≡ status.ReadFault → ⊥
-not_read_fault s r e = subst IsReported e r
+  pub ends_with : (run : Result Status Stop) → EndsBy most text last old new run → IfOk run IsReported → EndsWith most text last old new (status_from run)
+  ends_with (Ok s) h r = ends_well s r h
+  ends_with (Err Write) h r = h
+  ends_with (Err Memory) h r = h
 
-pub not_write_fault : (s : Status) → IsReported s → s ≡ status.WriteFault → ⊥
-not_write_fault s r e = subst IsReported e r
+-- ---- the sink's count, and the statuses that do not come
+pub rises : (run : Result Status Stop) → IfOk run IsReported → (before now : ℕ) → IsCounted before now run → status_from run ≡ status.WriteFault → Rose before now
+rises (Ok s) h before now c e = absurd (subst IsReported e h)
+rises (Err Write) h before now c e = c
+rises (Err Memory) h before now c e = absurd cc
 
-pub not_usage : (s : Status) → IsReported s → s ≡ status.Usage → ⊥
-not_usage s r e = subst IsReported e r
+pub stays : (run : Result Status Stop) → IfOk run IsReported → (before now : ℕ) → IsCounted before now run → (status_from run ≡ status.WriteFault → ⊥) → now ≡ before
+stays (Ok s) h before now c e = c
+stays (Err Write) h before now c e = absurd (e refl)
+stays (Err Memory) h before now c e = c
+
+pub never_read_fault : (run : Result Status Stop) → IfOk run IsReported → status_from run ≡ status.ReadFault → ⊥
+never_read_fault (Ok s) h e = subst IsReported e h
+never_read_fault (Err Write) h e = cc
+never_read_fault (Err Memory) h e = cc
+
+pub never_usage : (run : Result Status Stop) → IfOk run IsReported → status_from run ≡ status.Usage → ⊥
+never_usage (Ok s) h e = subst IsReported e h
+never_usage (Err Write) h e = cc
+never_usage (Err Memory) h e = cc
+
+-- ---- a status of entries is one that a transcript gives
+reported_by : (a b c : Bool) → IsReported (cond a status.BookRefused (cond b status.Refuted (cond c status.Undecided status.Good)))
+reported_by true b c = tt
+reported_by false true c = tt
+reported_by false false true = tt
+reported_by false false false = tt
+
+reported : (entries : List Entry) → IsReported (status_of entries)
+reported entries = reported_by (list_any is_refusal entries) (nat_lt 0 (counts_of entries).refuted) (nat_lt 0 (counts_of entries).undecided)
+
+module _ (most : ℕ) (text : List ℕ) (last : Bool) (old new : Option (List ℕ)) where
+  -- ---- a text that is read and walked
+  module _ (names : List (List ℕ)) (book : Forms) (within : length text ≤ most_bytes) (read : IsReadBy names text book.list book.end) where
+    walk_written : (s : Status) → WritesWalk names most book last old new s → WritesTranscript most text last old new s
+    walk_written s w = (transcript_lines names w.0, (names, w.0, short book.list book.end w.0 within read w.1, refl, w.3), w.2)
+
+    pub walk_reported : (run : Result Status Stop) → IfOk run (WritesWalk names most book last old new) → IfOk run IsReported
+    walk_reported (Ok s) w = subst IsReported (sym w.3) (reported w.0)
+    walk_reported (Err stop) w = tt
+
+    pub front_written : WritesWalkFront names most book last old new → WritesFront most text last old new
+    front_written w = (transcript_lines names w.0, status_of w.0, w.2.0, (names, w.0, short book.list book.end w.0 within read w.1, refl, refl), w.2.1)
+
+    pub walked : (run : Result Status Stop) → IfOk run (WritesWalk names most book last old new) → OnErr run (WritesWalkFront names most book last old new) → EndsBy most text last old new run
+    walked (Ok s) h f = walk_written s h
+    walked (Err Write) h f = front_written f
+    walked (Err Memory) h f = inr (front_written f)
+
+  -- ---- a text that is too long
+  module _ (line column : ℕ) (beyond : IsBeyond most_bytes text line column) where
+    abbrev only : List Entry
+    only = Refused (long_refusal line column) ∷ []
+
+    abbrev alone : List (List ℕ)
+    alone = closing_lines (counts_of []) (Some (long_refusal line column))
+
+    long_front : WritesLinesFront last alone old new → WritesFront most text last old new
+    long_front w = (alone, status.BookRefused, w.0, ([], only, long line column beyond, refl, refl), w.1)
+
+    pub too_long : (run : Result Status Stop) (counts : Counts) → counts ≡ counts_of [] → OnOk run (WritesLines last (closing_lines counts (Some (long_refusal line column))) old new) → IfOk run (λ s. s ≡ status.BookRefused)
+        → OnErr run (WritesLinesFront last (closing_lines counts (Some (long_refusal line column))) old new) → EndsBy most text last old new run
+    too_long (Ok s) counts none w e f = (alone, ([], only, long line column beyond, refl, e), subst (λ c. WritesLines last (closing_lines c (Some (long_refusal line column))) old new) none w)
+    too_long (Err Write) counts none w e f = long_front (subst (λ c. WritesLinesFront last (closing_lines c (Some (long_refusal line column))) old new) none f)
+    too_long (Err Memory) counts none w e f = inr (long_front (subst (λ c. WritesLinesFront last (closing_lines c (Some (long_refusal line column))) old new) none f))
+
+pub refused_reported : (run : Result Status Stop) → IfOk run (λ s. s ≡ status.BookRefused) → IfOk run IsReported
+refused_reported (Ok s) e = subst IsReported (sym e) tt
+refused_reported (Err stop) e = tt
 
 -- ---- books whose bytes may not be told
 pub of_text : (most : ℕ) (held old new : Option (List ℕ)) (s : Status) (text : List ℕ) → IfSome held (λ bytes. text ≡ bytes) → EndsWith most text false old new s → WritesBook most held old new s
 of_text most held old new s text t w = record { text = text; told = t; written = w }
 
--- some text of more bytes than so many
-longer_text : (n : ℕ) → (text : List ℕ) × (n < length text)
-longer_text n = (replicate (n + 1) zero, let e : length (replicate (n + 1) zero) ≡ n + 1 = length-replicate (n + 1) zero in omega (arith, e))
-
-pub of_long_book : (most : ℕ) (held old new : Option (List ℕ)) (s : Status) (P : List ℕ → Type 0) → IfSome held (λ text. (most_bytes < length text) × P text)
-    → ((m : ℕ) (text : List ℕ) → most_bytes < length text → EndsWith m text false old new s) → WritesBook most held old new s
-of_long_book most None old new s P h f = let long = longer_text most_bytes in record { text = long.0; told = tt; written = f most long.0 long.1 }
-of_long_book most (Some t) old new s P h f = record { text = t; told = refl; written = f most t h.0 }
+pub of_long_book : (most : ℕ) (held old new : Option (List ℕ)) (line column : ℕ) (s : Status) → (text : List ℕ) × IfSome held (λ bytes. text ≡ bytes) × IsBeyond most_bytes text line column
+    → ((m : ℕ) (text : List ℕ) → IsBeyond most_bytes text line column → EndsWith m text false old new s) → WritesBook most held old new s
+of_long_book most held old new line column s h f = of_text most held old new s h.0 h.1 (f most h.0 h.2)
 
 -- nothing was written for want of memory
 pub of_no_memory : (most : ℕ) (held old new : Option (List ℕ)) → old ≡ new → WritesBook most held old new status.NoMemory
-of_no_memory most None old new e = record { text = []; told = tt; written = e }
-of_no_memory most (Some t) old new e = record { text = t; told = refl; written = e }
+of_no_memory most None old new e = record { text = []; told = tt; written = inl e }
+of_no_memory most (Some t) old new e = record { text = t; told = refl; written = inl e }

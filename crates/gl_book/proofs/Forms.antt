@@ -1,15 +1,15 @@
 -- Forms, by their heads and arguments.
-use Rattle.std.proofs.Common.{◌≡◌, ◌∙◌, ap, sym, refl, ℕ, zero, suc, ◌<◌, ◌+◌, List, [], ◌∷◌, ◌++◌, Option, Some, None, Bool, true, false, cond, append_assoc, take, length, get_or, arith}
+use Rattle.std.proofs.Common.{◌≡◌, ◌∙◌, ap, sym, refl, ℕ, zero, suc, ◌<◌, ◌+◌, ◌-◌, List, [], ◌∷◌, ◌++◌, Option, Some, None, Bool, true, false, cond, append_assoc, take, length, get_or, arith}
 use Rattle.std.specs.Option.{option_map}
 use Rattle.std.specs.Prelude.{option_and_then}
 use Rattle.std.proofs.lemmas.List.{take_all, append-nil}
 use Rattle.gl_logic.specs.Object.{Object, Int, Character, Symbol, Text, Cons, nil}
 use Rattle.gl_logic.specs.Lists.{conses, elements_of, tail_of, IsAtom}
-use Rattle.gl_logic.specs.Exp.{Exp}
+use Rattle.gl_logic.specs.Exp.{Exp, Const}
 use Rattle.gl_logic.proofs.Parts.{conses-whole}
 use Rattle.sexp_print.proofs.Steps.{element_out}
 use Rattle.std.specs.Prelude.{codes}
-use Rattle.gl_book.specs.Translation.{spells, quote_meant, call_meant, term_meant, terms_meant}
+use Rattle.gl_book.specs.Translation.{spells, has_mark, quote_meant, call_meant, term_meant, terms_meant}
 
 abbrev pub prepended : List Exp → Option (List Exp) → Option (List Exp)
 prepended done o = option_map (λ ts. done ++ ts) o
@@ -26,22 +26,26 @@ put_behind : (done : List Exp) (t : Exp) (o : Option (List Exp)) → prepended d
 put_behind done t None = refl
 put_behind done t (Some ts) = ap Some (sym (append_assoc done (t ∷ []) ts))
 
-pub term_more : (names : List (List ℕ)) (scope : List ℕ) (forms : List Object) (i j : ℕ) (x : Object) (done : List Exp) (t : Exp) (whole : Option (List Exp)) → j ≡ i + 1 → i < length forms → x ≡ get_or forms i x
-    → Some t ≡ term_meant names scope x → prepended done (terms_meant names scope (conses (take j forms) nil)) ≡ whole → prepended (done ++ t ∷ []) (terms_meant names scope (conses (take i forms) nil)) ≡ whole
-term_more names scope forms i j x done t whole k h at is comes =
-    let list : conses (take j forms) nil ≡ Cons x (conses (take i forms) nil) = ap (λ n. conses (take n forms) nil) k ∙ element_out forms i x nil h at in
-    let rest = terms_meant names scope (conses (take i forms) nil) in
+-- the forms that are left, by the next one, which stands last
+last_form : (forms : List Object) (x : Object) → 0 < length forms → x ≡ get_or forms (length forms - 1) x → conses forms nil ≡ Cons x (conses (take (length forms - 1) forms) nil)
+last_form forms x some at =
+    let n = length forms - 1 in
+    ap (λ xs. conses xs nil) (sym (take_all (n + 1) forms (omega (arith, some)))) ∙ element_out forms n x nil (omega (arith, some)) at
+
+pub term_more : (names : List (List ℕ)) (scope : List ℕ) (forms : List Object) (x : Object) (done : List Exp) (t : Exp) (whole : Option (List Exp)) → 0 < length forms → x ≡ get_or forms (length forms - 1) x
+    → Some t ≡ term_meant names scope x → prepended done (terms_meant names scope (conses forms nil)) ≡ whole → prepended (done ++ t ∷ []) (terms_meant names scope (conses (take (length forms - 1) forms) nil)) ≡ whole
+term_more names scope forms x done t whole some at is comes =
+    let rest = terms_meant names scope (conses (take (length forms - 1) forms) nil) in
     sym (put_behind done t rest)
     ∙ (ap (λ o. prepended done (option_and_then (λ u. option_and_then (λ ts. Some (u ∷ ts)) rest) o)) is
-    ∙ (ap (λ y. prepended done (terms_meant names scope y)) (sym list) ∙ comes))
+    ∙ (ap (λ y. prepended done (terms_meant names scope y)) (sym (last_form forms x some at)) ∙ comes))
 
-pub term_missing : (names : List (List ℕ)) (scope : List ℕ) (forms : List Object) (i j : ℕ) (x : Object) (done : List Exp) (whole : Option (List Exp)) → j ≡ i + 1 → i < length forms → x ≡ get_or forms i x
-    → None ≡ term_meant names scope x → prepended done (terms_meant names scope (conses (take j forms) nil)) ≡ whole → None ≡ whole
-term_missing names scope forms i j x done whole k h at is comes =
-    let list : conses (take j forms) nil ≡ Cons x (conses (take i forms) nil) = ap (λ n. conses (take n forms) nil) k ∙ element_out forms i x nil h at in
-    let rest = terms_meant names scope (conses (take i forms) nil) in
+pub term_missing : (names : List (List ℕ)) (scope : List ℕ) (forms : List Object) (x : Object) (done : List Exp) (whole : Option (List Exp)) → 0 < length forms → x ≡ get_or forms (length forms - 1) x
+    → None ≡ term_meant names scope x → prepended done (terms_meant names scope (conses forms nil)) ≡ whole → None ≡ whole
+term_missing names scope forms x done whole some at is comes =
+    let rest = terms_meant names scope (conses (take (length forms - 1) forms) nil) in
     ap (λ o. prepended done (option_and_then (λ u. option_and_then (λ ts. Some (u ∷ ts)) rest) o)) is
-    ∙ (ap (λ y. prepended done (terms_meant names scope y)) (sym list) ∙ comes)
+    ∙ (ap (λ y. prepended done (terms_meant names scope y)) (sym (last_form forms x some at)) ∙ comes)
 
 pub all_terms : (done : List Exp) (whole : Option (List Exp)) → prepended done (Some []) ≡ whole → Some done ≡ whole
 all_terms done whole e = ap Some (sym (append-nil done)) ∙ e
@@ -74,10 +78,20 @@ no_quote [] h = refl
 no_quote (x ∷ []) h = absurd (h refl)
 no_quote (x ∷ y ∷ es) h = long_quote es y x nil
 
-pub one_quote : (es : List Object) (x : Object) → length es ≡ 1 → x ≡ get_or es 0 x → conses es nil ≡ Cons x nil
+one_quote : (es : List Object) (x : Object) → length es ≡ 1 → x ≡ get_or es 0 x → conses es nil ≡ Cons x nil
 one_quote [] x h at = absurd (omega (arith, h))
 one_quote (y ∷ []) x h at = ap (λ z. Cons z nil) (sym at)
 one_quote (y ∷ z ∷ es) x h at = absurd (omega (arith, h))
+
+module _ (es : List Object) (x : Object) (one : length es ≡ 1) (at : x ≡ get_or es 0 x) where
+  quoted : quote_meant (conses es nil) ≡ cond (has_mark x) None (Some (Const x))
+  quoted = ap quote_meant (one_quote es x one at)
+
+  pub marked_quote : has_mark x ≡ true → quote_meant (conses es nil) ≡ None
+  marked_quote m = quoted ∙ ap (λ b. cond b None (Some (Const x))) m
+
+  pub plain_quote : has_mark x ≡ false → quote_meant (conses es nil) ≡ Some (Const x)
+  plain_quote m = quoted ∙ ap (λ b. cond b None (Some (Const x))) m
 
 improper : (x t : Object) → IsAtom t → (t ≡ nil → ⊥) → quote_meant (Cons x t) ≡ None
 improper x (Int z) a h = refl

@@ -39,9 +39,3 @@ module _ (a b c : Option (List ℕ)) (lines : List (List ℕ)) (i : ℕ) where
       let front : take (length before + h.0) (concat lines) ≡ before ++ take h.0 line =
       ap (λ bs. take (length before + h.0) bs) all ∙ (take-append-add before (line ++ after) h.0 ∙ ap (λ bs. before ++ bs) (take-append-le h.0 line after within)) in
       (length before + h.0, subst (λ bs. Grows a c bs) (sym front) (grows-then a b c before (take h.0 line) g h.2))
-
-  -- all lines were taken
-  pub all_taken : length lines ≤ i → Grows a b (concat (take i lines)) → c ≡ b → (n : ℕ) × Grows a c (take n (concat lines))
-  all_taken h g e =
-      let all : take (length (concat lines)) (concat lines) ≡ concat (take i lines) = take_all (length (concat lines)) (concat lines) (omega arith) ∙ ap concat (sym (take_all i lines h)) in
-      (length (concat lines), subst (λ o. Grows a o (take (length (concat lines)) (concat lines))) (sym e) (subst (λ bs. Grows a b bs) (sym all) g))

@@ -15,11 +15,13 @@ pub mod NatLists
 pub mod Different
 pub mod Placing
 pub mod Eight
-pub mod Books
+pub mod PlainForms
 pub mod SmallTerms
 pub mod SmallValues
-pub mod Printable
+pub mod Modest
+pub mod Leaves
 pub mod Joined
-pub mod Reports
-pub mod Transcripts
+pub mod Told
+pub mod Closing
+pub mod Onward
 pub mod Ends

@@ -9,7 +9,7 @@ use Rattle.gl_logic.specs.Exp.{Exp, Var, Const, If, Prim}
 use Rattle.gl_logic.specs.TermOf.{exps_of}
 use Rattle.gl_logic.specs.PrimValue.{prim_arity}
 use Rattle.gl_logic.specs.declared.prim.Primitive as primitive
-use Rattle.gl_book.specs.Translation.{spells, prim_named, symbol_meant, quote_meant, if_meant, applied, call_meant, term_meant, terms_meant}
+use Rattle.gl_book.specs.Translation.{spells, prim_named, symbol_meant, has_mark, quote_meant, if_meant, applied, call_meant, term_meant, terms_meant}
 use Rattle.gl_book.specs.Plain.{IsPlain, ArePlain, IsKnown}
 
 -- a choice by a test, of which either side is known
@@ -43,7 +43,7 @@ module _ (scope : List ℕ) where
   quote_plain (Character n) t e = absurd cc
   quote_plain (Symbol n) t e = absurd cc
   quote_plain (Text n) t e = absurd cc
-  quote_plain (Cons x (Symbol zero)) t e = is_it (IsPlain scope) (Const x) t tt e
+  quote_plain (Cons x (Symbol zero)) t e = either (IsPlain scope) (has_mark x) None (Some (Const x)) t (λ _. none_is (IsPlain scope) t) (λ _. is_it (IsPlain scope) (Const x) t tt) e
   quote_plain (Cons x (Symbol (suc n))) t e = absurd cc
   quote_plain (Cons x (Int z)) t e = absurd cc
   quote_plain (Cons x (Character n)) t e = absurd cc

@@ -1,39 +1,24 @@
--- The term that a form means has no more leaves and car steps than the form, and its constants are parts of the form.
-use Rattle.std.proofs.Common.{◌≡◌, ℕ, zero, suc, List, [], ◌∷◌, length, ◌+◌, ◌≤◌, ◌<◌, max, arith, Some}
+-- The term that a form means has no more car steps than the form, and its constants are parts of the form.
+use Rattle.std.proofs.Common.{◌≡◌, ℕ, zero, suc, List, [], ◌∷◌, length, ◌≤◌, ◌<◌, max, arith, Some, None}
 use Rattle.std.specs.Prelude.{option_and_then, nat_lt, ◌==◌, codes}
 use Rattle.std.specs.List.{list_any}
 use Rattle.std.proofs.lemmas.Option.{option_and_then_some}
 use Rattle.gl_logic.specs.Object.{Object, Int, Character, Symbol, Text, Cons}
-use Rattle.gl_logic.specs.Parts.{leaves, car_steps}
+use Rattle.gl_logic.specs.Parts.{car_steps}
 use Rattle.gl_logic.specs.Exp.{Exp, Exps, Var, Const, If, Prim, Call, Let, Last, More}
 use Rattle.gl_logic.specs.TermOf.{exps_of}
 use Rattle.gl_logic.specs.PrimValue.{prim_arity}
 use Rattle.gl_logic.specs.declared.prim.Primitive as primitive
-use Rattle.plain_reader.proofs.Sizes.{IsNarrow}
-use Rattle.gl_book.specs.Translation.{spells, prim_named, symbol_meant, quote_meant, if_meant, applied, call_meant, term_meant, terms_meant}
+use Rattle.sexp_reader.specs.Sizes.{IsNarrow}
+use Rattle.gl_book.specs.Translation.{spells, prim_named, symbol_meant, has_mark, quote_meant, if_meant, applied, call_meant, term_meant, terms_meant}
 use Rattle.gl_book.proofs.Plain.{either, is_it, none_is}
 
-pub some_leaves : (x : Object) → 1 ≤ leaves x
-some_leaves (Int z) = omega arith
-some_leaves (Character n) = omega arith
-some_leaves (Symbol n) = omega arith
-some_leaves (Text n) = omega arith
-some_leaves (Cons a d) = omega (arith, some_leaves a)
+-- at most so many car steps, and integers within 128 bits
+pub record IsSmall (most_steps : ℕ) (x : Object) : Type 0 where
+  pub flat : car_steps x ≤ most_steps
+  pub narrow : IsNarrow x
 
--- ---- the leaves and car steps that a term's value can have
-abbrev mutual
-  pub leaves_in : Exp → ℕ
-  leaves_in (Var v) = 1
-  leaves_in (Const x) = leaves x
-  leaves_in (If t a b) = leaves_in t + (leaves_in a + leaves_in b)
-  leaves_in (Prim p ts) = leaves_in_all ts + 2
-  leaves_in (Call f ts) = 0
-  leaves_in (Let vs ts b) = 0
-
-  pub leaves_in_all : Exps → ℕ
-  leaves_in_all Last = 0
-  leaves_in_all (More t ts) = leaves_in t + leaves_in_all ts
-
+-- ---- the car steps that a term's value can have
 abbrev mutual
   pub steps_in : Exp → ℕ
   steps_in (Var v) = 0
@@ -63,21 +48,19 @@ abbrev mutual
 
 -- ---- against a form
 pub record IsWithin (x : Object) (t : Exp) : Type 0 where
-  pub few : leaves_in t ≤ leaves x
   pub flat : steps_in t ≤ car_steps x
   pub narrow : IsNarrow x → HasNarrow t
 
 -- the terms of a proper list of forms
 record AreWithin (x : Object) (ts : List Exp) : Type 0 where
-  pub few : leaves_in_all (exps_of ts) + 1 ≤ leaves x
   pub flat : steps_in_all (exps_of ts) < max 1 (car_steps x)
   pub narrow : IsNarrow x → HaveNarrow (exps_of ts)
 
 symbol_within : (scope : List ℕ) (n : ℕ) (t : Exp) → symbol_meant scope n ≡ Some t → IsWithin (Symbol n) t
 symbol_within scope n t =
     let P = IsWithin (Symbol n) in
-    either P (nat_lt n 2) _ _ t (λ _. is_it P (Const (Symbol n)) t (record { few = omega arith; flat = omega arith; narrow = λ h. h })) (λ _.
-    either P (list_any (λ v. v == n) scope) _ _ t (λ _. is_it P (Var n) t (record { few = omega arith; flat = omega arith; narrow = λ h. tt })) (λ _. none_is P t))
+    either P (nat_lt n 2) _ _ t (λ _. is_it P (Const (Symbol n)) t (record { flat = omega arith; narrow = λ h. h })) (λ _.
+    either P (list_any (λ v. v == n) scope) _ _ t (λ _. is_it P (Var n) t (record { flat = omega arith; narrow = λ h. tt })) (λ _. none_is P t))
 
 module _ (head : Object) where
   quote_within : (x : Object) (t : Exp) → quote_meant x ≡ Some t → IsWithin (Cons head x) t
@@ -85,7 +68,9 @@ module _ (head : Object) where
   quote_within (Character n) t e = absurd cc
   quote_within (Symbol n) t e = absurd cc
   quote_within (Text n) t e = absurd cc
-  quote_within (Cons x (Symbol zero)) t e = is_it (IsWithin (Cons head (Cons x (Symbol zero)))) (Const x) t (record { few = omega arith; flat = omega arith; narrow = λ h. h.1.0 }) e
+  quote_within (Cons x (Symbol zero)) t e =
+      let P = IsWithin (Cons head (Cons x (Symbol zero))) in
+      either P (has_mark x) None (Some (Const x)) t (λ _. none_is P t) (λ _. is_it P (Const x) t (record { flat = omega arith; narrow = λ h. h.1.0 })) e
   quote_within (Cons x (Symbol (suc n))) t e = absurd cc
   quote_within (Cons x (Int z)) t e = absurd cc
   quote_within (Cons x (Character n)) t e = absurd cc
@@ -98,13 +83,13 @@ module _ (head : Object) where
     if_within (a ∷ []) t h e = absurd cc
     if_within (a ∷ b ∷ []) t h e = absurd cc
     if_within (a ∷ b ∷ c ∷ []) t h e =
-        is_it (IsWithin (Cons head rest)) (If a b c) t (record { few = omega (arith, h.few); flat = omega (arith, h.flat); narrow = λ k. let n = h.narrow k.1 in (n.0, (n.1.0, n.1.1.0)) }) e
+        is_it (IsWithin (Cons head rest)) (If a b c) t (record { flat = omega (arith, h.flat); narrow = λ k. let n = h.narrow k.1 in (n.0, (n.1.0, n.1.1.0)) }) e
     if_within (a ∷ b ∷ c ∷ d ∷ ts) t h e = absurd cc
 
     applied_within : (ts : List Exp) (p : primitive.Primitive) (t : Exp) → AreWithin rest ts → applied ts p ≡ Some t → IsWithin (Cons head rest) t
     applied_within ts p t h =
         let P = IsWithin (Cons head rest) in
-        either P (length ts == prim_arity p) _ _ t (λ _. is_it P (Prim p (exps_of ts)) t (record { few = omega (arith, h.few, some_leaves head); flat = omega (arith, h.flat); narrow = λ k. h.narrow k.1 })) (λ _. none_is P t)
+        either P (length ts == prim_arity p) _ _ t (λ _. is_it P (Prim p (exps_of ts)) t (record { flat = omega (arith, h.flat); narrow = λ k. h.narrow k.1 })) (λ _. none_is P t)
 
     call_within : (names : List (List ℕ)) (ts : List Exp) (t : Exp) → AreWithin rest ts → call_meant names head ts ≡ Some t → IsWithin (Cons head rest) t
     call_within names ts t h =
@@ -114,7 +99,7 @@ module _ (head : Object) where
 module _ (names : List (List ℕ)) (scope : List ℕ) where
   mutual
     pub term_within : (x : Object) (t : Exp) → term_meant names scope x ≡ Some t → IsWithin x t
-    term_within (Int z) t e = is_it (IsWithin (Int z)) (Const (Int z)) t (record { few = omega arith; flat = omega arith; narrow = λ h. h }) e
+    term_within (Int z) t e = is_it (IsWithin (Int z)) (Const (Int z)) t (record { flat = omega arith; narrow = λ h. h }) e
     term_within (Character n) t e = absurd cc
     term_within (Symbol n) t e = symbol_within scope n t e
     term_within (Text n) t e = absurd cc
@@ -127,7 +112,7 @@ module _ (names : List (List ℕ)) (scope : List ℕ) where
     terms_within : (x : Object) (ts : List Exp) → terms_meant names scope x ≡ Some ts → AreWithin x ts
     terms_within (Int z) ts e = absurd cc
     terms_within (Character n) ts e = absurd cc
-    terms_within (Symbol zero) ts e = is_it (AreWithin (Symbol zero)) [] ts (record { few = omega arith; flat = omega arith; narrow = λ h. tt }) e
+    terms_within (Symbol zero) ts e = is_it (AreWithin (Symbol zero)) [] ts (record { flat = omega arith; narrow = λ h. tt }) e
     terms_within (Symbol (suc n)) ts e = absurd cc
     terms_within (Text n) ts e = absurd cc
     terms_within (Cons form rest) ts e =
@@ -135,4 +120,4 @@ module _ (names : List (List ℕ)) (scope : List ℕ) where
         option_and_then_some (λ us. Some (t ∷ us)) (terms_meant names scope rest) ts q (λ us are.
         let first = term_within form t is in
         let others = terms_within rest us are in
-        is_it (AreWithin (Cons form rest)) (t ∷ us) ts (record { few = omega (arith, first.few, others.few); flat = omega (arith, first.flat, others.flat); narrow = λ h. (first.narrow h.0, others.narrow h.1) })))
+        is_it (AreWithin (Cons form rest)) (t ∷ us) ts (record { flat = omega (arith, first.flat, others.flat); narrow = λ h. (first.narrow h.0, others.narrow h.1) })))

@@ -1,5 +1,5 @@
 -- The event that a form means.
-use Rattle.std.specs.Prelude.{ℕ, zero, suc, ◌+◌, nat_lt, nat_le, ◌==◌, ◌&&◌, not, Bool, true, if◌then◌else◌, List, [], ◌∷◌, ◌++◌, map, get_or, codes, Option, Some, None, option_map, option_and_then, pos}
+use Rattle.std.specs.Prelude.{ℕ, zero, suc, ◌+◌, nat_lt, nat_le, ◌==◌, ◌&&◌, not, Bool, true, if◌then◌else◌, List, [], ◌∷◌, ◌++◌, map, get_or, codes, Option, Some, None, option_map, option_and_then, Result, Ok, Err, pos}
 use Rattle.std.specs.List.{list_any}
 use Rattle.gl_logic.specs.Object.{Object, Int, Symbol, Cons}
 use Rattle.gl_logic.specs.Exp.{Exp}
@@ -7,6 +7,9 @@ use Rattle.shape_spec.specs.ShapeSeen.{ShapeSeen, Integer}
 use Rattle.shape_spec.specs.Indices.{variables_of}
 use Rattle.gl_decide.specs.Theorem.{Theorem}
 use Rattle.gl_book.specs.Translation.{spells, term_meant}
+use Rattle.gl_book.specs.declared.state.State.{State}
+use Rattle.gl_book.specs.declared.refusal.RefusalCode.{RefusalCode}
+use Rattle.gl_book.specs.declared.refusal.RefusalCode.TheVariants.{Form}
 
 pub data Event : Type 0 where
   -- a value to print
@@ -103,26 +106,28 @@ event_from names (head ∷ e ∷ []) = if spells names (codes "VALUE-TRIPLE") he
 event_from names (head ∷ n ∷ hyp ∷ h ∷ concl ∷ c ∷ bindings ∷ b ∷ []) = if are_words names head hyp concl bindings then option_map Claim (theorem_meant names n h c b) else None
 event_from names _ = None
 
-abbrev pub event_meant : List (List ℕ) → Object → Option Event
-event_meant names form = option_and_then (event_from names) (elements form)
+abbrev pub event_spelled : List (List ℕ) → Object → Option Event
+event_spelled names form = option_and_then (event_from names) (elements form)
 
 -- ---- books
--- the walk over the forms keeps the names of the theorems so far
-abbrev pub next_state : List ℕ → Event → List ℕ
+-- a book's first form stands behind no event
+abbrev pub first_state : State
+first_state = record { theorems = [] }
+
+-- an event changes what the next forms stand behind
+abbrev pub next_state : State → Event → State
 next_state state (Value t) = state
-next_state state (Claim thm) = state ++ thm.name ∷ []
+next_state state (Claim thm) = record { theorems = state.theorems ++ thm.name ∷ [] }
 
 -- no theorem takes the name of an earlier one
-abbrev pub may_follow : List ℕ → Event → Bool
+abbrev pub may_follow : State → Event → Bool
 may_follow state (Value t) = true
-may_follow state (Claim thm) = not (list_any (λ name. name == thm.name) state)
+may_follow state (Claim thm) = not (list_any (λ name. name == thm.name) state.theorems)
 
--- the events of forms from a state on, where each form means one that may follow
-abbrev pub events_from : List (List ℕ) → List ℕ → List Object → Option (List Event)
-events_from names state [] = Some []
-events_from names state (form ∷ forms) =
-    option_and_then (λ e. if may_follow state e then option_map (λ es. e ∷ es) (events_from names (next_state state e) forms) else None) (event_meant names form)
+abbrev pub followed : State → Option Event → Result Event RefusalCode
+followed state (Some e) = if may_follow state e then Ok e else Err Form
+followed state None = Err Form
 
--- a book's first form stands behind no theorem
-abbrev pub book_meant : List (List ℕ) → List Object → Option (List Event)
-book_meant names forms = events_from names [] forms
+-- the event that a form means in a state, or the code of its refusal
+abbrev pub event_meant : List (List ℕ) → State → Object → Result Event RefusalCode
+event_meant names state form = followed state (event_spelled names form)

@@ -6,5 +6,8 @@ pub mod Events
 pub mod EventOf
 pub mod PlainEvents
 pub mod NatOf
+pub mod Entry
 pub mod Lines
+pub mod Walk
 pub mod Transcript
+pub mod Stops

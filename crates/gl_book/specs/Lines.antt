@@ -1,11 +1,18 @@
 -- The lines of a transcript. Each ends with byte 10.
 use Rattle.std.specs.Prelude.{ℕ, Bool, true, false, nat_lt, if◌then◌else◌, List, [], ◌∷◌, ◌++◌, codes, count_by}
-use Rattle.std.specs.List.{flat_map}
+use Rattle.std.specs.List.{flat_map, list_any}
 use Rattle.std.specs.Fmt.{decimal}
 use Rattle.gl_logic.specs.Object.{Object}
 use Rattle.gl_base.specs.declared.status.Status.{Status}
 use Rattle.gl_base.specs.declared.status.Status.TheVariants as status
 use Rattle.sexp_print.specs.Printed.{name_of, printed}
+use Rattle.sexp_reader.specs.declared.ends.ReadCode.{ReadCode}
+use Rattle.sexp_reader.specs.declared.ends.ReadCode.TheVariants as read
+use Rattle.gl_book.specs.Entry.{Entry, Answered, Refused}
+use Rattle.gl_book.specs.declared.counts.Counts.{Counts}
+use Rattle.gl_book.specs.declared.refusal.Refusal.{Refusal}
+use Rattle.gl_book.specs.declared.refusal.RefusalCode.{RefusalCode}
+use Rattle.gl_book.specs.declared.refusal.RefusalCode.TheVariants as code
 use Rattle.gl_book.specs.declared.answer.Answer.{Answer}
 use Rattle.gl_book.specs.declared.answer.Answer.TheVariants as answer
 use Rattle.gl_decide.specs.declared.verdict.Verdict.{Verdict}
@@ -30,8 +37,33 @@ verdict_lines names t verdict.Memory = named_line names (codes "UNDECIDED ") t (
 
 abbrev pub answer_lines : List (List ℕ) → Answer → List (List ℕ)
 answer_lines names (answer.Value x) = (codes "VALUE " ++ (printed names x ++ 10 ∷ [])) ∷ []
+answer_lines names answer.TooLarge = (codes "VALUE undecided size" ++ 10 ∷ []) ∷ []
 answer_lines names answer.NoValue = (codes "VALUE undecided memory" ++ 10 ∷ []) ∷ []
 answer_lines names (answer.Decided t v) = verdict_lines names t.number v
+
+-- ---- refusals
+abbrev pub read_word : ReadCode → List ℕ
+read_word read.EndInside = codes "S1"
+read_word read.StrayClose = codes "S2"
+read_word read.BadDot = codes "S3"
+read_word read.BadByte = codes "S4"
+read_word read.WideNumber = codes "S5"
+read_word read.NumberForm = codes "S6"
+read_word read.BadHash = codes "S7"
+read_word read.TooDeep = codes "S8"
+read_word read.LongName = codes "S9"
+
+abbrev pub code_word : RefusalCode → List ℕ
+code_word (code.Text fault) = read_word fault
+code_word code.TooLong = codes "S10"
+code_word code.Form = codes "FORM"
+
+abbrev pub refused_line : Refusal → List ℕ
+refused_line r = codes "REFUSED " ++ (decimal r.line ++ (codes " " ++ (decimal r.column ++ (codes " " ++ (code_word r.code ++ 10 ∷ [])))))
+
+abbrev pub entry_lines : List (List ℕ) → Entry → List (List ℕ)
+entry_lines names (Answered a) = answer_lines names a
+entry_lines names (Refused r) = refused_line r ∷ []
 
 -- ---- the last line
 abbrev pub is_proved : Answer → Bool
@@ -46,26 +78,40 @@ abbrev pub is_refuted : Answer → Bool
 is_refuted (answer.Decided t (verdict.Refuted env)) = true
 is_refuted _ = false
 
--- a value that was refused memory, and a theorem with any other verdict
+-- a value that is not there, and a theorem with any other verdict
 abbrev pub is_undecided : Answer → Bool
+is_undecided answer.TooLarge = true
 is_undecided answer.NoValue = true
 is_undecided (answer.Decided t (verdict.Uncovered v)) = true
 is_undecided (answer.Decided t verdict.Unbuilt) = true
 is_undecided (answer.Decided t verdict.Memory) = true
 is_undecided _ = false
 
-abbrev pub done_line : ℕ → ℕ → ℕ → ℕ → List ℕ
-done_line proved vacuous refuted undecided = codes "DONE proved=" ++ (decimal proved ++ (codes " vacuous=" ++ (decimal vacuous ++ (codes " refuted=" ++ (decimal refuted ++ (codes " undecided=" ++ (decimal undecided ++ 10 ∷ [])))))))
+-- how many entries are answers of a kind
+abbrev pub is_answer : (Answer → Bool) → Entry → Bool
+is_answer is_one (Answered a) = is_one a
+is_answer is_one (Refused r) = false
 
-abbrev pub last_line : List Answer → List ℕ
-last_line answers = done_line (count_by is_proved answers) (count_by is_vacuous answers) (count_by is_refuted answers) (count_by is_undecided answers)
+abbrev pub count_of : (Answer → Bool) → List Entry → ℕ
+count_of is_one entries = count_by (is_answer is_one) entries
+
+abbrev pub counts_of : List Entry → Counts
+counts_of entries = record { proved = count_of is_proved entries; vacuous = count_of is_vacuous entries; refuted = count_of is_refuted entries; undecided = count_of is_undecided entries }
+
+abbrev pub done_line : Counts → List ℕ
+done_line c = codes "DONE proved=" ++ (decimal c.proved ++ (codes " vacuous=" ++ (decimal c.vacuous ++ (codes " refuted=" ++ (decimal c.refuted ++ (codes " undecided=" ++ (decimal c.undecided ++ 10 ∷ [])))))))
 
 -- ---- the whole
-abbrev pub transcript_lines : List (List ℕ) → List Answer → List (List ℕ)
-transcript_lines names answers = flat_map (answer_lines names) answers ++ last_line answers ∷ []
+abbrev pub transcript_lines : List (List ℕ) → List Entry → List (List ℕ)
+transcript_lines names entries = flat_map (entry_lines names) entries ++ done_line (counts_of entries) ∷ []
 
-abbrev pub refused_lines : List (List ℕ)
-refused_lines = (codes "REFUSED form" ++ 10 ∷ []) ∷ done_line 0 0 0 0 ∷ []
+abbrev pub is_refusal : Entry → Bool
+is_refusal (Answered a) = false
+is_refusal (Refused r) = true
 
-abbrev pub status_of : List Answer → Status
-status_of answers = if nat_lt 0 (count_by is_refuted answers) then status.Refuted else (if nat_lt 0 (count_by is_undecided answers) then status.Undecided else status.Good)
+-- the status of a book that is not refused
+abbrev pub status_by : Counts → Status
+status_by c = if nat_lt 0 c.refuted then status.Refuted else (if nat_lt 0 c.undecided then status.Undecided else status.Good)
+
+abbrev pub status_of : List Entry → Status
+status_of entries = if list_any is_refusal entries then status.BookRefused else status_by (counts_of entries)

@@ -1,5 +1,5 @@
 -- The term that a form means.
-use Rattle.std.specs.Prelude.{ℕ, zero, Bool, false, nat_lt, ◌==◌, if◌then◌else◌, List, [], ◌∷◌, length, get_or, codes, bytes_eq, Option, Some, None, option_and_then}
+use Rattle.std.specs.Prelude.{ℕ, zero, Bool, false, nat_lt, ◌==◌, ◌||◌, if◌then◌else◌, List, [], ◌∷◌, length, get_or, codes, bytes_eq, Option, Some, None, option_and_then}
 use Rattle.std.specs.List.{list_any}
 use Rattle.gl_logic.specs.Object.{Object, Int, Symbol, Cons}
 use Rattle.gl_logic.specs.Exp.{Exp, Var, Const, If, Prim}
@@ -27,9 +27,18 @@ prim_named names head =
 abbrev pub symbol_meant : List ℕ → ℕ → Option Exp
 symbol_meant scope t = if nat_lt t 2 then Some (Const (Symbol t)) else (if list_any (λ v. v == t) scope then Some (Var t) else None)
 
--- (quote x), from what stands behind its head
+-- the marks of backquote and of comma anywhere inside an object
+abbrev pub is_mark : ℕ → Bool
+is_mark t = (t == 2) || (t == 3)
+
+abbrev pub has_mark : Object → Bool
+has_mark (Symbol t) = is_mark t
+has_mark (Cons a d) = has_mark a || has_mark d
+has_mark _ = false
+
+-- (quote x), from what stands behind its head. No mark stands in x
 abbrev pub quote_meant : Object → Option Exp
-quote_meant (Cons x (Symbol zero)) = Some (Const x)
+quote_meant (Cons x (Symbol zero)) = if has_mark x then None else Some (Const x)
 quote_meant _ = None
 
 -- (if a b c)

@@ -1,14 +1,24 @@
 //! The counts of a transcript's last line.
 
-ghost use Rattle.std.specs.Prelude.{◌≡◌, count_by, IfOk};
-ghost use Rattle.gl_book.specs.Lines.{done_line, last_line, is_proved, is_vacuous, is_refuted, is_undecided, status_of};
-ghost use Rattle.gl_book.specs.Transcript.{IsReported};
+ghost use Rattle.std.specs.Prelude.{◌≡◌, ◌<◌, ◌-◌, ◌^◌, [], IfOk};
+ghost use Rattle.gl_book.specs.Lines.{done_line, is_proved, is_vacuous, is_refuted, is_undecided, counts_of, status_by};
+ghost use Rattle.gl_book.specs.Stops.{one_more, counts_with, HasRoom};
 
 use super::answer::Answer;
 use gl_base::status::Status;
 use gl_decide::Verdict;
 use gl_logic::NoMemory;
 use std::alloc::Global;
+
+/// The numbers of a transcript's last line: of the theorems that are proved, vacuous and refuted, and of the
+/// theorems and values that are left undecided.
+#[derive(Clone, Copy, Debug, PartialEq, Eq)]
+pub struct Counts {
+    pub proved: u64,
+    pub vacuous: u64,
+    pub refuted: u64,
+    pub undecided: u64,
+}
 
 /// Whether an answer is a theorem that is proved.
 fn proved(answer: &Answer) -> bool
@@ -37,7 +47,7 @@ fn undecided(answer: &Answer) -> bool
 {
     match answer {
         Answer::Value(_) => false,
-        Answer::NoValue => true,
+        Answer::TooLarge | Answer::NoValue => true,
         Answer::Decided(_, verdict) => {
             matches!(
                 verdict,
@@ -47,69 +57,63 @@ fn undecided(answer: &Answer) -> bool
     }
 }
 
-fn count_proved(answers: &[Answer]) -> usize
-    ensures { result ≡ count_by is_proved answers.now }
+fn more(count: u64, one: bool) -> u64
+    requires { count < 2 ^ 64 - 1 }
+    ensures { result ≡ one_more one count }
 {
-    answers.iter().filter(|a| proved(a)).count()
+    if one { count + 1 } else { count }
 }
 
-fn count_vacuous(answers: &[Answer]) -> usize
-    ensures { result ≡ count_by is_vacuous answers.now }
-{
-    answers.iter().filter(|a| vacuous(a)).count()
-}
+impl Counts {
+    /// The counts before the first answer.
+    pub fn none() -> Counts
+        ensures { result ≡ counts_of [] }
+    {
+        Counts {
+            proved: 0,
+            vacuous: 0,
+            refuted: 0,
+            undecided: 0,
+        }
+    }
 
-fn count_refuted(answers: &[Answer]) -> usize
-    ensures { result ≡ count_by is_refuted answers.now }
-{
-    answers.iter().filter(|a| refuted(a)).count()
-}
+    /// The counts with one answer more.
+    pub fn with(self, answer: &Answer) -> Counts
+        requires { HasRoom self }
+        ensures { result ≡ counts_with self answer.now }
+    {
+        Counts {
+            proved: more(self.proved, proved(answer)),
+            vacuous: more(self.vacuous, vacuous(answer)),
+            refuted: more(self.refuted, refuted(answer)),
+            undecided: more(self.undecided, undecided(answer)),
+        }
+    }
 
-fn count_undecided(answers: &[Answer]) -> usize
-    ensures { result ≡ count_by is_undecided answers.now }
-{
-    answers.iter().filter(|a| undecided(a)).count()
-}
+    /// The last line.
+    pub fn line(self, alloc: Global) -> Result<Vec<u8>, NoMemory>
+        ensures { IfOk result (λ v. v.items ≡ done_line self) }
+    {
+        let proved = self.proved;
+        let vacuous = self.vacuous;
+        let refuted = self.refuted;
+        let undecided = self.undecided;
+        let line = format!(in alloc;
+            "DONE proved={proved} vacuous={vacuous} refuted={refuted} undecided={undecided}\n"
+        )?;
+        Ok(line.as_bytes().to_vec(alloc)?)
+    }
 
-/// The last line of a transcript.
-pub fn line_of_counts(alloc: Global, answers: &[Answer]) -> Result<Vec<u8>, NoMemory>
-    ensures { IfOk result (λ v. v.items ≡ last_line answers.now) }
-{
-    done(
-        alloc,
-        count_proved(answers),
-        count_vacuous(answers),
-        count_refuted(answers),
-        count_undecided(answers),
-    )
-}
-
-/// The last line with these counts.
-pub fn done(
-    alloc: Global,
-    proved: usize,
-    vacuous: usize,
-    refuted: usize,
-    undecided: usize,
-) -> Result<Vec<u8>, NoMemory>
-    ensures { IfOk result (λ v. v.items ≡ done_line proved vacuous refuted undecided) }
-{
-    let line = format!(in alloc;
-        "DONE proved={proved} vacuous={vacuous} refuted={refuted} undecided={undecided}\n"
-    )?;
-    Ok(line.as_bytes().to_vec(alloc)?)
-}
-
-/// The status of a run that wrote these answers.
-pub fn status(answers: &[Answer]) -> Status
-    ensures status { result ≡ status_of answers.now }
-    ensures reported { IsReported result }
-{
-    if count_refuted(answers) > 0 {
-        Status::Refuted
-    } else if count_undecided(answers) > 0 {
-        Status::Undecided
-    } else {
-        Status::Good
+    /// The status of a book that is not refused.
+    pub fn status(self) -> Status
+        ensures { result ≡ status_by self }
+    {
+        if self.refuted > 0 {
+            Status::Refuted
+        } else if self.undecided > 0 {
+            Status::Undecided
+        } else {
+            Status::Good
+        }
     }
 }

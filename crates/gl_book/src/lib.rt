@@ -1,17 +1,17 @@
 //! A book's events, from its bytes to its transcript.
 //!
-//! - forms to events: `book_walk` over all forms, `one_event` of one form, `event`, `translate`, `spelling`, `parts`, `nats`, `nat`, `name_set`;
-//! - events to answers: `decide`, `scan`, `walker`, `primitives`, `answer`;
-//! - answers to what is written: `transcript`, `lines`, `line_list`, `counts`, `put_lines`, `run`.
+//! - forms to events: `state` of the next form, `one_event` of one form, `event`, `translate`, `marks`, `spelling`, `parts`, `nats`, `nat`, `name_set`;
+//! - events to answers: `answer`, `decide`, `scan`, `walker`, `primitives`, `size`;
+//! - answers to what is written: `walk` over all forms, `lines`, `refusal`, `counts`, `line_list`, `put_lines`, `stop`, `run`.
 #![tactic(auto)]
 
 mod answer;
-mod book_walk;
 mod counts;
 mod decide;
 mod event;
 mod line_list;
 mod lines;
+mod marks;
 mod name_set;
 mod nat;
 mod nats;
@@ -19,13 +19,18 @@ mod one_event;
 mod parts;
 mod primitives;
 mod put_lines;
+mod refusal;
 mod run;
 mod scan;
+mod size;
 mod spelling;
-mod transcript;
+mod state;
+mod stop;
 mod translate;
+mod walk;
 mod walker;
 
 pub use answer::Answer;
 pub use event::Event;
 pub use run::{run_book, run_text};
+pub use walk::every_walk_goes_on;

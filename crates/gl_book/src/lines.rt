@@ -23,9 +23,18 @@ pub fn add_answer(
 {
     match answer {
         Answer::Value(value) => add_value(alloc, value, texts, lines),
+        Answer::TooLarge => lines.push(size_line(alloc)?),
         Answer::NoValue => lines.push(memory_line(alloc)?),
         Answer::Decided(name, verdict) => add_verdict(alloc, *name, verdict, texts, lines),
     }
+}
+
+fn size_line(alloc: Global) -> Result<Vec<u8>, NoMemory>
+    ensures { IfOk result (λ v. v.items ≡ codes "VALUE undecided size" ++ 10 ∷ []) }
+{
+    let mut bytes = Vec::new(alloc);
+    bytes.extend_from_slice(b"VALUE undecided size\n")?;
+    Ok(bytes)
 }
 
 fn memory_line(alloc: Global) -> Result<Vec<u8>, NoMemory>

@@ -53,13 +53,13 @@ fn nats_of_items(alloc: Global, items: &[Tree], texts: &Texts) -> Result<Option<
     ensures { IfOk result (λ ns. option_map (λ v. nats_of v.items) ns ≡ all_meant (nat_meant texts.now) (reverse items.now)) }
 {
     let mut nats = Vec::new(alloc);
-    let mut left = items.len();
-    while left > 0 {
-        left -= 1;
-        match nat_of_form(&items[left], texts) {
+    let mut left = items;
+    while let [behind @ .., item] = left {
+        match nat_of_form(item, texts) {
             Some(nat) => nats.push(nat)?,
             None => return Ok(None),
         }
+        left = behind;
     }
     Ok(Some(nats))
 }

@@ -3,7 +3,7 @@
 ghost use Rattle.std.specs.Prelude.{◌≡◌, [], ◌∷◌, reverse, IfOk, option_map};
 ghost use Rattle.shape_spec.specs.Indices.{variables_of};
 ghost use Rattle.gl_decide.specs.TheoremOf.{theorem_of};
-ghost use Rattle.gl_book.specs.Events.{Claim, event_meant, event_from, theorem_meant, are_words};
+ghost use Rattle.gl_book.specs.Events.{Claim, event_spelled, event_from, theorem_meant, are_words};
 ghost use Rattle.gl_book.specs.EventOf.{event_of};
 
 use super::event::Event;
@@ -18,7 +18,7 @@ use std::alloc::Global;
 
 /// The event that a form means, and None where it means none.
 pub fn event_of_form(alloc: Global, form: &Tree, texts: &Texts) -> Result<Option<Event>, NoMemory>
-    ensures { IfOk result (λ e. option_map event_of e ≡ event_meant texts.now form.now) }
+    ensures { IfOk result (λ e. option_map event_of e ≡ event_spelled texts.now form.now) }
 {
     match parts_of(form) {
         Some(parts) => event_of_parts(alloc, parts, texts),

@@ -35,9 +35,9 @@ fn integer(tree: &Tree) -> i128
 fn first_part(alloc: Global, tree: &Tree) -> Result<Tree, NoMemory>
     ensures { IfOk result (λ t. t ≡ car tree.now) }
 {
-    match tree.elements().last() {
-        Some(first) => first.copy(alloc),
-        None => Ok(Tree::nil()),
+    match tree.elements() {
+        [.., first] => first.copy(alloc),
+        [] => Ok(Tree::nil()),
     }
 }
 
@@ -45,11 +45,10 @@ fn first_part(alloc: Global, tree: &Tree) -> Result<Tree, NoMemory>
 fn second_part(alloc: Global, tree: &Tree) -> Result<Tree, NoMemory>
     ensures { IfOk result (λ t. t ≡ cdr tree.now) }
 {
-    let elements = tree.elements();
-    if elements.is_empty() {
-        return Ok(Tree::nil());
+    match tree.elements() {
+        [rest @ .., _] => behind(alloc, rest, tree.tail()),
+        [] => Ok(Tree::nil()),
     }
-    behind(alloc, &elements[..elements.len() - 1], tree.tail())
 }
 
 /// The conses of elements, from the last to the first, onto a tail.

@@ -9,8 +9,8 @@ use super::line_list::Lines;
 use gl_base::failed::Failed;
 use gl_base::sink::{Sink, put_all};
 
-/// Hands over each line as a piece of its own, and flushes once after the last. Where a call fails, the bytes that
-/// were taken are a front of the lines.
+/// Hands over each line as a piece of its own. Where a call fails, the bytes that were taken are a front of the
+/// lines.
 pub fn put_lines<K: Sink>(lines: &Lines, out: &mut K) -> Result<(), Failed>
     ensures ok { OnOk result (Grows (K.written out.old) (K.written out.new) (concat lines.now)) }
     ensures front { OnErr result ((n : ℕ) × Grows (K.written out.old) (K.written out.new) (take n (concat lines.now))) }
@@ -19,22 +19,21 @@ pub fn put_lines<K: Sink>(lines: &Lines, out: &mut K) -> Result<(), Failed>
     for i in 0..lines.len() {
         put_all(out, lines.at(i))?;
     }
-    flush(out)
+    Ok(())
 }
 
-/// Hands over the last line alone, and flushes.
+/// Hands over the last line alone.
 fn put_last<K: Sink>(lines: &Lines, out: &mut K) -> Result<(), Failed>
     requires { 0 < length lines.now }
     ensures ok { OnOk result (Grows (K.written out.old) (K.written out.new) (get_or lines.now (length lines.now - 1) [])) }
     ensures front { OnErr result ((n : ℕ) × Grows (K.written out.old) (K.written out.new) (take n (get_or lines.now (length lines.now - 1) []))) }
     ensures cause { HasCause (K.faults out.old) (K.faults out.new) result }
 {
-    put_all(out, lines.at(lines.len() - 1))?;
-    flush(out)
+    put_all(out, lines.at(lines.len() - 1))
 }
 
-/// Hands over all lines, or the last one alone, and flushes.
-pub fn put_told<K: Sink>(lines: &Lines, last_only: bool, out: &mut K) -> Result<(), Failed>
+/// Hands over all lines, or the last one alone.
+fn put_some<K: Sink>(lines: &Lines, last_only: bool, out: &mut K) -> Result<(), Failed>
     requires { 0 < length lines.now }
     ensures ok { OnOk result (Grows (K.written out.old) (K.written out.new) (told last_only lines.now)) }
     ensures front { OnErr result ((n : ℕ) × Grows (K.written out.old) (K.written out.new) (take n (told last_only lines.now))) }
@@ -45,6 +44,17 @@ pub fn put_told<K: Sink>(lines: &Lines, last_only: bool, out: &mut K) -> Result<
     } else {
         put_lines(lines, out)
     }
+}
+
+/// Hands over all lines, or the last one alone, and then flushes once.
+pub fn put_told<K: Sink>(lines: &Lines, last_only: bool, out: &mut K) -> Result<(), Failed>
+    requires { 0 < length lines.now }
+    ensures ok { OnOk result (Grows (K.written out.old) (K.written out.new) (told last_only lines.now)) }
+    ensures front { OnErr result ((n : ℕ) × Grows (K.written out.old) (K.written out.new) (take n (told last_only lines.now))) }
+    ensures cause { HasCause (K.faults out.old) (K.faults out.new) result }
+{
+    put_some(lines, last_only, out)?;
+    flush(out)
 }
 
 /// Flushes a sink.

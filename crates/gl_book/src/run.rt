@@ -1,23 +1,29 @@
 //! From a text or a shelf to a sink.
 
-ghost use Rattle.std.specs.Prelude.{◌≡◌, ◌≢◌, ◌<◌, ℕ, List, length, false};
+ghost use Rattle.std.specs.Prelude.{◌≡◌, ◌≢◌, ◌≤◌, ℕ, List, length, IfOk};
 ghost use Rattle.gl_base.specs.Outside.{Rose};
-ghost use Rattle.gl_book.specs.Transcript.{EndsWith, WritesBook, IsTranscript, IsReported, most_bytes};
+ghost use Rattle.sexp_reader.specs.Book.{IsBeyond};
+ghost use Rattle.gl_book.specs.Transcript.{EndsWith, WritesBook, most_bytes};
+ghost use Rattle.gl_book.specs.Stops.{EndsBy, status_from, IsCounted, IsReported};
 
-use super::put_lines::put_told;
-use super::transcript::{Report, long_transcript, transcript};
+use super::counts::Counts;
+use super::refusal::{Refusal, RefusalCode};
+use super::stop::Stop;
+use super::walk::{close, walk};
 use gl_base::limits::Limits;
 use gl_base::shelf::Shelf;
 use gl_base::sink::Sink;
 use gl_base::status::Status;
-use plain_reader::{ReadEnd, read_book};
+use gl_logic::Texts;
+use sexp_reader::{ReadEnd, forms, read_book, too_long};
 use std::alloc::Global;
 use std::thread::Threads;
 
-/// Writes the transcript of a text, or its last line alone, and answers the status that it gives.
+/// Writes the transcript of a text, or its last line alone, and answers the status that it gives. The lines of an
+/// event are written before the next form is looked at.
 ///
 /// WriteFault where a write or the flush failed; a front of the transcript was then taken. NoMemory where
-/// memory was refused outside a value or a theorem; nothing was then written.
+/// memory was refused outside a value or a theorem; what was written is then a front of a transcript.
 pub fn run_text<R: Threads + Sync, K: Sink>(
     _rt: &R,
     alloc: Global,
@@ -32,16 +38,16 @@ pub fn run_text<R: Threads + Sync, K: Sink>(
     ensures no_read_fault { result ≢ Status.ReadFault }
     ensures no_usage { result ≢ Status.Usage }
 {
-    match transcript(alloc, text, limits) {
-        Ok(report) => finish(&report, last_only, out),
-        Err(_) => Status::NoMemory,
+    if let Some((line, column)) = too_long(text) {
+        return refuse_long(alloc, line, column, last_only, out);
     }
+    status_of_run(write_text(alloc, text, limits, last_only, out))
 }
 
 /// Reads the book of a name, and writes its transcript.
 ///
 /// ReadFault where a call of the shelf failed; that was then the last one, and nothing was written. A book of more
-/// than 65,536 bytes is refused.
+/// than 4,194,304 bytes is refused at the first of the others, and none of its events is processed.
 pub fn run_book<R: Threads + Sync, S: Shelf, K: Sink>(
     rt: &R,
     alloc: Global,
@@ -61,37 +67,67 @@ pub fn run_book<R: Threads + Sync, S: Shelf, K: Sink>(
     match read_book(alloc, shelf, name) {
         Ok(text) => run_text(rt, alloc, &text, limits, false, out),
         Err(ReadEnd::Failed) => Status::ReadFault,
-        Err(ReadEnd::TooLong(_, _)) => refuse_long(alloc, out),
+        Err(ReadEnd::TooLong(line, column)) => refuse_long(alloc, line, column, false, out),
         Err(ReadEnd::Memory) => Status::NoMemory,
     }
 }
 
-/// Writes the transcript of a book that is too long.
-fn refuse_long<K: Sink>(alloc: Global, out: &mut K) -> Status
-    ensures written { (most : ℕ) (text : List ℕ) → most_bytes < length text → EndsWith most text false (K.written out.old) (K.written out.new) result }
-    ensures write_fault { result ≡ Status.WriteFault → Rose (K.faults out.old) (K.faults out.new) }
-    ensures no_write_fault { result ≢ Status.WriteFault → K.faults out.new ≡ K.faults out.old }
+/// The status of a run.
+fn status_of_run(run: Result<Status, Stop>) -> Status
+    requires { IfOk run IsReported }
+    ensures status { result ≡ status_from run }
+    ensures write_fault { (before now : ℕ) → IsCounted before now run → result ≡ Status.WriteFault → Rose before now }
+    ensures no_write_fault { (before now : ℕ) → IsCounted before now run → result ≢ Status.WriteFault → now ≡ before }
     ensures no_read_fault { result ≢ Status.ReadFault }
     ensures no_usage { result ≢ Status.Usage }
 {
-    match long_transcript(alloc) {
-        Ok(report) => finish(&report, false, out),
-        Err(_) => Status::NoMemory,
+    match run {
+        Ok(status) => status,
+        Err(Stop::Write) => Status::WriteFault,
+        Err(Stop::Memory) => Status::NoMemory,
     }
 }
 
-/// Writes a report, and answers its status.
-fn finish<K: Sink>(report: &Report, last_only: bool, out: &mut K) -> Status
-    requires lines { 0 < length report.now.lines }
-    requires status { IsReported report.now.status }
-    ensures written { (most : ℕ) (text : List ℕ) → IsTranscript most text report.now.lines report.now.status → EndsWith most text last_only (K.written out.old) (K.written out.new) result }
+/// Reads a text's forms, and walks over them.
+fn write_text<K: Sink>(
+    alloc: Global,
+    text: &[u8],
+    limits: &Limits,
+    last_only: bool,
+    out: &mut K,
+) -> Result<Status, Stop>
+    requires { length text.now ≤ most_bytes }
+    ensures written { EndsBy limits.now.enum_bits text.now last_only (K.written out.old) (K.written out.new) result }
+    ensures reported { IfOk result IsReported }
+    ensures cause { IsCounted (K.faults out.old) (K.faults out.new) result }
+{
+    let Ok(mut texts) = Texts::new(alloc) else {
+        return Err(Stop::Memory);
+    };
+    let Ok(book) = forms(alloc, text, &mut texts) else {
+        return Err(Stop::Memory);
+    };
+    walk(alloc, &book, limits, &texts, last_only, out)
+}
+
+/// Writes the transcript of a book that is too long at a place.
+fn refuse_long<K: Sink>(
+    alloc: Global,
+    line: u32,
+    column: u32,
+    last_only: bool,
+    out: &mut K,
+) -> Status
+    ensures written { (most : ℕ) (text : List ℕ) → IsBeyond most_bytes text line column → EndsWith most text last_only (K.written out.old) (K.written out.new) result }
     ensures write_fault { result ≡ Status.WriteFault → Rose (K.faults out.old) (K.faults out.new) }
     ensures no_write_fault { result ≢ Status.WriteFault → K.faults out.new ≡ K.faults out.old }
     ensures no_read_fault { result ≢ Status.ReadFault }
     ensures no_usage { result ≢ Status.Usage }
 {
-    match put_told(&report.lines, last_only, out) {
-        Ok(()) => report.status,
-        Err(_) => Status::WriteFault,
-    }
+    let refusal = Refusal {
+        line,
+        column,
+        code: RefusalCode::TooLong,
+    };
+    status_of_run(close(alloc, Some(refusal), Counts::none(), last_only, out))
 }

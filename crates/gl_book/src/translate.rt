@@ -12,6 +12,7 @@ ghost use Rattle.gl_book.specs.Translation.{term_meant, terms_meant, symbol_mean
 ghost use Rattle.gl_logic.specs.PrimValue.{prim_arity};
 ghost use Rattle.gl_book.specs.Plain.{IsPlain, IsKnown};
 
+use super::marks::has_mark;
 use super::name_set::NameSet;
 use super::spelling::{prim_named, spells};
 use gl_logic::{NoMemory, Prim, Term, TextId, Texts, Tree, TreeKind};
@@ -71,10 +72,9 @@ fn term_of_list(
     requires { kind_of list.now ≡ List }
     ensures { IfOk result (λ t. option_map term_of t ≡ term_meant texts.now scope.now list.now) }
 {
-    let elements = list.elements();
-    let count = elements.len() - 1;
-    let head = &elements[count];
-    let arguments = &elements[..count];
+    let [arguments @ .., head] = list.elements() else {
+        unreachable!();
+    };
     if !list.tail().is_nil() {
         Ok(None)
     } else if spells(texts, b"QUOTE", head) {
@@ -98,13 +98,13 @@ fn terms_of_forms(
     ensures { IfOk result (λ ts. option_map (λ v. map term_of v.items) ts ≡ terms_meant texts.now scope.now (conses forms.now nil)) }
 {
     let mut terms = Vec::new(alloc);
-    let mut left = forms.len();
-    while left > 0 {
-        left -= 1;
-        match translated(alloc, &forms[left], scope, texts)? {
+    let mut left = forms;
+    while let [behind @ .., form] = left {
+        match translated(alloc, form, scope, texts)? {
             Some(term) => terms.push(term)?,
             None => return Ok(None),
         }
+        left = behind;
     }
     Ok(Some(terms))
 }
@@ -116,7 +116,11 @@ fn quotation(alloc: Global, arguments: &[Tree]) -> Result<Option<Term>, NoMemory
     if arguments.len() != 1 {
         return Ok(None);
     }
-    let object = arguments[0].copy(alloc)?;
+    let object = &arguments[0];
+    if has_mark(object) {
+        return Ok(None);
+    }
+    let object = object.copy(alloc)?;
     Ok(Some(constant(object)))
 }
 

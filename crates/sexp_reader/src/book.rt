@@ -1,8 +1,8 @@
 //! Reading a book whole.
 
-ghost use Rattle.std.specs.Prelude.{◌≡◌, ◌≢◌, ◌≤◌, ◌<◌, ◌+◌, ◌^◌, ℕ, List, Err, IfOk, IfErr, IfSome, IsErrOf, vec_len};
+ghost use Rattle.std.specs.Prelude.{◌≡◌, ◌≢◌, ◌≤◌, ◌<◌, ◌+◌, ◌^◌, ℕ, List, Err, IfOk, IfErr, IfSome, MatchOption, IsErrOf, length, vec_len};
 ghost use Rattle.gl_base.specs.Outside.{Rose};
-ghost use Rattle.sexp_reader.specs.Book.{IsLongAt};
+ghost use Rattle.sexp_reader.specs.Book.{IsBeyond, IsLongAt};
 
 use crate::place::Place;
 use gl_base::shelf::Shelf;
@@ -20,6 +20,26 @@ pub enum ReadEnd {
     TooLong(u32, u32),
     /// Memory was refused.
     Memory,
+}
+
+/// Where a text has more bytes than a book may have: the line and the column of the first of the others.
+pub fn too_long(text: &[u8]) -> Option<(u32, u32)>
+    ensures { MatchOption result (length text.now ≤ MOST_BYTES) (λ place. IsBeyond MOST_BYTES text.now place.0 place.1) }
+{
+    if text.len() <= MOST_BYTES {
+        return None;
+    }
+    Some(beyond(text, MOST_BYTES))
+}
+
+// The line and the column of the byte behind so many.
+fn beyond(text: &[u8], limit: usize) -> (u32, u32)
+    requires limit { limit + 1 < 2 ^ 32 }
+    requires long { limit < length text.now }
+    ensures { IsBeyond limit text.now result.0 result.1 }
+{
+    let place = Place::first().behind(&text[..limit]);
+    (place.line, place.column)
 }
 
 /// Reads the text with this name from its first byte to its last. Every read takes a byte at least or
@@ -70,6 +90,6 @@ fn read_at_most<S: Shelf>(
             return Err(ReadEnd::Memory);
         };
     }
-    let place = Place::first().behind(&bytes[..limit]);
-    Err(ReadEnd::TooLong(place.line, place.column))
+    let (line, column) = beyond(&bytes, limit);
+    Err(ReadEnd::TooLong(line, column))
 }

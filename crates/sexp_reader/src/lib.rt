@@ -21,7 +21,7 @@ mod tests;
 mod text;
 mod token;
 
-pub use book::{MOST_BYTES, ReadEnd, read_book};
+pub use book::{MOST_BYTES, ReadEnd, read_book, too_long};
 pub use ends::{End, Forms, ReadCode};
 pub use list::{Form, FormList};
 pub use text::{forms, has_one_reading};

@@ -1,7 +1,7 @@
 //! The forms of a text.
 
 ghost use Rattle.std.specs.Prelude.{◌≡◌, ◌<◌, ◌≤◌, ℕ, List, length, IfOk, All};
-ghost use Rattle.gl_logic.specs.Names.{Extends};
+ghost use Rattle.gl_logic.specs.Names.{Extends, IsTable};
 ghost use Rattle.gl_logic.specs.Numbered.{IsNumbered};
 ghost use Rattle.gl_logic.specs.Parts.{car_steps};
 ghost use Rattle.sexp_reader.specs.Sizes.{IsNarrow, IsAscii};
@@ -26,6 +26,7 @@ pub fn forms(alloc: Global, bytes: &[u8], texts: &mut Texts) -> Result<Forms, No
     ensures reads { IfOk result (λ forms. (later : List (List ℕ)) → Extends texts.new later
         → Reads later bytes.now forms.list forms.end) }
     ensures kept { Extends texts.old texts.new }
+    ensures table { IsTable texts.new }
     // The table gains the texts of lexemes of the text, and no others.
     ensures gains { Gains bytes.now texts.old texts.new }
     // The table has the text of each symbol and string in them.
@@ -35,9 +36,9 @@ pub fn forms(alloc: Global, bytes: &[u8], texts: &mut Texts) -> Result<Forms, No
     ensures ascii { IfOk result (λ forms. All (λ form. IsAscii form.tree) forms.list) }
     ensures flat { IfOk result (λ forms. All (λ form. car_steps form.tree ≤ 1000) forms.list) }
 {
-    let forms = read_all(alloc, bytes, texts)?;
+    let read = read_all(alloc, bytes, texts);
     texts.is_table();
-    Ok(forms)
+    read
 }
 
 fn read_all(alloc: Global, bytes: &[u8], texts: &mut Texts) -> Result<Forms, NoMemory>

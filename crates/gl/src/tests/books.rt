@@ -16,8 +16,6 @@ const FIRST_LINES: &str = "VALUE A\nDONE proved=0 vacuous=0 refuted=0 undecided=
 
 const NO_LINES: &str = "DONE proved=0 vacuous=0 refuted=0 undecided=0\n";
 
-const REFUSED_LINES: &str = "REFUSED form\nDONE proved=0 vacuous=0 refuted=0 undecided=0\n";
-
 #[test]
 fn books_of_values(rt: HostRuntime) -> Result<(), Fail> {
     let alloc = rt.alloc();
@@ -47,43 +45,23 @@ fn books_of_values(rt: HostRuntime) -> Result<(), Fail> {
             "(value-triple (if (equal 'x 'y) 1 (if 0 2 3)))",
             "VALUE 2\n",
         ),
+        (
+            "(value-triple '(a . (#\\Space \"q\\\"r\" :k -0)))",
+            "VALUE (A #\\Space \"q\\\"r\" :K 0)\n",
+        ),
+        (
+            "(value-triple -170141183460469231731687303715884105728)",
+            "VALUE -170141183460469231731687303715884105728\n",
+        ),
+        (
+            "; one\n(value-triple #| two #| three |# |# 1) ; and no end",
+            "VALUE 1\n",
+        ),
     ] {
         let (bytes, code) = outcome(&rt, "b", book, Vec::new(alloc), Vec::new(alloc))?;
         let want = format!(in alloc; "{want}{NO_LINES}")?;
         assert_eq!(rt; bytes.as_slice(), want.as_bytes(), "{book}");
         assert_eq!(rt; code, 0, "{book}");
-    }
-    Ok(())
-}
-
-#[test]
-fn refused_books(rt: HostRuntime) -> Result<(), Fail> {
-    let alloc = rt.alloc();
-    for book in [
-        "(value-triple (car x))",
-        "(value-triple 1) (value-triple",
-        "(value-triple 1))",
-        "(value-triple 1-)",
-        "(value-triple 170141183460469231731687303715884105728)",
-        "(value-triple 1 2)",
-        "(value-triple (car 1 2))",
-        "value-triple",
-        "(value-triple #)",
-        // options in another order, one missing, a name that is none
-        "(def-gl-thm n :concl t :hyp t :g-bindings (auto-bindings))",
-        "(def-gl-thm n :hyp t :concl t)",
-        "(def-gl-thm t :hyp t :concl t :g-bindings (auto-bindings))",
-        // two theorems of one name, a variable bound twice, one that is not bound
-        "(def-gl-thm n :hyp t :concl t :g-bindings (auto-bindings)) (def-gl-thm N :hyp t :concl t :g-bindings (auto-bindings))",
-        "(def-gl-thm n :hyp t :concl t :g-bindings (auto-bindings (:nat x 1) (:nat x 1)))",
-        "(def-gl-thm n :hyp t :concl (< y 1) :g-bindings (auto-bindings (:nat x 1)))",
-        // 128 bits, and 1,025 indices
-        "(def-gl-thm n :hyp t :concl t :g-bindings (auto-bindings (:nat x 128)))",
-        "(def-gl-thm n :hyp t :concl t :g-bindings (auto-bindings (:nat a 127) (:nat b 127) (:nat c 127) (:nat d 127) (:nat e 127) (:nat f 127) (:nat g 127) (:nat h 127) (:nat i 0)))",
-    ] {
-        let (bytes, code) = outcome(&rt, "b", book, Vec::new(alloc), Vec::new(alloc))?;
-        assert_eq!(rt; bytes.as_slice(), REFUSED_LINES.as_bytes(), "{book}");
-        assert_eq!(rt; code, 2, "{book}");
     }
     Ok(())
 }
@@ -215,60 +193,5 @@ fn sure_shelf_and_sink(rt: HostRuntime) -> Result<(), Fail> {
         assert_eq!(rt; out.bytes(), want.as_bytes());
         assert_eq!(rt; status.code(), 0);
     }
-    Ok(())
-}
-
-/// `(value-triple '((..)))` with this many parentheses behind the quote, and what it prints.
-fn nested(alloc: Global, depth: usize) -> Result<(String, String), Fail> {
-    let mut book = String::from_str(alloc, "(value-triple '")?;
-    let mut line = String::from_str(alloc, "VALUE ")?;
-    for level in 0..depth {
-        book.push('(')?;
-        if level > 0 {
-            line.push('(')?;
-        }
-    }
-    line.push_str("NIL")?;
-    for level in 0..depth {
-        book.push(')')?;
-        if level > 0 {
-            line.push(')')?;
-        }
-    }
-    book.push(')')?;
-    line.push('\n')?;
-    line.push_str(NO_LINES)?;
-    Ok((book, line))
-}
-
-#[test]
-fn nesting(rt: HostRuntime) -> Result<(), Fail> {
-    let alloc = rt.alloc();
-    // the parenthesis of the form and the quote count too
-    let (book, line) = nested(alloc, 998)?;
-    let (bytes, code) = outcome(&rt, "b", book.as_str(), Vec::new(alloc), Vec::new(alloc))?;
-    assert_eq!(rt; bytes.as_slice(), line.as_bytes());
-    assert_eq!(rt; code, 0);
-    let (book, _line) = nested(alloc, 999)?;
-    let (bytes, code) = outcome(&rt, "b", book.as_str(), Vec::new(alloc), Vec::new(alloc))?;
-    assert_eq!(rt; bytes.as_slice(), REFUSED_LINES.as_bytes());
-    assert_eq!(rt; code, 2);
-    Ok(())
-}
-
-#[test]
-fn lengths(rt: HostRuntime) -> Result<(), Fail> {
-    let alloc = rt.alloc();
-    let mut book = String::new(alloc);
-    for _ in 0..65_536 {
-        book.push(' ')?;
-    }
-    let (bytes, code) = outcome(&rt, "b", book.as_str(), Vec::new(alloc), Vec::new(alloc))?;
-    assert_eq!(rt; bytes.as_slice(), NO_LINES.as_bytes());
-    assert_eq!(rt; code, 0);
-    book.push(' ')?;
-    let (bytes, code) = outcome(&rt, "b", book.as_str(), Vec::new(alloc), Vec::new(alloc))?;
-    assert_eq!(rt; bytes.as_slice(), REFUSED_LINES.as_bytes());
-    assert_eq!(rt; code, 2);
     Ok(())
 }

@@ -39,10 +39,12 @@ pub fn each_gives<R: AllocGlobal + Threads + Sync + Abort>(
 }
 
 pub fn shelf_of(alloc: Global, book: &str, fails: Vec<u64>) -> Result<MemoryShelf, Fail> {
-    let mut texts = Vec::new(alloc);
+    shelf_holding(alloc, book.as_bytes().to_vec(alloc)?, fails)
+}
+
+pub fn shelf_holding(alloc: Global, bytes: Vec<u8>, fails: Vec<u64>) -> Result<MemoryShelf, Fail> {
     let name = String::from_str(alloc, "b")?;
-    texts.push((name, book.as_bytes().to_vec(alloc)?))?;
-    Ok(MemoryShelf::new(alloc, texts, fails)?)
+    Ok(MemoryShelf::new(alloc, vec![in alloc; (name, bytes)]?, fails)?)
 }
 
 /// The words of a line, which blanks part.

@@ -1,5 +1,5 @@
-use Rattle.std.proofs.Common.{rules, add-one, arith}
-use Rattle.gl_book.proofs.Joined.{on_err, line_taken, front_taken, all_taken}
+use Rattle.std.proofs.Common.{rules, add-one}
+use Rattle.gl_book.proofs.Joined.{on_err, line_taken, front_taken}
 use Rattle.gl_book.proofs.put_lines.put_lines.Goals as goal
 
 pub returns-in_err-put_all-clause-front : goal.returns-in_err-put_all-clause-front
@@ -7,6 +7,3 @@ returns-in_err-put_all-clause-front g c = on_err _ (front_taken _ _ _ c.args.lin
 
 pub loop-i-preserved : goal.loop-i-preserved
 loop-i-preserved g c = (search rules, rw add-one (line_taken _ _ _ c.args.lines.now c.loop-i.i c.at.result.now c.at.ensures c.loop-i.invariant.1 c.in_ok-put_all.ensures.ok))
-
-pub returns-clause-front : goal.returns-clause-front
-returns-clause-front g c = on_err _ (all_taken _ _ _ c.args.lines.now c.loop-i.i (omega arith) c.loop-i.invariant.1 c.flush.ensures.same)

@@ -1,4 +1,12 @@
+use Rattle.std.proofs.Common.{sym, subst}
+use Rattle.gl_book.specs.Transcript.{EndsWith}
+use Rattle.gl_book.proofs.Ends.{too_long, ends_with, refused_reported}
 use Rattle.gl_book.proofs.run.refuse_long.Goals as goal
 
-pub returns-in-Ok-clause-written : goal.returns-in-Ok-clause-written
-returns-in-Ok-clause-written g c most text h = c.finish.ensures.written most text (c.in-Ok.ensures.transcript most text h)
+pub status_of_run-requires : goal.status_of_run-requires
+status_of_run-requires g c = refused_reported c.close.result c.close.ensures.status
+
+pub returns-clause-written : goal.returns-clause-written
+returns-clause-written g c most text beyond =
+    subst (EndsWith most text c.args.last_only _ _) (sym c.status_of_run.ensures.status)
+    (ends_with most text c.args.last_only _ _ c.close.result (too_long most text c.args.last_only _ _ c.args.line c.args.column beyond c.close.result c.none.result c.none.ensures c.close.ensures.ok c.close.ensures.status c.close.ensures.front) (refused_reported c.close.result c.close.ensures.status))

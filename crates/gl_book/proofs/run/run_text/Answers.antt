@@ -1,4 +1,12 @@
+use Rattle.std.proofs.Common.{sym, subst}
+use Rattle.gl_book.specs.Transcript.{EndsWith}
+use Rattle.gl_book.proofs.Ends.{ends_with}
 use Rattle.gl_book.proofs.run.run_text.Goals as goal
 
-pub returns-in-Ok-clause-written : goal.returns-in-Ok-clause-written
-returns-in-Ok-clause-written g c = c.finish.ensures.written _ _ c.in-Ok.ensures.transcript
+pub returns-clause-written : goal.returns-clause-written
+returns-clause-written g c =
+    subst (EndsWith c.args.limits.now.enum_bits c.args.text.now c.args.last_only _ _) (sym c.status_of_run.ensures.status)
+    (ends_with c.args.limits.now.enum_bits c.args.text.now c.args.last_only _ _ c.write_text.result c.write_text.ensures.written c.write_text.ensures.reported)
+
+pub returns-in-Some-clause-written : goal.returns-in-Some-clause-written
+returns-in-Some-clause-written g c = c.refuse_long.ensures.written c.args.limits.now.enum_bits c.args.text.now (rw c.in-Some.is at c.too_long.ensures)

@@ -1,4 +1,4 @@
-use Rattle.std.proofs.Common.{◌≡◌, ◌≤◌, ◌+◌, ◌*◌, take, length, map}
+use Rattle.std.proofs.Common.{◌≡◌, ◌≤◌, ◌+◌, ◌*◌, length, map}
 use Rattle.gl_logic.specs.TermOf.{term_of}
 use Rattle.gl_book.specs.Translation.{terms_meant}
 use Rattle.gl_book.proofs.Forms.{prepended}
@@ -19,9 +19,10 @@ decreases-terms_of_forms l = 3 * most (λ y. size_of y + 1) l.forms.now
 -- the terms so far, in front of those still to come, are those of the whole
 abbrev pub invariant-terms_of_forms-loop-left : goal.invariant-terms_of_forms-loop-left
 invariant-terms_of_forms-loop-left l = record {
-  within : l.left ≤ length l.forms;
-  comes : prepended (map term_of l.terms.items) (terms_meant l.texts l.scope (conses (take l.left l.forms) nil)) ≡ terms_meant l.texts l.scope (conses l.forms nil);
+  within : length l.left ≤ length l.forms;
+  small : most (λ y. size_of y + 1) l.left ≤ most (λ y. size_of y + 1) l.forms;
+  comes : prepended (map term_of l.terms.items) (terms_meant l.texts l.scope (conses l.left nil)) ≡ terms_meant l.texts l.scope (conses l.forms nil);
 }
 
 abbrev pub decreases-terms_of_forms-loop-left : goal.decreases-terms_of_forms-loop-left
-decreases-terms_of_forms-loop-left l = l.left
+decreases-terms_of_forms-loop-left l = length l.left

@@ -1,0 +1,26 @@
+use Rattle.std.proofs.Common.{sym, [], append-nil}
+use Rattle.gl_book.specs.Transcript.{IsReadBy}
+use Rattle.gl_book.proofs.Ends.{walked, walk_reported}
+use Rattle.gl_book.proofs.run.write_text.Goals as goal
+
+pub returns-clause-written : goal.returns-clause-written
+returns-clause-written g c =
+    let names = c.forms.new.texts in
+    let book = c.in-Ok-forms.book in
+    let read : IsReadBy names c.args.text.now book.list book.end = record {
+      table = c.forms.ensures.table;
+      reads = c.in-Ok-forms.ensures.reads names ([], sym (append-nil names));
+      numbered = c.in-Ok-forms.ensures.numbered;
+    } in
+    walked c.args.limits.now.enum_bits c.args.text.now c.args.last_only _ _ names book c.requires read c.walk.result c.walk.ensures.ok c.walk.ensures.front
+
+pub returns-clause-reported : goal.returns-clause-reported
+returns-clause-reported g c =
+    let names = c.forms.new.texts in
+    let book = c.in-Ok-forms.book in
+    let read : IsReadBy names c.args.text.now book.list book.end = record {
+      table = c.forms.ensures.table;
+      reads = c.in-Ok-forms.ensures.reads names ([], sym (append-nil names));
+      numbered = c.in-Ok-forms.ensures.numbered;
+    } in
+    walk_reported c.args.limits.now.enum_bits c.args.text.now c.args.last_only _ _ names book c.requires read c.walk.result c.walk.ensures.ok

@@ -1,0 +1,90 @@
+-- What is written of a walk, and what a run that stops has done to the sink.
+use Rattle.std.specs.Prelude.{◌≡◌, ℕ, ◌+◌, ◌-◌, ◌^◌, ◌<◌, ◌⊎◌, Bool, cond, List, [], ◌∷◌, take, Option, Some, None, Result, Ok, Err, MatchResult}
+use Rattle.std.specs.List.{concat}
+use Rattle.gl_base.specs.Outside.{Grows, Rose}
+use Rattle.gl_base.specs.declared.status.Status.{Status}
+use Rattle.gl_base.specs.declared.status.Status.TheVariants as status
+use Rattle.sexp_reader.specs.declared.ends.Forms.{Forms}
+use Rattle.sexp_reader.specs.declared.ends.End.{End}
+use Rattle.sexp_reader.specs.declared.ends.End.TheVariants.{Clean, Bad}
+use Rattle.gl_book.specs.Events.{first_state}
+use Rattle.gl_book.specs.Entry.{Entry}
+use Rattle.gl_book.specs.Lines.{refused_line, is_proved, is_vacuous, is_refuted, is_undecided, done_line, status_by, transcript_lines, status_of}
+use Rattle.gl_book.specs.Walk.{Walk, text_refusal}
+use Rattle.gl_book.specs.Transcript.{told, WritesTranscript, WritesFront}
+use Rattle.gl_book.specs.declared.answer.Answer.{Answer}
+use Rattle.gl_book.specs.declared.counts.Counts.{Counts}
+use Rattle.gl_book.specs.declared.refusal.Refusal.{Refusal}
+use Rattle.gl_book.specs.declared.stop.Stop.{Stop}
+use Rattle.gl_book.specs.declared.stop.Stop.TheVariants.{Write, Memory}
+
+-- ---- the sink's count of faults
+abbrev pub HasRisen : ℕ → ℕ → Stop → Type 0
+HasRisen before now Write = Rose before now
+HasRisen before now Memory = now ≡ before
+
+-- the count rose where a write stopped the run, and nowhere else
+abbrev pub IsCounted : {T : Type 0} → ℕ → ℕ → Result T Stop → Type 0
+IsCounted before now result = MatchResult result (λ _. now ≡ before) (HasRisen before now)
+
+-- ---- counts
+abbrev pub one_more : Bool → ℕ → ℕ
+one_more b n = cond b (n + 1) n
+
+abbrev pub counts_with : Counts → Answer → Counts
+counts_with c a = record { proved = one_more (is_proved a) c.proved; vacuous = one_more (is_vacuous a) c.vacuous; refuted = one_more (is_refuted a) c.refuted; undecided = one_more (is_undecided a) c.undecided }
+
+abbrev pub HasRoom : Counts → Type 0
+HasRoom c = (c.proved < 2 ^ 64 - 1) × (c.vacuous < 2 ^ 64 - 1) × (c.refuted < 2 ^ 64 - 1) × (c.undecided < 2 ^ 64 - 1)
+
+-- ---- the end of a transcript
+abbrev pub end_refusal : End → Option Refusal
+end_refusal Clean = None
+end_refusal (Bad line column fault) = Some (text_refusal line column fault)
+
+abbrev pub closing_lines : Counts → Option Refusal → List (List ℕ)
+closing_lines counts None = done_line counts ∷ []
+closing_lines counts (Some r) = refused_line r ∷ done_line counts ∷ []
+
+abbrev pub closing_status : Counts → Option Refusal → Status
+closing_status counts None = status_by counts
+closing_status counts (Some r) = status.BookRefused
+
+-- ---- a walk
+-- what these lines tell was written, or the front of it
+abbrev pub WritesLines : Bool → List (List ℕ) → Option (List ℕ) → Option (List ℕ) → Type 0
+WritesLines last_only lines old new = Grows old new (told last_only lines)
+
+abbrev pub WritesLinesFront : Bool → List (List ℕ) → Option (List ℕ) → Option (List ℕ) → Type 0
+WritesLinesFront last_only lines old new = (n : ℕ) × Grows old new (take n (told last_only lines))
+
+abbrev pub WritesWalk : List (List ℕ) → ℕ → Forms → Bool → Option (List ℕ) → Option (List ℕ) → Status → Type 0
+WritesWalk names most book last_only old new s =
+    (entries : List Entry) × Walk names most first_state book.list book.end entries × WritesLines last_only (transcript_lines names entries) old new × (s ≡ status_of entries)
+
+abbrev pub WritesWalkFront : List (List ℕ) → ℕ → Forms → Bool → Option (List ℕ) → Option (List ℕ) → Type 0
+WritesWalkFront names most book last_only old new = (entries : List Entry) × Walk names most first_state book.list book.end entries × WritesLinesFront last_only (transcript_lines names entries) old new
+
+-- lines before the last one: all of them, or none where the last one alone is told
+abbrev pub told_before : Bool → List (List ℕ) → List ℕ
+told_before last_only lines = cond last_only [] (concat lines)
+
+-- ---- a run
+abbrev pub status_from : Result Status Stop → Status
+status_from (Ok s) = s
+status_from (Err Write) = status.WriteFault
+status_from (Err Memory) = status.NoMemory
+
+-- a status that a transcript gives
+abbrev pub IsReported : Status → Type 0
+IsReported status.ReadFault = ⊥
+IsReported status.WriteFault = ⊥
+IsReported status.NoMemory = ⊥
+IsReported status.Usage = ⊥
+IsReported s = Unit {0}
+
+-- what a run over these bytes has written, by how it ends: a status that a transcript gives, or a stop
+abbrev pub EndsBy : ℕ → List ℕ → Bool → Option (List ℕ) → Option (List ℕ) → Result Status Stop → Type 0
+EndsBy most bytes last_only old new (Ok s) = WritesTranscript most bytes last_only old new s
+EndsBy most bytes last_only old new (Err Write) = WritesFront most bytes last_only old new
+EndsBy most bytes last_only old new (Err Memory) = (old ≡ new) ⊎ WritesFront most bytes last_only old new
