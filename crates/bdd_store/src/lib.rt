@@ -41,6 +41,9 @@
 //! | the product of two 8-bit factors, both ways (158,561 nodes) | 58 | 45 |
 //! | of two 9-bit factors (513,374 nodes) | 213 | 185 |
 //! | of two 10-bit factors (1,650,242 nodes) | 978 | 874 |
+//!
+//! The same products on another machine, the whole process, beside BuDDy 2.4 (161,439, 524,647 and 1,691,665 nodes): 20, 120
+//! and 610 milliseconds here, 94, 204 and 659 there.
 #![tactic(auto)]
 
 mod bits;

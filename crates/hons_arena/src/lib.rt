@@ -16,6 +16,9 @@
 //! | a step of a list of a million integers: the integer found, its cons made | 524 | 490 |
 //! | the same list found again, a step | 524 | 495 |
 //! | releasing a cell, of two million | 142 | 59 |
+//!
+//! On another machine, by the time of the whole process: 120 for a new integer of a million, 310 for a step of the list,
+//! 220 for one that is found again.
 #![tactic(auto)]
 
 mod arena;
