@@ -5,3 +5,10 @@ pub mod Sizes
 pub mod Searches
 pub mod Forward
 pub mod Worked
+pub mod Closed
+pub mod Counts
+pub mod Deep
+pub mod Outcomes
+pub mod Whole
+pub mod LaterNames
+pub mod SoundTerms

@@ -6,3 +6,4 @@ pub mod Macros
 pub mod Translation
 pub mod Steps
 pub mod Contexts
+pub mod Answers

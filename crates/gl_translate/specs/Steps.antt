@@ -1,4 +1,6 @@
 -- What the forms mean that are still to be translated, and the steps that they take.
+use Rattle.gl_logic.specs.Exp.{Const, Prim, Call}
+use Rattle.gl_logic.specs.TermOf.{exps_of}
 use Rattle.std.specs.Prelude.{◌≡◌, ◌≢◌, ℕ, ◌+◌, ◌<◌, List, [], ◌∷◌, map, reverse, Result, MatchResult, IfOk, Bool}
 use Rattle.std.specs.Option.{option_map}
 use Rattle.std.specs.Prelude.{Option, Some, None, Ok, Err, if◌then◌else◌}
@@ -13,7 +15,7 @@ use Rattle.gl_translate.specs.declared.form.Form.TheVariants as form
 use Rattle.gl_translate.specs.declared.form.Step.{Step}
 use Rattle.gl_translate.specs.declared.form.Step.TheVariants as step
 use Rattle.gl_translate.specs.Setting.{Setting, has_mark}
-use Rattle.gl_translate.specs.Meaning.{Meaning, fault, literal, symbol, if_form, prim_form, call_form, let_form}
+use Rattle.gl_translate.specs.Meaning.{Meaning, and_then, fault, literal, symbol, symbol_inside, every_part, if_form, if_parts, prim_form, call_form, let_form, let_inside}
 use Rattle.gl_translate.specs.Parts.{Part, Binding, all_means}
 use Rattle.gl_translate.specs.Macros.{Choice, and_form, or_form, cond_form, list_form, nested_or, path_form, prim1, prim2, number, append_call, choice_of, matches_all, key_test, one_after_another}
 use Rattle.gl_translate.specs.Translation.{meaning, meanings, bindings}
@@ -73,6 +75,17 @@ step_means s (step.Prim p fs) = prim_form p (map (form_means s) fs.items)
 step_means s (step.Call f fs) = call_form f.number (map (form_means s) fs.items)
 step_means s (step.Let vs fs b) = let_form vs (map (form_means s) fs.items) (form_means s b)
 step_means s (step.Same x) = meaning s x.now
+
+-- ---- inside a form, one deeper
+abbrev pub step_inside : Setting → Step → Meaning
+step_inside s (step.Constant x) bound around = Ok (Const x)
+step_inside s (step.Symbol t) bound around = symbol_inside s t.number bound
+step_inside s (step.If a b c) bound around = if_parts (form_means s a) (form_means s b) (form_means s c) bound around
+step_inside s (step.Or a b) bound around = if_parts (form_means s a) (form_means s a) (form_means s b) bound around
+step_inside s (step.Prim p fs) bound around = and_then (every_part (map (form_means s) fs.items) bound around) (λ ts. Ok (Prim p (exps_of ts)))
+step_inside s (step.Call f fs) bound around = and_then (every_part (map (form_means s) fs.items) bound around) (λ ts. Ok (Call f.number (exps_of ts)))
+step_inside s (step.Let vs fs b) bound around = let_inside vs (map (form_means s) fs.items) (form_means s b) bound around
+step_inside s (step.Same x) bound around = meaning s x.now bound around
 
 -- ---- results
 -- the step means this, and so does the fault

@@ -217,7 +217,7 @@ impl Context<'_> {
     }
 
     /// One step of a form that is none of its own parts.
-    pub fn step<'f>(&'f self, form: Form<'f>) -> Result<Step<'f>, TermFault>
+    pub(crate) fn step<'f>(&'f self, form: Form<'f>) -> Result<Step<'f>, TermFault>
         ensures takes { Takes (setting_in self.now) (form_means (setting_in self.now) form.entry) result }
         ensures other { IfOk result (IsBelow 0) }
     {

@@ -1,15 +1,18 @@
-//! Forms to terms, one step at a time.
+//! Forms to terms.
 //!
 //! What a form of a book means is a definition, `translation` in `specs/`: a term of the logic, or the
-//! code of the form's first fault. The code here takes one step of its table: [`Context::step`] takes a
-//! form apart into a term without parts or into parts that are forms themselves, whose meanings together
-//! are the form's. No expansion of a macro is built. The translation of a whole form over these steps
-//! comes next.
+//! code of the form's first fault. [`term`] gives it. It takes a form apart one step of the table at a
+//! time, into a term without parts or into parts that are forms themselves, whose meanings together are
+//! the form's. No expansion of a macro is built.
+//!
+//! The work is in proportion to the term: names are looked up in constant time, and the first part of an
+//! `or`, which stands in the term twice, is copied. The stack holds at most 2,000 forms inside one another.
 #![tactic(auto)]
 
 mod arithmetic;
 mod choices;
 mod context;
+mod descent;
 mod fault;
 mod form;
 mod heads;
@@ -19,16 +22,15 @@ mod name_set;
 mod owns;
 mod scope;
 mod steps;
-mod variables;
+mod translate;
+mod walk;
 mod words;
 
-pub use context::Context;
 pub use fault::TermFault;
-pub use form::{Form, Step};
 pub use macros::Macro;
 pub use owns::Owns;
 pub use scope::Scope;
-pub use variables::Variables;
+pub use translate::term;
 
 #[cfg(test)]
 mod tests;

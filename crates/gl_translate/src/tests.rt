@@ -1,97 +1,102 @@
-//! A step of each kind and each code, with ample memory.
+//! Forms and their terms, with ample memory.
+
+mod deep;
+mod reader;
+mod rows;
 
 use super::*;
-use gl_logic::{Names, NoMemory, TextId, Texts, Tree, World};
+use gl_logic::{Names, NoMemory, Texts, Tree, World};
+use reader::{form_of, object_of};
 use std::alloc::Global;
+use std::process::Abort;
 use std::test::Fail;
 
-/// The form `(head x y)`.
-fn form_of(alloc: Global, head: TextId, x: TextId, y: TextId) -> Result<Tree, NoMemory> {
-    let last = Tree::pair(alloc, Tree::symbol(y), Tree::nil())?;
-    let parts = Tree::pair(alloc, Tree::symbol(x), last)?;
-    Tree::pair(alloc, Tree::symbol(head), parts)
+/// Where a row's form stands.
+#[derive(Clone, Copy, PartialEq, Eq)]
+enum Kind {
+    /// X, Y and Z are variables, G and H definitions of two and no formals.
+    Full,
+    /// The same variables and no definitions.
+    Empty,
+    /// Every legal variable is in scope.
+    Theorem,
 }
 
-/// What a step is, or the code of its fault.
-fn kind_of_step(step: &Result<Step<'_>, TermFault>) -> &'static [u8] {
-    match step {
-        Ok(Step::Constant(_)) => b"constant",
-        Ok(Step::Symbol(_)) => b"symbol",
-        Ok(Step::If(_, _, _)) => b"if",
-        Ok(Step::Or(_, _)) => b"or",
-        Ok(Step::Prim(_, _)) => b"primitive",
-        Ok(Step::Call(_, _)) => b"call",
-        Ok(Step::Let(_, _, _)) => b"let",
-        Ok(Step::Same(_)) => b"its own part",
-        Err(TermFault::UnknownFunction) => b"V4",
-        Err(TermFault::WrongCount) => b"V5",
-        Err(TermFault::UnboundVariable) => b"V6",
-        Err(TermFault::BadUse) => b"V7",
-        Err(TermFault::TooDeep) => b"V12",
-        Err(TermFault::Memory) => b"memory",
-    }
-}
-
-/// The heads of `(head NIL NIL)`.
-const ROWS: [(&str, &str); 13] = [
-    ("AND", "if"),
-    ("OR", "or"),
-    ("LIST", "primitive"),
-    ("LET", "let"),
-    ("LET*", "symbol"),
-    ("THE", "symbol"),
-    ("+", "primitive"),
-    ("G", "call"),
-    ("1+", "V5"),
-    ("IF", "V5"),
-    ("H", "V4"),
-    ("COND", "V7"),
-    ("CASE", "V7"),
-];
-
-#[test]
-fn steps_of_each_kind(rt: HostRuntime) -> Result<(), Fail> {
-    let alloc = rt.alloc();
-    let mut texts = Texts::new(alloc)?;
+/// G, H, and `binary-append` and `member-equal` under their numbers.
+fn definitions(alloc: Global, texts: &mut Texts) -> Result<Owns, NoMemory> {
     let mut own = Owns::new(alloc);
-    own.push(texts.id_of(b"G")?, 2)?;
-    let scope = Scope {
-        vars: Names::new(alloc),
-        every: false,
-        own,
-    };
-    let world = World::new(alloc)?;
-    let nil = TextId { number: 0 };
-    for (head, kind) in &ROWS {
-        let form = form_of(alloc, texts.id_of(head.as_bytes())?, nil, nil)?;
-        let unnamed = texts.id_of(b"")?;
-        match Context::new(alloc, &world, &scope, &texts, unnamed) {
-            Some(context) => {
-                let step = context.step(Form::Book(&form));
-                assert!(rt;
-                    kind_of_step(&step) == kind.as_bytes(),
-                    "({head} NIL NIL) is {kind}"
-                );
-            }
-            None => assert!(rt; false, "there are numbers enough"),
+    for i in 0..40 {
+        match i {
+            0 => own.push(texts.id_of(b"G")?, 2)?,
+            1 => own.push(texts.id_of(b"H")?, 0)?,
+            27 => own.push(texts.id_of(b"BINARY-APPEND")?, 2)?,
+            31 => own.push(texts.id_of(b"MEMBER-EQUAL")?, 2)?,
+            _ => own.push(texts.id_of(b"FILLER")?, 1)?,
         }
     }
-    Ok(())
+    Ok(own)
 }
 
-#[test]
-fn names_are_bound_once_each(rt: HostRuntime) -> Result<(), Fail> {
-    let alloc = rt.alloc();
-    let x = TextId { number: 4 };
-    let y = TextId { number: 5 };
-    let mut names = Names::new(alloc);
-    names.push(x)?;
-    names.push(y)?;
-    names.push(x)?;
-    let mut bound = Variables::new(alloc);
-    bound.bind(&names)?;
-    assert_eq!(rt; bound.len(), 2);
-    bound.truncate(1);
-    assert!(rt; bound.contains(x) && !bound.contains(y), "x is left");
+fn scope_of(alloc: Global, kind: Kind, texts: &mut Texts) -> Result<Scope, NoMemory> {
+    let mut vars = Names::new(alloc);
+    if kind != Kind::Theorem {
+        vars.push(texts.id_of(b"X")?)?;
+        vars.push(texts.id_of(b"Y")?)?;
+        vars.push(texts.id_of(b"Z")?)?;
+    }
+    let own = if kind == Kind::Full {
+        definitions(alloc, texts)?
+    } else {
+        Owns::new(alloc)
+    };
+    Ok(Scope {
+        vars,
+        every: kind == Kind::Theorem,
+        own,
+    })
+}
+
+/// The world without definitions in which `*C*` is 5.
+fn world_of(alloc: Global, texts: &mut Texts) -> Result<World, NoMemory> {
+    let mut world = World::new(alloc)?;
+    world.set_constant(texts.id_of(b"*C*")?, Tree::int(5))?;
+    Ok(world)
+}
+
+fn code(fault: TermFault) -> &'static [u8] {
+    match fault {
+        TermFault::UnknownFunction => b"V4",
+        TermFault::WrongCount => b"V5",
+        TermFault::UnboundVariable => b"V6",
+        TermFault::BadUse => b"V7",
+        TermFault::TooDeep => b"V12",
+        TermFault::Memory => b"memory",
+    }
+}
+
+/// The term of a form as an object, or the symbol of its code.
+fn answer(
+    alloc: Global,
+    form: &Tree,
+    scope: &Scope,
+    world: &World,
+    texts: &mut Texts,
+) -> Result<Tree, NoMemory> {
+    match term(alloc, form, scope, world, texts) {
+        Ok(term) => object_of(alloc, &term, texts),
+        Err(fault) => Ok(Tree::symbol(texts.id_of(code(fault))?)),
+    }
+}
+
+fn try_rows(rt: &impl Abort, alloc: Global, kind: Kind, rows: &[(&str, &str)]) -> Result<(), Fail> {
+    let mut texts = Texts::new(alloc)?;
+    let scope = scope_of(alloc, kind, &mut texts)?;
+    let world = world_of(alloc, &mut texts)?;
+    for (form, wanted) in rows {
+        let form_read = form_of(alloc, form.as_bytes(), &mut texts)?;
+        let wanted_read = form_of(alloc, wanted.as_bytes(), &mut texts)?;
+        let given = answer(alloc, &form_read, &scope, &world, &mut texts)?;
+        assert!(rt; given.same(&wanted_read), "{form} is {wanted}");
+    }
     Ok(())
 }

@@ -108,7 +108,7 @@ fn macro_word(named: Macro) -> &'static [u8]
     }
 }
 
-fn prim_word(named: Prim) -> &'static [u8]
+pub(crate) fn prim_word(named: Prim) -> &'static [u8]
     ensures { result.now ≡ word_of_prim named }
 {
     match named {

@@ -1,7 +1,7 @@
 use Rattle.std.proofs.Common.{◌≡◌, ◌∙◌, sym, ap, arith, ◌+◌, suc, take, eqb, ◌||◌}
 use Rattle.std.specs.List.{list_any}
 use Rattle.gl_translate.proofs.Bound.{bound_more, bound_same, bound_length}
-use Rattle.gl_translate.proofs.variables.bind_all.Goals as goal
+use Rattle.gl_translate.proofs.walk.bind_all.Goals as goal
 
 pub loop-i-preserved : goal.loop-i-preserved
 loop-i-preserved c =

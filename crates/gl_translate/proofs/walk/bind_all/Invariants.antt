@@ -1,6 +1,6 @@
 use Rattle.std.proofs.Common.{◌≡◌, ◌≤◌, ◌||◌, ℕ, take, length, eqb}
 use Rattle.std.specs.List.{list_any}
-use Rattle.gl_translate.proofs.variables.bind_all.Given as goal
+use Rattle.gl_translate.proofs.walk.bind_all.Given as goal
 
 abbrev pub invariant-loop-i : goal.invariant-loop-i
 invariant-loop-i l = record {
