@@ -4,3 +4,4 @@ pub mod Charges
 pub mod Cover
 pub mod Law
 pub mod Levels
+pub mod Worked
