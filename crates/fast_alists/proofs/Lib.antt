@@ -1,0 +1,7 @@
+pub mod Agreeing
+pub mod Covering
+pub mod Equal
+pub mod Making
+pub mod Pairs
+pub mod Running
+pub mod Values

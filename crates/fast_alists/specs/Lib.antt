@@ -1,0 +1,6 @@
+pub mod Alists
+pub mod Keys
+pub mod Longer
+pub mod Makes
+pub mod Tables
+pub mod Values
