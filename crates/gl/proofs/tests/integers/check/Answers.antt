@@ -7,7 +7,7 @@ use Rattle.gl.proofs.tests.integers.check.Goals as goal
 pub loop-k-preserved : goal.loop-k-preserved
 loop-k-preserved g c =
     below_more (λ k. (d : Edge) → IsLive c.args.store.now (get_or c.args.bits.now k d)) c.loop-k.k c.loop-k.invariant
-        (λ d. subst (IsLive c.args.store.now) (sym (read_at c.args.bits.now c.loop-k.k c.at.result d c.at.ensures)) (search rules))
+    (λ d. subst (IsLive c.args.store.now) (sym (read_at c.args.bits.now c.loop-k.k c.at.result d c.at.ensures)) (search rules))
 
 pub returns : goal.returns
 returns g c k d h = c.loop-k.invariant k (omega arith) d
