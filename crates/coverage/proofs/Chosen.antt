@@ -6,11 +6,10 @@ use Rattle.gl_logic.specs.Quotients.{floor_by}
 use Rattle.gl_logic.specs.Environment.{look}
 use Rattle.gl_logic.specs.TwosComplement.{integer_of, bits_of}
 use Rattle.gl_logic.proofs.TwosComplement.{from_bits_of}
-use Rattle.shape_spec.specs.ShapeSeen.{ShapeSeen}
-use Rattle.shape_spec.specs.Indices.{indices_in, indices_of, rank_in, IsNotIn, AreApart, IsIntegerShape}
+use Rattle.shape_spec.specs.ShapeSeen.{ShapeSeen, Boolean, Integer, Choice, Constant, Pair}
+use Rattle.shape_spec.specs.Indices.{indices_in, indices_of, rank_in, IsNotIn, AreApart}
 use Rattle.shape_spec.specs.InputMeant.{object_meant, truth_of}
 use Rattle.shape_spec.proofs.Members.{IsIn, in_left, in_right, same_map, same_rank}
-use Rattle.shape_spec.proofs.Made.{integer_meant}
 use Rattle.coverage.proofs.Says.{bool_cases, IsByte}
 
 -- ---- numbers that stand apart
@@ -125,8 +124,20 @@ chosen env b k = find (wishes env b) (unranked (indices_of b) (indices_of b) k)
 chosen_at : (env : List (ℕ × Object)) (b : List (ℕ × ShapeSeen)) (i : ℕ) → IsIn i (indices_of b) → truth_of b (chosen env b) i ≡ find (wishes env b) i
 chosen_at env b i h = ap (find (wishes env b)) (unranked_is (indices_of b) (indices_of b) i (λ j k. k) h)
 
+-- an integer's object is that of its indices
+abbrev pub IsInteger : ShapeSeen → Type 0
+IsInteger (Integer is) = Unit {0}
+IsInteger _ = ⊥
+
+integer_meant : (holds : ℕ → Bool) (s : ShapeSeen) → IsInteger s → object_meant holds s ≡ Int (integer_of (map holds (indices_in s)))
+integer_meant holds (Boolean i) h = absurd h
+integer_meant holds (Integer is) h = refl
+integer_meant holds (Choice i x y) h = absurd h
+integer_meant holds (Constant x) h = absurd h
+integer_meant holds (Pair x y) h = absurd h
+
 -- it gives a bound variable its object, where that is an integer of the shape's bits
-pub chosen_object : (env : List (ℕ × Object)) (b : List (ℕ × ShapeSeen)) (p : ℕ × ShapeSeen) → AreApart (indices_of b) → IsBound p b → IsIntegerShape p.1 → IsByte (length (indices_in p.1)) (look env p.0)
+pub chosen_object : (env : List (ℕ × Object)) (b : List (ℕ × ShapeSeen)) (p : ℕ × ShapeSeen) → AreApart (indices_of b) → IsBound p b → IsInteger p.1 → IsByte (length (indices_in p.1)) (look env p.0)
     → object_meant (truth_of b (chosen env b)) p.1 ≡ look env p.0
 chosen_object env b p h k s byte =
     let same = same_map (truth_of b (chosen env b)) (find (wishes env b)) (indices_in p.1) (λ i l. chosen_at env b i (in_indices p b i k l)) in

@@ -11,7 +11,7 @@ use Rattle.gl_logic.specs.FreeVariables.{is_free_in, AgreeOn}
 use Rattle.gl_logic.proofs.FreeVariables.{agree}
 use Rattle.gl_logic.proofs.Optional.{some_same, then_inverted}
 use Rattle.shape_spec.specs.ShapeSeen.{ShapeSeen, Boolean, Integer, Choice, Constant, Pair}
-use Rattle.shape_spec.specs.Indices.{indices_in, width_of, IsIntegerShape, AreIntegerShapes, IsBindings}
+use Rattle.shape_spec.specs.Indices.{indices_in, width_of, IsBindings}
 use Rattle.shape_spec.specs.InputMeant.{object_meant, truth_of, input_meant, number_of, assignment_numbered}
 use Rattle.shape_spec.specs.Theorems.{IsMet, Holds}
 use Rattle.shape_spec.proofs.Digits.{number_below, input_by_number}
@@ -19,7 +19,7 @@ use Rattle.coverage.specs.Conjuncts.{conjuncts}
 use Rattle.coverage.specs.Covered.{is_variable, is_unsigned_row, is_covered, is_free_in_either, lacks_cover, first_uncovered}
 use Rattle.coverage.specs.Sound.{is_bound_in, AllAreBound}
 use Rattle.coverage.proofs.Says.{bool_cases, never, IsByte, said, unsigned_met}
-use Rattle.coverage.proofs.Chosen.{IsBound, chosen, chosen_object}
+use Rattle.coverage.proofs.Chosen.{IsBound, IsInteger, chosen, chosen_object}
 
 -- ---- values that are not NIL
 apart : (a b : ℕ) → (a ≡ b → ⊥) → eqb a b ≡ false
@@ -76,9 +76,12 @@ is_byte_of definitions n env hyp v (Choice i x y) r e m h = never h
 is_byte_of definitions n env hyp v (Constant x) r e m h = never h
 is_byte_of definitions n env hyp v (Pair x y) r e m h = never h
 
-shape_bound : (b : List (ℕ × ShapeSeen)) (p : ℕ × ShapeSeen) → AreIntegerShapes b → IsBound p b → IsIntegerShape p.1
-shape_bound [] p h k = absurd k
-shape_bound (q ∷ b) p h k = elim k [ inl e ↦ subst (λ (r : ℕ × ShapeSeen). IsIntegerShape r.1) (sym e) h.0 | inr l ↦ shape_bound b p h.1 l ]
+is_integer_of : (hyp : Exp) (v : ℕ) (s : ShapeSeen) → is_covered (conjuncts hyp) (is_variable v) s ≡ true → IsInteger s
+is_integer_of hyp v (Integer is) h = tt
+is_integer_of hyp v (Boolean i) h = never h
+is_integer_of hyp v (Choice i x y) h = never h
+is_integer_of hyp v (Constant x) h = never h
+is_integer_of hyp v (Pair x y) h = never h
 
 -- ---- looking a variable up in an input
 abbrev pub made_by : (ShapeSeen → Object) → List (ℕ × ShapeSeen) → List (ℕ × Object)
@@ -103,8 +106,9 @@ module _ (definitions : List Definition) (hyp concl : Exp) (b : List (ℕ × Sha
         λ v f. look_made (object_meant (truth_of b a)) (look env v) b v
             (λ p k e.
             let free : is_free_in_either hyp concl p.0 ≡ true = ap (is_free_in_either hyp concl) e ∙ f in
-            let byte = is_byte_of definitions n env hyp p.0 p.1 i.0 i.1.0 met (covered_each hyp concl b p covered k free) in
-            chosen_object env b p proper.indices k (shape_bound b p proper.shapes k) byte ∙ ap (look env) e)
+            let c = covered_each hyp concl b p covered k free in
+            let byte = is_byte_of definitions n env hyp p.0 p.1 i.0 i.1.0 met c in
+            chosen_object env b p proper.indices k (is_integer_of hyp p.0 p.1 c) byte ∙ ap (look env) e)
             (bound v f),
       )
 

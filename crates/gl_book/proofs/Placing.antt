@@ -3,7 +3,7 @@ use Rattle.std.proofs.Common.{◌≡◌, ◌∙◌, ap, ap₂, sym, subst, ℕ, 
 use Rattle.std.proofs.lemmas.List.{map-append}
 use Rattle.std.proofs.lemmas.Bool.{leb-true}
 use Rattle.shape_spec.specs.ShapeSeen.{ShapeSeen, Integer}
-use Rattle.shape_spec.specs.Indices.{variables_of, indices_of, width_of, IsNotIn, AreApart, AllBelow, IsIntegerShape}
+use Rattle.shape_spec.specs.Indices.{variables_of, indices_of, width_of, IsNotIn, AreApart, AllBelow, IsShape}
 use Rattle.gl_book.specs.declared.nat.Nat.{Nat}
 use Rattle.gl_book.specs.NatOf.{nat_of, nats_of}
 use Rattle.gl_book.specs.Events.{total, numbers_from, placed, are_different, are_bindings}
@@ -41,7 +41,7 @@ module _ (ns : List Nat) (fits : are_bindings (nats_of ns) ≡ true) (i : ℕ) (
   pub few : width_of b + length (numbers_from first (n.bits + 1)) ≤ 1024
   few = let w = ap width_of bound ∙ placed_width 0 (nats_of (take i ns)) in omega (arith, w, next, room, numbers_length first (n.bits + 1))
 
-  pub proper : IsIntegerShape (Integer (numbers_from first (n.bits + 1)))
+  pub proper : IsShape (Integer (numbers_from first (n.bits + 1)))
   proper = (omega (arith, numbers_length first (n.bits + 1)), omega (arith, numbers_length first (n.bits + 1), n.small))
 
   pub grown : b ++ (n.variable.number, Integer (numbers_from first (n.bits + 1))) ∷ [] ≡ placed 0 (nats_of (take (i + 1) ns))

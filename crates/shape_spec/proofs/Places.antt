@@ -6,7 +6,7 @@ use Rattle.std.proofs.lemmas.Option.{slice_get-map, slice_get_read}
 use Rattle.shape_spec.specs.Indices.{variables_of, shapes_of}
 use Rattle.shape_spec.specs.ShapeOf.{shape_of}
 use Rattle.shape_spec.specs.BindingOf.{binding_of, bindings_of}
-use Rattle.shape_spec.specs.declared.bindings.Binding.{Binding}
+use Rattle.shape_spec.specs.declared.binding_list.Binding.{Binding}
 
 pub binding_at : (xs : List Binding) (i : ℕ) (x : Binding) → i < length xs → x ≡ get_or xs i x → slice_get (bindings_of xs) i ≡ Some (binding_of x)
 binding_at xs i x h e = slice_get-map binding_of xs i ∙ ap (option_map binding_of) (slice_get_read xs (length xs) i x refl h e)

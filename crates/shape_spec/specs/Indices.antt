@@ -52,18 +52,21 @@ abbrev pub integer_in : ShapeSeen → Option (List ℕ)
 integer_in (Integer is) = Some is
 integer_in _ = None
 
--- an integer of 1 to 128 bits, the one shape that is bound so far
-abbrev pub IsIntegerShape : ShapeSeen → Type 0
-IsIntegerShape (Integer is) = (0 < length is) × (length is ≤ 128)
-IsIntegerShape _ = ⊥
+-- each integer has 1 to 128 indices
+abbrev pub IsShape : ShapeSeen → Type 0
+IsShape (Boolean i) = Unit {0}
+IsShape (Integer is) = (0 < length is) × (length is ≤ 128)
+IsShape (Choice i x y) = IsShape x × IsShape y
+IsShape (Constant x) = Unit {0}
+IsShape (Pair x y) = IsShape x × IsShape y
 
-abbrev pub AreIntegerShapes : List (ℕ × ShapeSeen) → Type 0
-AreIntegerShapes [] = Unit {0}
-AreIntegerShapes (p ∷ b) = IsIntegerShape p.1 × AreIntegerShapes b
+abbrev pub AreShapes : List (ℕ × ShapeSeen) → Type 0
+AreShapes [] = Unit {0}
+AreShapes (p ∷ b) = IsShape p.1 × AreShapes b
 
 pub record IsBindings (b : List (ℕ × ShapeSeen)) : Type 0 where
   pub variables : AreApart (variables_of b)
-  pub shapes : AreIntegerShapes b
+  pub shapes : AreShapes b
   pub indices : AreApart (indices_of b)
   pub below : AllBelow 1000000 (indices_of b)
   pub few : width_of b ≤ 1024

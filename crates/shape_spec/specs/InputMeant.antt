@@ -15,8 +15,11 @@ object_meant holds (Constant x) = x
 object_meant holds (Pair x y) = Cons (object_meant holds x) (object_meant holds y)
 
 -- which indices an assignment makes true: by an index's place among all of them in order
+abbrev pub truth_in : List ℕ → (ℕ → Bool) → ℕ → Bool
+truth_in all a i = a (rank_in all i)
+
 abbrev pub truth_of : List (ℕ × ShapeSeen) → (ℕ → Bool) → ℕ → Bool
-truth_of b a i = a (rank_in (indices_of b) i)
+truth_of b a = truth_in (indices_of b) a
 
 -- each variable with its object, in the order of the bindings
 abbrev pub input_meant : List (ℕ × ShapeSeen) → (ℕ → Bool) → List (ℕ × Object)

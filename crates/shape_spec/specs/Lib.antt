@@ -4,3 +4,10 @@ pub mod Indices
 pub mod InputMeant
 pub mod Theorems
 pub mod BindingOf
+pub mod Wording
+pub mod Heads
+pub mod ShapeMeant
+pub mod ItemsMeant
+pub mod BindingsMeant
+pub mod Gives
+pub mod Order

@@ -5,16 +5,27 @@
 //! goes to the k-th smallest index, from 0.
 #![tactic(auto)]
 
-mod bindings;
+mod binding_form;
+mod binding_list;
+mod fault;
 mod fn_set;
+mod index_form;
 pub mod input_laws;
 mod inputs;
+mod item_form;
+mod name_set;
 mod numbers;
-mod ranks;
+mod objects;
+mod order;
 mod shape;
+mod shape_form;
 mod theorem;
+mod trees;
+mod words;
 
-pub use bindings::{Bindings, bit_count, input_of};
+pub use binding_form::bindings;
+pub use binding_list::{Bindings, bit_count, input_of};
+pub use fault::BindFault;
 pub use fn_set::FnSet;
 pub use inputs::Inputs;
 pub use numbers::{input_numbered, set_number};

@@ -4,7 +4,7 @@ ghost use Rattle.std.specs.Prelude.{◌≡◌, ℕ, ◌<◌, length, IfOk};
 ghost use Rattle.gl_logic.specs.Assignments.{value_at};
 ghost use Rattle.shape_spec.specs.InputMeant.{input_meant, assignment_numbered};
 
-use super::bindings::{Bindings, bit_count, input_of};
+use super::binding_list::{Bindings, bit_count, input_of};
 use super::inputs::Inputs;
 use gl_logic::{Assignment, NoMemory};
 use std::alloc::Global;

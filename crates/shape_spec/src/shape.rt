@@ -1,11 +1,13 @@
 //! Shapes: what objects a variable is tried on.
 
-ghost use Rattle.std.specs.Prelude.{◌≡◌};
+ghost use Rattle.std.specs.Prelude.{◌≡◌, ◌++◌, map, OnOk, IfOk};
 ghost use Rattle.std.specs.Option.{option_copied};
-ghost use Rattle.shape_spec.specs.ShapeOf.{shape_of};
-ghost use Rattle.shape_spec.specs.Indices.{integer_in};
+ghost use Rattle.shape_spec.specs.ShapeSeen.{Constant, Choice};
+ghost use Rattle.shape_spec.specs.ShapeOf.{shape_of, pairs};
+ghost use Rattle.shape_spec.specs.Indices.{integer_in, indices_in};
 
-use gl_logic::Tree;
+use gl_logic::{NoMemory, Tree};
+use std::alloc::Global;
 
 /// A shape of `:g-bindings`, as GL's shape specifiers. An index is a number below 1,000,000 and names a
 /// truth value.
@@ -41,5 +43,59 @@ impl Shape {
             Shape::Choice(_, _, _) => None,
             Shape::Constant(_) => None,
         }
+    }
+
+    /// A shape of one object.
+    pub(crate) fn constant(object: Tree) -> Shape
+        ensures { shape_of result ≡ Constant object }
+    {
+        Shape::Constant(object)
+    }
+
+    /// The first shape where the index is true, else the second. Both are lost where memory runs out.
+    pub(crate) fn choice(
+        alloc: Global,
+        index: u32,
+        first: Shape,
+        second: Shape,
+    ) -> Result<Shape, NoMemory>
+        ensures { IfOk result (λ s. shape_of s ≡ Choice index (shape_of first) (shape_of second)) }
+    {
+        let first = Box::new(alloc, first)?;
+        let second = Box::new(alloc, second)?;
+        Ok(Shape::Choice(index, first, second))
+    }
+
+    /// The conses of shapes, from the last to the first, onto a shape. All are lost where memory runs out.
+    pub(crate) fn list(alloc: Global, elements: Vec<Shape>, tail: Shape) -> Result<Shape, NoMemory>
+        ensures { IfOk result (λ s. shape_of s ≡ pairs (map shape_of elements.items) (shape_of tail)) }
+    {
+        let tail = Box::new(alloc, tail)?;
+        Ok(Shape::List(elements, tail))
+    }
+
+    /// Puts the indices of the shape last, in the order in which they stand in it.
+    pub(crate) fn add_indices(&self, all: &mut Vec<u32>) -> Result<(), NoMemory>
+        ensures { OnOk result (all.new.items ≡ all.old.items ++ indices_in (shape_of self.now)) }
+    {
+        match self {
+            Shape::Boolean(index) => all.push(*index)?,
+            Shape::Integer(indices) => all.extend_from_slice(indices.as_slice())?,
+            Shape::Choice(index, first, second) => {
+                all.push(*index)?;
+                first.add_indices(all)?;
+                second.add_indices(all)?;
+            }
+            Shape::Constant(_) => {}
+            Shape::List(elements, tail) => {
+                let mut left = elements.len();
+                while left > 0 {
+                    left -= 1;
+                    elements[left].add_indices(all)?;
+                }
+                tail.add_indices(all)?;
+            }
+        }
+        Ok(())
     }
 }

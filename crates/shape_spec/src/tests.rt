@@ -1,7 +1,7 @@
-//! Inputs by hand: what no clause says is that the calls succeed.
+//! Bindings and inputs by hand: what no clause says is that the calls succeed.
 
 use super::*;
-use gl_logic::{Assignment, FnId, NoMemory, TextId, Tree, TreeKind};
+use gl_logic::{Assignment, FnId, NoMemory, TextId, Texts, Tree, TreeKind};
 use std::alloc::Global;
 use std::process::Abort;
 use std::test::Fail;
@@ -10,8 +10,272 @@ const FIRST: TextId = TextId { number: 7 };
 
 const SECOND: TextId = TextId { number: 9 };
 
+/// A list that is being read, from the first element on, and whether a dot stood in it.
+#[derive(Drop)]
+struct Open {
+    items: Vec<Tree>,
+    dotted: bool,
+}
+
+/// The object of a text without strings and characters, in which each token stands apart, and the marks
+/// of backquote and of comma stand as tokens.
+fn read(alloc: Global, texts: &mut Texts, text: &[u8]) -> Result<Tree, NoMemory> {
+    let mut open = Vec::new(alloc);
+    open.push(Open {
+        items: Vec::new(alloc),
+        dotted: false,
+    })?;
+    for token in text.split(|b| *b == b' ') {
+        match token {
+            [] => {}
+            [b'('] => open.push(Open {
+                items: Vec::new(alloc),
+                dotted: false,
+            })?,
+            [b')'] => {
+                if let Some(list) = open.pop() {
+                    put(&mut open, closed(alloc, list)?)?;
+                }
+            }
+            [b'.'] => {
+                if let Some(list) = open.last_mut() {
+                    list.dotted = true;
+                }
+            }
+            _ => put(&mut open, atom(texts, token)?)?,
+        }
+    }
+    match open.pop() {
+        Some(mut whole) => Ok(whole.items.pop().unwrap_or(Tree::nil())),
+        None => Ok(Tree::nil()),
+    }
+}
+
+fn put(open: &mut Vec<Open>, tree: Tree) -> Result<(), NoMemory> {
+    if let Some(list) = open.last_mut() {
+        list.items.push(tree)?;
+    }
+    Ok(())
+}
+
+fn closed(alloc: Global, list: Open) -> Result<Tree, NoMemory> {
+    let Open { mut items, dotted } = list;
+    let mut all = Tree::nil();
+    if dotted {
+        all = items.pop().unwrap_or(Tree::nil());
+    }
+    for k in (0..items.len()).rev() {
+        all = Tree::pair(alloc, items[k].copy(alloc)?, all)?;
+    }
+    Ok(all)
+}
+
+/// A number of few digits, or a symbol.
+fn atom(texts: &mut Texts, token: &[u8]) -> Result<Tree, NoMemory> {
+    let mut value: i64 = 0;
+    for byte in token {
+        if !byte.is_ascii_digit() {
+            return Ok(Tree::symbol(texts.id_of(token)?));
+        }
+        value = value.wrapping_mul(10).wrapping_add(i64::from(*byte - b'0'));
+    }
+    Ok(Tree::int(i128::from(value)))
+}
+
+/// The object of the first variable of a form's bindings in the input of a number; none where the form
+/// is bad.
+fn first_object(
+    alloc: Global,
+    texts: &mut Texts,
+    form: &[u8],
+    number: u64,
+) -> Result<Option<Tree>, NoMemory> {
+    let form = read(alloc, texts, form)?;
+    match bound(alloc, &form, texts)? {
+        Some(all) => {
+            let input = input_numbered(alloc, &all, number)?;
+            if input.len() == 0 {
+                return Ok(Some(Tree::nil()));
+            }
+            Ok(Some(input.at(0).1.copy(alloc)?))
+        }
+        None => Ok(None),
+    }
+}
+
+/// The bindings of a form; none where it is bad.
+fn bound(alloc: Global, form: &Tree, texts: &Texts) -> Result<Option<Bindings>, NoMemory> {
+    match bindings(alloc, form, texts) {
+        Ok(all) => Ok(Some(all)),
+        Err(BindFault::Bad) => Ok(None),
+        Err(BindFault::Memory) => Err(NoMemory),
+    }
+}
+
+#[test]
+fn objects_of_forms(rt: HostRuntime) -> Result<(), Fail> {
+    let alloc = rt.alloc();
+    let mut texts = Texts::new(alloc)?;
+    // a form, the number of an assignment, and the first variable's object
+    let table: [(&[u8], u64, &[u8]); 18] = [
+        (b"( QUOTE NIL )", 0, b"NIL"),
+        (b"( QUOTE ( ( X 5 ) ) )", 0, b"5"),
+        (b"( QUOTE ( ( X ( 1 . 2 ) ) ) )", 0, b"( 1 . 2 )"),
+        (b"( QUOTE ( ( X ( :G-CONCRETE ) ) ) )", 0, b"NIL"),
+        (
+            b"( QUOTE ( ( X ( :G-CONCRETE :G-FOO ) ) ) )",
+            0,
+            b"( :G-FOO )",
+        ),
+        (b"( QUOTE ( ( X ( :G-BOOLEAN . 999999 ) ) ) )", 1, b"T"),
+        // indices 1, 3 and 5 are variables 0, 1 and 2, and index 1 is the sign
+        (b"( QUOTE ( ( X ( :G-INTEGER 5 1 3 ) ) ) )", 5, b"3"),
+        (b"( QUOTE ( ( X ( :G-INTEGER 5 3 ) ) ) )", 2, b"1"),
+        (
+            b"( QUOTE ( ( X ( :G-ITE ( :G-BOOLEAN . 3 ) A . B ) ) ) )",
+            1,
+            b"A",
+        ),
+        (
+            b"( QUOTE ( ( X ( :G-ITE ( :G-BOOLEAN . 3 ) A . B ) ) ) )",
+            0,
+            b"B",
+        ),
+        // a list, a choice of its rest, and a list behind that
+        (
+            b"( QUOTE ( ( X ( 1 ( 2 ) :G-ITE ( :G-BOOLEAN . 3 ) 4 5 :G-BOOLEAN . 0 ) ) ) )",
+            1,
+            b"( 1 ( 2 ) 5 . T )",
+        ),
+        (b"( QUOTE ( ( X ( 1 :G-INTEGER 0 1 ) ) ) )", 1, b"( 1 . 1 )"),
+        (b"( QUOTE ( ( X :G-INTEGER ) ) )", 0, b":G-INTEGER"),
+        (b"( ` ( ( X ( , ( G-INT 0 2 3 ) ) ) ) )", 3, b"3"),
+        (b"( ` ( ( X ( 7 , ( G-BOOLEAN 4 ) ) ) ) )", 1, b"( 7 . T )"),
+        (b"( AUTO-BINDINGS ( :BOOLEAN X ) ( :INT Y 2 ) )", 1, b"T"),
+        // slots 0, 2 and 4 are X's, the others those of Z and then Y
+        (
+            b"( AUTO-BINDINGS ( :MIX ( :NAT X 2 ) ( :SEQ ( :BOOLEAN Z ) ( :INT Y 2 ) ) ) )",
+            7,
+            b"3",
+        ),
+        (b"( AUTO-BINDINGS ( :MIX ) ( :SEQ ) ( :NAT X 3 ) )", 5, b"5"),
+    ];
+    for (place, (form, number, expected)) in table.iter().enumerate() {
+        let expected = read(alloc, &mut texts, expected)?;
+        let found = first_object(alloc, &mut texts, form, *number)?;
+        assert!(rt;
+            found.unwrap_or(Tree::int(-1)).same(&expected),
+            "at {place}"
+        );
+    }
+    Ok(())
+}
+
+#[test]
+fn bad_forms(rt: HostRuntime) -> Result<(), Fail> {
+    let alloc = rt.alloc();
+    let mut texts = Texts::new(alloc)?;
+    let table: [&[u8]; 34] = [
+        b"NIL",
+        b"( QUOTE )",
+        b"( QUOTE ( ( X 1 ) ) 2 )",
+        b"( QUOTE ( ( X ) ) )",
+        b"( QUOTE ( ( X 1 2 ) ) )",
+        b"( QUOTE ( ( X 1 ) . 5 ) )",
+        b"( QUOTE ( ( :K 1 ) ) )",
+        b"( QUOTE ( ( T 1 ) ) )",
+        b"( QUOTE ( ( *C* 1 ) ) )",
+        b"( QUOTE ( ( 3 1 ) ) )",
+        b"( QUOTE ( ( X 1 ) ( X 2 ) ) )",
+        b"( QUOTE ( ( X ( :G-BOOLEAN . 1000000 ) ) ) )",
+        b"( QUOTE ( ( X ( :G-BOOLEAN 1 ) ) ) )",
+        b"( QUOTE ( ( X ( :G-BOOLEAN . A ) ) ) )",
+        b"( QUOTE ( ( X ( :G-INTEGER ) ) ) )",
+        b"( QUOTE ( ( X ( :G-INTEGER 1 . 2 ) ) ) )",
+        b"( QUOTE ( ( X ( :G-INTEGER 1 2 1 ) ) ) )",
+        b"( QUOTE ( ( X ( :G-BOOLEAN . 1 ) ) ( Y ( :G-INTEGER 2 1 ) ) ) )",
+        b"( QUOTE ( ( X ( :G- ) ) ) )",
+        b"( QUOTE ( ( X ( 1 :G-NUMBER 2 ) ) ) )",
+        b"( QUOTE ( ( X ( :G-ITE ( :G-BOOLEAN . 0 ) . 2 ) ) ) )",
+        b"( QUOTE ( ( X ( :G-ITE 0 1 . 2 ) ) ) )",
+        b"( QUOTE ( ( X ( , ( G-INT 0 1 5 ) ) ) ) )",
+        b"( ` ( ( X ( , ( G-INT 0 1 0 ) ) ) ) )",
+        b"( ` ( ( X ( , ( G-INT 0 0 1 ) ) ) ) )",
+        b"( ` ( ( X ( , ( G-INT 0 1 129 ) ) ) ) )",
+        b"( ` ( ( X ( , ( G-INT 999999 1 2 ) ) ) ) )",
+        b"( ` ( ( X ( , ( G-BOOLEAN ) ) ) ) )",
+        b"( ` ( ( X ( ` 5 ) ) ) )",
+        b"( ` ( ( X ( :G-CONCRETE , 5 ) ) ) )",
+        b"( AUTO-BINDINGS ( :REV ( :NAT X 3 ) ) )",
+        b"( AUTO-BINDINGS ( :NAT X 128 ) )",
+        b"( AUTO-BINDINGS ( :MIX ( :NAT X 3 ) ( :INT Y 3 ) ) )",
+        b"( AUTO-BINDINGS ( :NAT X 3 ) ( :BOOLEAN X ) )",
+    ];
+    for (place, form) in table.iter().enumerate() {
+        let found = first_object(alloc, &mut texts, form, 0)?;
+        assert!(rt; found.is_none(), "at {place}");
+    }
+    Ok(())
+}
+
+/// So many items, the first eight of 128 slots and the others of one.
+fn many(alloc: Global, texts: &mut Texts, all: u8) -> Result<Tree, NoMemory> {
+    let mut items = Tree::nil();
+    for i in 0..all {
+        let variable = Tree::symbol(texts.id_of(&[b'V', b'A'.wrapping_add(i)])?);
+        let count = if i < 8 { 128 } else { 1 };
+        let mut item = Tree::pair(alloc, Tree::int(count), Tree::nil())?;
+        item = Tree::pair(alloc, variable, item)?;
+        item = Tree::pair(alloc, Tree::symbol(texts.id_of(b":INT")?), item)?;
+        items = Tree::pair(alloc, item, items)?;
+    }
+    Ok(Tree::pair(alloc, Tree::symbol(texts.id_of(b"AUTO-BINDINGS")?), items)?)
+}
+
+#[test]
+fn most_indices(rt: HostRuntime) -> Result<(), Fail> {
+    let alloc = rt.alloc();
+    let mut texts = Texts::new(alloc)?;
+    let form = many(alloc, &mut texts, 8)?;
+    let all = bound(alloc, &form, &texts)?;
+    assert_eq!(rt; bit_count(&all.unwrap_or(Bindings::new(alloc))), 1024);
+    let form = many(alloc, &mut texts, 9)?;
+    assert!(rt; bound(alloc, &form, &texts)?.is_none());
+    Ok(())
+}
+
+/// `((x shape))`, quoted.
+fn quoted_shape(alloc: Global, texts: &mut Texts, shape: Tree) -> Result<Tree, NoMemory> {
+    let entry = Tree::pair(alloc, shape, Tree::nil())?;
+    let entry = Tree::pair(alloc, Tree::symbol(texts.id_of(b"X")?), entry)?;
+    let list = Tree::pair(alloc, entry, Tree::nil())?;
+    let rest = Tree::pair(alloc, list, Tree::nil())?;
+    Tree::pair(alloc, Tree::symbol(texts.id_of(b"QUOTE")?), rest)
+}
+
+#[test]
+fn long_and_deep_shapes(rt: HostRuntime) -> Result<(), Fail> {
+    let alloc = rt.alloc();
+    let mut texts = Texts::new(alloc)?;
+    // a list of 100,000 elements, which stands 990 parentheses deep
+    let mut shape = Tree::nil();
+    for i in 0u32..100_000 {
+        shape = Tree::pair(alloc, Tree::int(i128::from(i)), shape)?;
+    }
+    for _ in 0u32..990 {
+        shape = Tree::pair(alloc, shape, Tree::nil())?;
+    }
+    let expected = shape.copy(alloc)?;
+    let form = quoted_shape(alloc, &mut texts, shape)?;
+    let all = bound(alloc, &form, &texts)?.unwrap_or(Bindings::new(alloc));
+    let input = input_numbered(alloc, &all, 0)?;
+    assert!(rt; input.len() == 1);
+    assert!(rt; input.at(0).1.same(&expected));
+    Ok(())
+}
+
 /// Two variables with the indices 5, 900 and 7, so that the ranks are 0, 2 and 1.
-fn bindings(alloc: Global) -> Result<Bindings, NoMemory> {
+fn indexed(alloc: Global) -> Result<Bindings, NoMemory> {
     let mut all = Bindings::new(alloc);
     let wide = Vec::from_slice(alloc, &[5u32, 900])?;
     all.push(alloc, FIRST, Shape::Integer(wide))?;
@@ -33,8 +297,9 @@ fn has_values<R: Abort>(rt: &R, input: &Inputs, first: i128, second: i128) -> bo
 
 #[test]
 fn inputs_of_three_bits(rt: HostRuntime) -> Result<(), Fail> {
-    let b = bindings(rt.alloc())?;
+    let b = indexed(rt.alloc())?;
     assert_eq!(rt; bit_count(&b), 3);
+    assert_eq!(rt; b.rank(900), 2);
     let table: [(i128, i128); 8] = [
         (0, 0),
         (1, 0),
@@ -64,7 +329,7 @@ fn functions_in_order(rt: HostRuntime) -> Result<(), Fail> {
 
 #[test]
 fn input_of_an_assignment(rt: HostRuntime) -> Result<(), Fail> {
-    let b = bindings(rt.alloc())?;
+    let b = indexed(rt.alloc())?;
     let count = bit_count(&b);
     assert!(rt; count == 3);
     // index 7 alone is true, and it has rank 1

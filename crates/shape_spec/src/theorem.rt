@@ -1,6 +1,6 @@
 //! Theorems as they are decided.
 
-use super::bindings::Bindings;
+use super::binding_list::Bindings;
 use super::fn_set::FnSet;
 use gl_logic::{Term, TextId};
 

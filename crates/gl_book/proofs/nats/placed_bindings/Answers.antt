@@ -1,6 +1,6 @@
 use Rattle.std.proofs.Common.{◌≤◌, ◌∙◌, ap, sym, subst, arith, ◌++◌, ◌∷◌, [], ◌+◌, length}
 use Rattle.shape_spec.specs.ShapeSeen.{ShapeSeen, Integer}
-use Rattle.shape_spec.specs.Indices.{indices_of, indices_in, width_of, AreApart, AllBelow, IsIntegerShape}
+use Rattle.shape_spec.specs.Indices.{indices_of, indices_in, width_of, AreApart, AllBelow, IsShape}
 use Rattle.gl_book.proofs.Placing.{room, fresh, apart, below, few, proper, grown, further}
 use Rattle.gl_book.proofs.nats.placed_bindings.Goals as goal
 
@@ -11,7 +11,7 @@ pub push-requires-clause-variable : goal.push-requires-clause-variable
 push-requires-clause-variable c = fresh c.args.nats.now c.requires c.loop-nat.nat-index c.nat-item.result c.loop-nat-test.true c.nat-item.is c.loop-nat.bindings c.loop-nat.first c.loop-nat.invariant.bound c.loop-nat.invariant.next
 
 pub push-requires-clause-shape : goal.push-requires-clause-shape
-push-requires-clause-shape c = subst IsIntegerShape (sym (c.integer_shape-shape.ensures ∙ ap Integer c.in_ok-indices.ensures)) (proper c.args.nats.now c.requires c.loop-nat.nat-index c.nat-item.result c.loop-nat-test.true c.nat-item.is c.loop-nat.bindings c.loop-nat.first c.loop-nat.invariant.bound c.loop-nat.invariant.next)
+push-requires-clause-shape c = subst IsShape (sym (c.integer_shape-shape.ensures ∙ ap Integer c.in_ok-indices.ensures)) (proper c.args.nats.now c.requires c.loop-nat.nat-index c.nat-item.result c.loop-nat-test.true c.nat-item.is c.loop-nat.bindings c.loop-nat.first c.loop-nat.invariant.bound c.loop-nat.invariant.next)
 
 pub push-requires-clause-apart : goal.push-requires-clause-apart
 push-requires-clause-apart c = subst (λ (s : ShapeSeen). AreApart (indices_of c.loop-nat.bindings ++ indices_in s)) (sym (c.integer_shape-shape.ensures ∙ ap Integer c.in_ok-indices.ensures)) (apart c.args.nats.now c.requires c.loop-nat.nat-index c.nat-item.result c.loop-nat-test.true c.nat-item.is c.loop-nat.bindings c.loop-nat.first c.loop-nat.invariant.bound c.loop-nat.invariant.next)
