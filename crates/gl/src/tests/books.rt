@@ -1,13 +1,12 @@
 ghost use Rattle.std.specs.Prelude.{◌<◌, Some};
 
-use super::rows::{each_gives, outcome, shelf_of, words_in};
+use super::rows::{each_gives, gives, shelf_of, words_in};
 use crate::run::run;
 use gl_base::failed::Failed;
 use gl_base::memory_sink::MemorySink;
 use gl_base::sink::Sink;
 use gl_base::sure_shelf::SureShelf;
 use gl_base::sure_sink::SureSink;
-use std::alloc::Global;
 use std::test::Fail;
 
 const FIRST_BOOK: &str = "(value-triple (car (cons 'a 2)))\n";
@@ -18,52 +17,54 @@ const NO_LINES: &str = "DONE proved=0 vacuous=0 refuted=0 undecided=0\n";
 
 #[test]
 fn books_of_values(rt: HostRuntime) -> Result<(), Fail> {
-    let alloc = rt.alloc();
-    for (book, want) in [
-        (FIRST_BOOK, "VALUE A\n"),
-        ("(value-triple (equal (cons 1 nil) '(1)))", "VALUE T\n"),
-        ("", ""),
-        ("\n \n", ""),
+    let rows = [
+        (FIRST_BOOK, "VALUE A\n", 0),
+        ("(value-triple (equal (cons 1 nil) '(1)))", "VALUE T\n", 0),
+        ("", "", 0),
+        ("\n \n", "", 0),
         (
             "(VALUE-triple 007)(value-triple -12)",
             "VALUE 7\nVALUE -12\n",
+            0,
         ),
         (
             "(value-triple t) (value-triple nil) (value-triple ())",
             "VALUE T\nVALUE NIL\nVALUE NIL\n",
+            0,
         ),
         (
             "(value-triple '(1 (b-2 c) () -0 'd))",
             "VALUE (1 (B-2 C) NIL 0 (QUOTE D))\n",
+            0,
         ),
-        ("(value-triple (cons 1 (cons 2 3)))", "VALUE (1 2 . 3)\n"),
+        ("(value-triple (cons 1 (cons 2 3)))", "VALUE (1 2 . 3)\n", 0),
         (
             "(value-triple (cdr '(1 2)))(value-triple (cdr 5))",
             "VALUE (2)\nVALUE NIL\n",
+            0,
         ),
         (
             "(value-triple (if (equal 'x 'y) 1 (if 0 2 3)))",
             "VALUE 2\n",
+            0,
         ),
         (
             "(value-triple '(a . (#\\Space \"q\\\"r\" :k -0)))",
             "VALUE (A #\\Space \"q\\\"r\" :K 0)\n",
+            0,
         ),
         (
             "(value-triple -170141183460469231731687303715884105728)",
             "VALUE -170141183460469231731687303715884105728\n",
+            0,
         ),
         (
             "; one\n(value-triple #| two #| three |# |# 1) ; and no end",
             "VALUE 1\n",
+            0,
         ),
-    ] {
-        let (bytes, code) = outcome(&rt, "b", book, Vec::new(alloc), Vec::new(alloc))?;
-        let want = format!(in alloc; "{want}{NO_LINES}")?;
-        assert_eq!(rt; bytes.as_slice(), want.as_bytes(), "{book}");
-        assert_eq!(rt; code, 0, "{book}");
-    }
-    Ok(())
+    ];
+    each_gives(&rt, &rows, NO_LINES)
 }
 
 #[test]
@@ -101,41 +102,34 @@ fn books_of_theorems(rt: HostRuntime) -> Result<(), Fail> {
             3,
         ),
     ];
-    each_gives(&rt, &rows)
+    each_gives(&rt, &rows, "")
 }
 
 #[test]
 fn faults_of_the_shelf(rt: HostRuntime) -> Result<(), Fail> {
-    let alloc = rt.alloc();
-    // the calls of a run: open, the bytes, the end
-    for call in [1, 2, 3] {
-        let (bytes, code) = outcome(&rt, "b", FIRST_BOOK, [call].to_vec(alloc)?, Vec::new(alloc))?;
-        assert_eq!(rt; bytes.as_slice(), b"".as_slice(), "at {call}");
-        assert_eq!(rt; code, 4, "at {call}");
+    // the calls of a run: open, the bytes, the end; and no text has the last name
+    for (words, call, want) in [
+        ("b", 1, ("", 4)),
+        ("b", 2, ("", 4)),
+        ("b", 3, ("", 4)),
+        ("b", 4, (FIRST_LINES, 0)),
+        ("c", 4, ("", 4)),
+    ] {
+        gives(&rt, words, FIRST_BOOK, (&[call], &[]), want)?;
     }
-    let (bytes, code) = outcome(&rt, "b", FIRST_BOOK, [4].to_vec(alloc)?, Vec::new(alloc))?;
-    assert_eq!(rt; bytes.as_slice(), FIRST_LINES.as_bytes());
-    assert_eq!(rt; code, 0);
-    // no text has this name
-    let (bytes, code) = outcome(&rt, "c", FIRST_BOOK, Vec::new(alloc), Vec::new(alloc))?;
-    assert_eq!(rt; bytes.as_slice(), b"".as_slice());
-    assert_eq!(rt; code, 4);
     Ok(())
 }
 
 #[test]
 fn faults_of_the_sink(rt: HostRuntime) -> Result<(), Fail> {
-    let alloc = rt.alloc();
     // the calls of a run: two lines, the flush
-    for (call, want, want_code) in [
-        (1, "", 5),
-        (2, "VALUE A\n", 5),
-        (3, FIRST_LINES, 5),
-        (4, FIRST_LINES, 0),
+    for (call, want) in [
+        (1, ("", 5)),
+        (2, ("VALUE A\n", 5)),
+        (3, (FIRST_LINES, 5)),
+        (4, (FIRST_LINES, 0)),
     ] {
-        let (bytes, code) = outcome(&rt, "b", FIRST_BOOK, Vec::new(alloc), [call].to_vec(alloc)?)?;
-        assert_eq!(rt; bytes.as_slice(), want.as_bytes(), "at {call}");
-        assert_eq!(rt; code, want_code, "at {call}");
+        gives(&rt, "b", FIRST_BOOK, (&[], &[call]), want)?;
     }
     Ok(())
 }
@@ -166,7 +160,7 @@ impl Sink for Slow {
 fn slow_sinks(rt: HostRuntime) -> Result<(), Fail> {
     let alloc = rt.alloc();
     for step in [1, 3] {
-        let mut shelf = shelf_of(alloc, FIRST_BOOK, Vec::new(alloc))?;
+        let mut shelf = shelf_of(alloc, FIRST_BOOK.as_bytes().to_vec(alloc)?, Vec::new(alloc))?;
         let inner = MemorySink::new(alloc, 100, Vec::new(alloc))?;
         let mut out = Slow { inner, step };
         let words = words_in(alloc, "b")?;

@@ -1,4 +1,4 @@
-use super::rows::outcome;
+use super::rows::each_gives;
 use std::test::Fail;
 
 const DONE: &str = "DONE proved=0 vacuous=0 refuted=0 undecided=0\n";
@@ -57,12 +57,5 @@ const TEXTS: [(&str, &str, u8); 31] = [
 
 #[test]
 fn texts_of_others(rt: HostRuntime) -> Result<(), Fail> {
-    let alloc = rt.alloc();
-    for (book, want, want_code) in TEXTS {
-        let (bytes, code) = outcome(&rt, "b", book, Vec::new(alloc), Vec::new(alloc))?;
-        let want = format!(in alloc; "{want}{DONE}")?;
-        assert_eq!(rt; bytes.as_slice(), want.as_bytes(), "{book}");
-        assert_eq!(rt; code, want_code, "{book}");
-    }
-    Ok(())
+    each_gives(&rt, &TEXTS, DONE)
 }

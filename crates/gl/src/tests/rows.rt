@@ -8,41 +8,53 @@ use std::thread::Threads;
 
 const USAGE: &str = "USAGE gl BOOK\n";
 
-/// What a run over memory wrote, and the code of its status. The shelf holds one text, under the name `b`.
+/// What a run over memory wrote, and the code of its status. The shelf holds one text, under the name `b`; the sink has
+/// room for so many bytes. The calls of the two that are listed fail.
 pub fn outcome<R: AllocGlobal + Threads + Sync>(
     rt: &R,
     words: &str,
-    book: &str,
-    shelf_fails: Vec<u64>,
-    sink_fails: Vec<u64>,
+    book: Vec<u8>,
+    room: usize,
+    fails: (&[u64], &[u64]),
 ) -> Result<(Vec<u8>, u8), Fail> {
     let alloc = rt.alloc();
-    let mut shelf = shelf_of(alloc, book, shelf_fails)?;
-    let mut out = MemorySink::new(alloc, 200_000, sink_fails)?;
+    let mut shelf = shelf_of(alloc, book, fails.0.to_vec(alloc)?)?;
+    let mut out = MemorySink::new(alloc, room, fails.1.to_vec(alloc)?)?;
     let words = words_in(alloc, words)?;
     let status = run(rt, alloc, words.as_slice(), &mut shelf, &mut out);
     Ok((out.bytes().to_vec(alloc)?, status.code()))
 }
 
-/// Runs each book, and compares its transcript and the code of its status.
+/// Compares what a run over memory wrote, and the code of its status.
+pub fn gives<R: AllocGlobal + Threads + Sync + Abort>(
+    rt: &R,
+    words: &str,
+    book: &str,
+    fails: (&[u64], &[u64]),
+    want: (&str, u8),
+) -> Result<(), Fail> {
+    let bytes = book.as_bytes().to_vec(rt.alloc())?;
+    let (bytes, code) = outcome(rt, words, bytes, 200_000, fails)?;
+    assert_eq!(rt; bytes.as_slice(), want.0.as_bytes(), "{words}: {book}");
+    assert_eq!(rt; code, want.1, "{words}: {book}");
+    Ok(())
+}
+
+/// Runs each book, and compares its transcript, which ends with this line, and the code of its status.
 pub fn each_gives<R: AllocGlobal + Threads + Sync + Abort>(
     rt: &R,
     rows: &[(&str, &str, u8)],
+    last: &str,
 ) -> Result<(), Fail> {
-    let alloc = rt.alloc();
     for (book, want, want_code) in rows.iter().copied() {
-        let (bytes, code) = outcome(rt, "b", book, Vec::new(alloc), Vec::new(alloc))?;
-        assert_eq!(rt; bytes.as_slice(), want.as_bytes(), "{book}");
-        assert_eq!(rt; code, want_code, "{book}");
+        let lines = format!(in rt.alloc(); "{want}{last}")?;
+        gives(rt, "b", book, (&[], &[]), (lines.as_str(), want_code))?;
     }
     Ok(())
 }
 
-pub fn shelf_of(alloc: Global, book: &str, fails: Vec<u64>) -> Result<MemoryShelf, Fail> {
-    shelf_holding(alloc, book.as_bytes().to_vec(alloc)?, fails)
-}
-
-pub fn shelf_holding(alloc: Global, bytes: Vec<u8>, fails: Vec<u64>) -> Result<MemoryShelf, Fail> {
+/// A shelf with one text, under the name `b`. The calls that are listed fail.
+pub fn shelf_of(alloc: Global, bytes: Vec<u8>, fails: Vec<u64>) -> Result<MemoryShelf, Fail> {
     let name = String::from_str(alloc, "b")?;
     Ok(MemoryShelf::new(alloc, vec![in alloc; (name, bytes)]?, fails)?)
 }
@@ -68,23 +80,16 @@ fn words_that_are_no_command(rt: HostRuntime) -> Result<(), Fail> {
         "b --generate 3",
         "--help",
     ] {
-        let alloc = rt.alloc();
-        let (bytes, code) = outcome(&rt, words, "", Vec::new(alloc), Vec::new(alloc))?;
-        assert_eq!(rt; bytes.as_slice(), USAGE.as_bytes(), "{words}");
-        assert_eq!(rt; code, 64, "{words}");
+        gives(&rt, words, "", (&[], &[]), (USAGE, 64))?;
     }
     Ok(())
 }
 
 #[test]
 fn usage_line_that_is_not_taken(rt: HostRuntime) -> Result<(), Fail> {
-    let alloc = rt.alloc();
-    let (bytes, code) = outcome(&rt, "", "", Vec::new(alloc), [1].to_vec(alloc)?)?;
-    assert_eq!(rt; bytes.as_slice(), b"".as_slice());
-    assert_eq!(rt; code, 5);
     // no flush follows the usage line
-    let (bytes, code) = outcome(&rt, "", "", Vec::new(alloc), [2].to_vec(alloc)?)?;
-    assert_eq!(rt; bytes.as_slice(), USAGE.as_bytes());
-    assert_eq!(rt; code, 64);
+    for (call, want) in [(1, ("", 5)), (2, (USAGE, 64))] {
+        gives(&rt, "", "", (&[], &[call]), want)?;
+    }
     Ok(())
 }

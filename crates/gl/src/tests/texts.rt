@@ -4,7 +4,9 @@ use gl_base::limits::Limits;
 use gl_base::memory_sink::MemorySink;
 use gl_book::run_text;
 use std::alloc::{AllocError, Global};
+use std::process::Abort;
 use std::test::Fail;
+use std::thread::Threads;
 
 /// A value, and a theorem of five indices.
 const TEXT: &str =
@@ -24,9 +26,28 @@ fn limits(enum_bits: u8) -> Limits
     }
 }
 
+/// Compares what a run over a text wrote, and the code of its status.
+fn gives<R: AllocGlobal + Threads + Sync + Abort>(
+    rt: &R,
+    text: &str,
+    limits: &Limits,
+    last_only: bool,
+    want: (&str, u8),
+) -> Result<(), Fail> {
+    let alloc = rt.alloc();
+    let mut out = MemorySink::new(alloc, 200, Vec::new(alloc))?;
+    let status = run_text(rt, alloc, text.as_bytes(), limits, last_only, &mut out);
+    assert_eq!(rt;
+        out.bytes(),
+        want.0.as_bytes(),
+        "{text}, last only: {last_only}"
+    );
+    assert_eq!(rt; status.code(), want.1, "{text}, last only: {last_only}");
+    Ok(())
+}
+
 #[test]
 fn whole_or_by_the_last_line(rt: HostRuntime) -> Result<(), Fail> {
-    let alloc = rt.alloc();
     for (limits, last_only, want, want_code) in [
         (
             limits(5),
@@ -53,10 +74,7 @@ fn whole_or_by_the_last_line(rt: HostRuntime) -> Result<(), Fail> {
             3,
         ),
     ] {
-        let mut out = MemorySink::new(alloc, 100, Vec::new(alloc))?;
-        let status = run_text(&rt, alloc, TEXT.as_bytes(), &limits, last_only, &mut out);
-        assert_eq!(rt; out.bytes(), want.as_bytes(), "last only: {last_only}");
-        assert_eq!(rt; status.code(), want_code, "last only: {last_only}");
+        gives(&rt, TEXT, &limits, last_only, (want, want_code))?;
     }
     Ok(())
 }
@@ -116,17 +134,13 @@ fn decided_within_few_indices(rt: HostRuntime) -> Result<(), Fail> {
         ),
     ] {
         let text = theorem(alloc, hyp, concl)?;
-        let mut out = MemorySink::new(alloc, 200, Vec::new(alloc))?;
-        let status = run_text(
+        gives(
             &rt,
-            alloc,
-            text.as_bytes(),
+            text.as_str(),
             &limits(enum_bits),
             false,
-            &mut out,
-        );
-        assert_eq!(rt; out.bytes(), want.as_bytes(), "{hyp} {concl}");
-        assert_eq!(rt; status.code(), want_code, "{hyp} {concl}");
+            (want, want_code),
+        )?;
     }
     Ok(())
 }

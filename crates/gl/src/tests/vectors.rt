@@ -217,5 +217,5 @@ DONE proved=2 vacuous=3 refuted=0 undecided=1\n",
 
 #[test]
 fn books_made_at_random(rt: HostRuntime) -> Result<(), Fail> {
-    each_gives(&rt, &BOOKS)
+    each_gives(&rt, &BOOKS, "")
 }
