@@ -41,4 +41,4 @@ mod token;
 pub use book::{MOST_BYTES, ReadEnd, read_book, too_long};
 pub use ends::{End, Forms, ReadCode};
 pub use list::{Form, FormList};
-pub use text::{forms, has_one_reading};
+pub use text::{forms, has_a_table, has_one_reading};
