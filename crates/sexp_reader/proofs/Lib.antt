@@ -16,3 +16,5 @@ pub mod Objects
 pub mod Numbered
 pub mod Gained
 pub mod TextRows
+pub mod FirstTable
+pub mod Tabled

@@ -93,3 +93,9 @@ pub fn has_one_reading()
     ensures one { (names : List (List ℕ)) (bytes : List ℕ) (forms others : List Form) (end other : EndSeen)
         → Reads names bytes forms end → Reads names bytes others other → (forms ≡ others) × (end ≡ other) }
 {}
+
+/// A law: a text has a table of texts that numbers each symbol and string of its forms.
+pub fn has_a_table()
+    ensures { (bytes : List ℕ) → (names : List (List ℕ)) × IsTable names × ((forms : List Form) (end : EndSeen)
+        → Reads names bytes forms end → All (λ form. IsNumbered (length names) form.tree) forms) }
+{}
