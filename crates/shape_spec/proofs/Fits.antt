@@ -1,12 +1,11 @@
 -- When a shape fits into the indices that are left, and what the parts of one have from the whole.
-use Rattle.std.proofs.Common.{◌≡◌, ◌∙◌, ap, sym, refl, subst, ℕ, zero, suc, ◌+◌, ◌-◌, ◌<◌, ◌≤◌, Bool, true, false, cond, ◌&&◌, leb, ltb, List, [], ◌∷◌, ◌++◌, map, reverse, length, Option, Some, None, arith, ◌⊎◌, inl, inr}
-use Rattle.std.specs.Prelude.{Result, Ok, Err}
-use Rattle.std.specs.List.{list_all}
-use Rattle.std.specs.Option.{option_map, option_and_then}
+use Rattle.std.proofs.Common.{◌≡◌, ◌∙◌, ap, sym, refl, subst, ℕ, suc, ◌+◌, ◌-◌, ◌<◌, ◌≤◌, Bool, true, false, cond, ◌&&◌, leb, ltb, List, [], ◌∷◌, ◌++◌, length, Option, Some, None, arith, ◌⊎◌, inl, inr}
+use Rattle.std.specs.Prelude.{Result, Err}
+use Rattle.std.specs.Option.{option_map}
 use Rattle.std.proofs.lemmas.List.{length-append}
 use Rattle.std.proofs.lemmas.List.Folds.{list_all-append}
 use Rattle.gl_logic.specs.Object.{Object}
-use Rattle.shape_spec.specs.ShapeSeen.{ShapeSeen, Boolean, Integer, Choice, Constant, Pair}
+use Rattle.shape_spec.specs.ShapeSeen.{ShapeSeen, Integer, Choice, Constant, Pair}
 use Rattle.shape_spec.specs.Indices.{indices_in}
 use Rattle.shape_spec.specs.ShapeMeant.{index_meant, choice_of, stepped}
 use Rattle.shape_spec.specs.BindingsMeant.{is_shape, are_below}

@@ -1,20 +1,20 @@
 -- The meaning of items, a part at a time.
-use Rattle.std.proofs.Common.{◌≡◌, ◌∙◌, ap, sym, refl, subst, ℕ, zero, suc, ◌+◌, ◌-◌, ◌*◌, ◌<◌, ◌≤◌, Bool, true, false, cond, leb, List, [], ◌∷◌, ◌++◌, map, reverse, take, length, get_or, replicate, Option, Some, None, arith, append-nil}
+use Rattle.std.proofs.Common.{◌≡◌, ◌∙◌, ap, sym, refl, subst, ℕ, zero, suc, ◌+◌, ◌-◌, ◌*◌, ◌<◌, ◌≤◌, Bool, true, false, cond, leb, List, [], ◌∷◌, ◌++◌, reverse, take, length, get_or, Option, Some, None, arith, append-nil}
 use Rattle.std.specs.Prelude.{◌==◌}
-use Rattle.std.specs.List.{flat_map, filter, range_with_len, list_all}
+use Rattle.std.specs.List.{flat_map, filter, range_with_len}
 use Rattle.std.specs.Option.{option_map, option_and_then}
-use Rattle.std.proofs.lemmas.List.{length-append, reverse-append, length-map}
+use Rattle.std.proofs.lemmas.List.{length-append, length-map}
 use Rattle.std.proofs.lemmas.List.Elements.{filter-append}
 use Rattle.std.proofs.lemmas.Grind.{flat_map-append}
 use Rattle.gl_logic.specs.Object.{Object, Int, Character, Symbol, Text, Cons, nil}
 use Rattle.gl_logic.specs.Lists.{conses, size_of, size-conses}
 use Rattle.shape_spec.specs.Wording.{elements, both, all_meant}
 use Rattle.shape_spec.specs.Heads.{item_of}
-use Rattle.shape_spec.specs.ItemsMeant.{Slotted, number_item, boolean_item, all_variables, in_sequence, first_count, have_count, slots_at, interleaved, mixed, itemized, item_meant, items_meant}
+use Rattle.shape_spec.specs.ItemsMeant.{Slotted, number_item, boolean_item, in_sequence, first_count, have_count, slots_at, interleaved, mixed, itemized, item_meant, items_meant}
 use Rattle.shape_spec.specs.Gives.{within, all_within, slots_in}
 use Rattle.shape_spec.specs.declared.words.ItemWord.{ItemWord}
 use Rattle.shape_spec.specs.declared.words.ItemWord.TheVariants as item
-use Rattle.shape_spec.proofs.Fits.{bool_cases, and_first, and_second, leb_le, le_leb, not_true, some_same}
+use Rattle.shape_spec.proofs.Fits.{and_first, and_second, leb_le, le_leb, not_true, some_same}
 use Rattle.shape_spec.proofs.InReverse.{left_of}
 use denote.Param.Weighed.{most}
 use Rattle.shape_spec.proofs.Proper.{elements_conses, conses-last, front_size}

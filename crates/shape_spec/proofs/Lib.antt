@@ -15,3 +15,4 @@ pub mod Integers
 pub mod Pairs
 pub mod Members
 pub mod Digits
+pub mod Worked

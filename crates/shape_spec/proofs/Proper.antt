@@ -1,9 +1,8 @@
 -- Lists as objects: their elements, their marks and their sizes.
-use Rattle.std.proofs.Common.{◌≡◌, ◌∙◌, ap, sym, refl, subst, ℕ, zero, suc, ◌+◌, ◌-◌, ◌<◌, ◌≤◌, Bool, true, false, ◌||◌, List, [], ◌∷◌, ◌++◌, reverse, take, drop, length, get_or, Option, Some, None, arith}
+use Rattle.std.proofs.Common.{◌≡◌, ◌∙◌, ap, sym, refl, subst, ℕ, zero, suc, ◌+◌, ◌-◌, ◌<◌, ◌≤◌, Bool, true, false, ◌||◌, List, [], ◌∷◌, ◌++◌, reverse, take, drop, length, get_or, Some, None, arith}
 use Rattle.std.specs.List.{list_any}
 use Rattle.std.specs.Option.{option_map}
 use Rattle.std.proofs.lemmas.List.{reverse-append, take-append-drop, take_all, take_more}
-use Rattle.std.proofs.lemmas.List.Folds.{list_any-append}
 use denote.Param.Weighed.{most}
 use Rattle.gl_logic.specs.Object.{Object, Int, Character, Symbol, Text, Cons, nil}
 use Rattle.gl_logic.specs.Lists.{elements_of, tail_of, conses, size_of, size-conses, IsAtom}

@@ -1,19 +1,18 @@
 -- The meaning of a shape's form, a part at a time.
-use Rattle.std.proofs.Common.{◌≡◌, ◌∙◌, ap, sym, refl, subst, ℕ, zero, suc, ◌+◌, ◌-◌, ◌<◌, ◌≤◌, Bool, true, false, cond, ◌&&◌, List, [], ◌∷◌, ◌++◌, map, reverse, take, drop, length, get_or, Option, Some, None, arith, ◌⊎◌, inl, inr}
+use Rattle.std.proofs.Common.{◌≡◌, ◌∙◌, ap, sym, refl, subst, ℕ, ◌+◌, ◌-◌, ◌<◌, ◌≤◌, Bool, true, false, cond, List, [], ◌∷◌, reverse, take, length, get_or, Option, Some, None, arith}
 use Rattle.std.specs.List.{list_all}
-use Rattle.std.specs.Option.{option_map, option_and_then}
-use Rattle.std.proofs.lemmas.List.{length-append, length-reverse, length-take-le, take-take, get_or-take}
+use Rattle.std.specs.Option.{option_and_then}
+use Rattle.std.proofs.lemmas.List.{length-reverse, length-take-le, take-take, get_or-take}
 use Rattle.gl_logic.specs.Object.{Object, Int, Character, Symbol, Text, Cons, nil}
 use Rattle.gl_logic.specs.Lists.{conses, IsAtom}
-use Rattle.shape_spec.specs.ShapeSeen.{ShapeSeen, Boolean, Integer, Choice, Constant, Pair}
-use Rattle.shape_spec.specs.ShapeOf.{shape_of, pairs}
+use Rattle.shape_spec.specs.ShapeSeen.{ShapeSeen, Pair}
 use Rattle.shape_spec.specs.Indices.{indices_in}
 use Rattle.shape_spec.specs.Heads.{head_of, is_plain}
 use Rattle.shape_spec.specs.Wording.{both, elements}
-use Rattle.shape_spec.specs.ShapeMeant.{index_meant, indices_meant, atom_meant, shape_meant, choice_meant, branches_meant, test_meant, choice_of, headed, comma_of, call_of, boolean_call, integer_call}
-use Rattle.shape_spec.specs.Gives.{fits, taken, small, before_meant}
-use Rattle.shape_spec.proofs.Proper.{conses-last, conses-cut, elements_conses}
-use Rattle.shape_spec.proofs.Fits.{IsFit, IsTaken, taken_some, taken_is, taken_not, taken_none, pair_fit, pair_first, pair_second, some_same, and_first, and_second}
+use Rattle.shape_spec.specs.ShapeMeant.{index_meant, atom_meant, shape_meant, choice_meant, test_meant, choice_of, headed, comma_of, call_of, boolean_call, integer_call}
+use Rattle.shape_spec.specs.Gives.{taken, before_meant}
+use Rattle.shape_spec.proofs.Proper.{conses-last, elements_conses}
+use Rattle.shape_spec.proofs.Fits.{IsFit, taken_not, taken_none, pair_first, pair_second, some_same, and_first, and_second}
 
 -- ---- what a cons is not
 pub index_cons : (es : List Object) (t : Object) → 0 < length es → index_meant (conses es t) ≡ None

@@ -1,5 +1,5 @@
 -- How large a shape is, so that each of its parts is smaller.
-use Rattle.std.proofs.Common.{◌≡◌, ◌∙◌, ap, sym, refl, ℕ, zero, suc, ◌+◌, ◌<◌, ◌≤◌, List, [], ◌∷◌, map, length, get_or, Vec, Box, Global, arith}
+use Rattle.std.proofs.Common.{◌≡◌, ◌∙◌, ap, sym, ℕ, zero, suc, ◌+◌, ◌<◌, ◌≤◌, List, [], ◌∷◌, map, length, get_or, Vec, Box, Global, arith}
 use Rattle.shape_spec.specs.declared.shape.Shape.{Shape}
 use Rattle.shape_spec.specs.declared.shape.Shape.TheVariants.{rolls-List, rolls-Choice}
 use Rattle.shape_spec.specs.declared.shape.Shape.TheViews as views

@@ -1,5 +1,5 @@
 -- Symbols by their texts: a table of texts gives each one's by its number.
-use Rattle.std.specs.Prelude.{ℕ, zero, Bool, true, false, not, ◌&&◌, ◌||◌, ◌==◌, ◌-◌, nat_lt, List, [], ◌∷◌, length, get_or, bytes_eq, Option, Some, None}
+use Rattle.std.specs.Prelude.{ℕ, zero, Bool, false, not, ◌&&◌, ◌||◌, ◌==◌, ◌-◌, nat_lt, List, [], ◌∷◌, length, get_or, bytes_eq, Option, Some, None}
 use Rattle.std.specs.Option.{option_map}
 use Rattle.gl_logic.specs.Object.{Object, Symbol, Cons}
 

@@ -1,4 +1,4 @@
-use Rattle.std.proofs.Common.{◌≡◌, ◌∙◌, ap, sym, subst, ℕ, ◌-◌, not, true, false, eqb, List, Bool, arith}
+use Rattle.std.proofs.Common.{◌≡◌, ◌∙◌, ap, sym, subst, ℕ, ◌-◌, not, true, false, eqb, Bool, arith}
 use Rattle.std.specs.List.{list_any}
 use Rattle.shape_spec.specs.ShapeSeen.{ShapeSeen}
 use Rattle.shape_spec.specs.ShapeOf.{shape_of}

@@ -1,4 +1,4 @@
-use Rattle.std.proofs.Common.{◌≡◌, ap, sym}
+use Rattle.std.proofs.Common.{ap, sym}
 use Rattle.shape_spec.specs.BindingsMeant.{bindings_meant}
 use Rattle.shape_spec.proofs.Fits.{gives_at}
 use Rattle.shape_spec.proofs.BindingSteps.{form_none}

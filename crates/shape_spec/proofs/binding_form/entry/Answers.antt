@@ -1,4 +1,4 @@
-use Rattle.std.proofs.Common.{◌≡◌, ap, sym, List, Option}
+use Rattle.std.proofs.Common.{ap, sym, List, Option}
 use Rattle.gl_logic.specs.Object.{Object}
 use Rattle.shape_spec.specs.BindingsMeant.{entry_of}
 use Rattle.shape_spec.specs.Gives.{entry_within, entry_left}

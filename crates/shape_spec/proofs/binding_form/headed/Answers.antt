@@ -1,4 +1,4 @@
-use Rattle.std.proofs.Common.{◌≡◌, ◌∙◌, ap, sym, arith}
+use Rattle.std.proofs.Common.{◌∙◌, sym, arith}
 use Rattle.shape_spec.proofs.Fits.{gives_at}
 use Rattle.shape_spec.proofs.BindingSteps.{backquoted, plainly_quoted, automatically, otherwise, form_nil}
 use Rattle.shape_spec.proofs.binding_form.headed.Goals as goal

@@ -1,11 +1,11 @@
-use Rattle.std.proofs.Common.{◌≡◌, ◌∙◌, ap, sym, subst, ℕ, ◌+◌, ◌-◌, ◌<◌, [], ◌∷◌, ◌++◌, List, true, false, None, Some, length, reverse, get_or, refl, arith}
+use Rattle.std.proofs.Common.{◌≡◌, ◌∙◌, ap, sym, subst, ℕ, ◌+◌, ◌-◌, ◌<◌, [], ◌∷◌, ◌++◌, List, true, length, refl, arith}
 use Rattle.std.specs.List.{list_all}
 use Rattle.std.proofs.lemmas.Result.{err_from_is_err_and}
 use Rattle.shape_spec.specs.ShapeSeen.{ShapeSeen}
 use Rattle.shape_spec.specs.ShapeOf.{shape_of}
 use Rattle.shape_spec.specs.Indices.{variables_of, width_of, IsBindings}
-use Rattle.shape_spec.specs.Wording.{is_legal, all_meant}
-use Rattle.shape_spec.specs.BindingsMeant.{entry_meant, are_bindings, checked}
+use Rattle.shape_spec.specs.Wording.{is_legal}
+use Rattle.shape_spec.specs.BindingsMeant.{entry_meant, checked}
 use Rattle.shape_spec.specs.Gives.{fits, entry_within, entry_left}
 use Rattle.shape_spec.proofs.InReverse.{started, read_more, read_all, left_of}
 use Rattle.shape_spec.proofs.Fits.{gives_err, refuses_none}

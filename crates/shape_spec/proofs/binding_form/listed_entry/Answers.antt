@@ -1,8 +1,7 @@
-use Rattle.std.proofs.Common.{◌≡◌, ◌∙◌, ap, sym, length, get_or, List, [], ◌∷◌, Some, ℕ, Bool, arith}
-use Rattle.std.specs.Option.{option_map}
+use Rattle.std.proofs.Common.{◌∙◌, ap, sym, get_or, [], ◌∷◌, Some, arith}
 use Rattle.std.proofs.lemmas.List.{get_or_default}
 use Rattle.std.proofs.lemmas.Result.{err_from_is_err_and}
-use Rattle.gl_logic.specs.Object.{Object, Symbol}
+use Rattle.gl_logic.specs.Object.{Object}
 use Rattle.shape_spec.specs.ShapeOf.{shape_of}
 use Rattle.shape_spec.specs.ShapeMeant.{shape_meant}
 use Rattle.shape_spec.specs.BindingsMeant.{entry_of}

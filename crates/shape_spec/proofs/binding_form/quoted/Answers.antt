@@ -1,7 +1,5 @@
-use Rattle.std.proofs.Common.{◌≡◌, ◌∙◌, ap, sym, List, Option}
+use Rattle.std.proofs.Common.{◌∙◌, ap, sym}
 use Rattle.std.specs.Option.{option_and_then}
-use Rattle.gl_logic.specs.Object.{Object}
-use Rattle.shape_spec.specs.ShapeSeen.{ShapeSeen}
 use Rattle.shape_spec.specs.Wording.{all_meant}
 use Rattle.shape_spec.specs.BindingsMeant.{checked, entry_meant}
 use Rattle.shape_spec.proofs.Fits.{gives_at}

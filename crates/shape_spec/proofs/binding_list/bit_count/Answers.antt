@@ -1,7 +1,6 @@
-use Rattle.std.proofs.Common.{◌≡◌, ◌∙◌, ap, arith, sym, List, ℕ, length}
+use Rattle.std.proofs.Common.{◌≡◌, ◌∙◌, ap, arith, length}
 use Rattle.std.specs.Prelude.{vec_len}
 use Rattle.shape_spec.specs.Indices.{width_of}
-use Rattle.shape_spec.specs.BindingOf.{bindings_of}
 use Rattle.shape_spec.proofs.Bound.{width_sorted}
 use Rattle.shape_spec.proofs.binding_list.bit_count.Goals as goal
 

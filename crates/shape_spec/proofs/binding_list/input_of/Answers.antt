@@ -1,4 +1,4 @@
-use Rattle.std.proofs.Common.{◌≡◌, ◌∙◌, ap, sym, subst, ℕ, ◌<◌, ◌++◌, ◌∷◌, [], List, map, take, length, get_or, arith}
+use Rattle.std.proofs.Common.{◌≡◌, ◌∙◌, ap, sym, subst, ℕ, ◌<◌, ◌++◌, ◌∷◌, [], List, map, length, get_or, arith}
 use Rattle.std.specs.List.Sorted.{IsNonDecreasing}
 use Rattle.std.proofs.lemmas.List.{take_all}
 use Rattle.gl_logic.specs.Object.{Object}
@@ -7,7 +7,7 @@ use Rattle.shape_spec.specs.ShapeSeen.{ShapeSeen}
 use Rattle.shape_spec.specs.ShapeOf.{shape_of}
 use Rattle.shape_spec.specs.Indices.{width_of}
 use Rattle.shape_spec.specs.BindingOf.{bindings_of}
-use Rattle.shape_spec.specs.InputMeant.{object_meant, truth_of, truth_in, input_meant}
+use Rattle.shape_spec.specs.InputMeant.{object_meant, truth_of, truth_in}
 use Rattle.shape_spec.specs.declared.binding_list.Binding.{Binding}
 use Rattle.shape_spec.proofs.Bound.{width_sorted, objects_sorted, shape_bound, made_more}
 use Rattle.shape_spec.proofs.binding_list.input_of.Goals as goal

@@ -1,4 +1,4 @@
-use Rattle.std.proofs.Common.{◌≡◌, ◌∙◌, ap, sym, subst, ℕ, ◌+◌, ◌-◌, ◌++◌, ◌∷◌, [], List, None, Some, true, append_assoc, append-nil, arith}
+use Rattle.std.proofs.Common.{◌≡◌, ◌∙◌, ap, sym, ℕ, ◌+◌, ◌-◌, ◌++◌, ◌∷◌, [], List, None, Some, append_assoc, append-nil, arith}
 use Rattle.std.proofs.lemmas.Result.{err_from_is_err_and}
 use Rattle.shape_spec.specs.ShapeMeant.{stepped}
 use Rattle.shape_spec.specs.BindingsMeant.{are_below}

@@ -1,21 +1,16 @@
-use Rattle.std.proofs.Common.{◌≡◌, ◌∙◌, ap, sym, subst, ℕ, ◌+◌, ◌-◌, ◌<◌, ◌≤◌, List, [], ◌∷◌, ◌++◌, map, take, get_or, length, reverse, Option, None, Some, refl, inl, inr, arith}
+use Rattle.std.proofs.Common.{◌≡◌, ◌∙◌, ap, sym, ℕ, ◌+◌, ◌-◌, ◌<◌, List, [], ◌∷◌, ◌++◌, map, get_or, length, Option, None, Some, refl, inl, inr, arith}
 use Rattle.std.proofs.lemmas.Bool.{cases_lt}
 use Rattle.std.proofs.lemmas.List.{map-append}
 use Rattle.std.proofs.lemmas.Result.{err_from_is_err_and}
-use denote.Param.Weighed.{most}
-use Rattle.gl_logic.specs.Object.{Object, nil}
-use Rattle.gl_logic.specs.Lists.{conses, size_of}
-use Rattle.shape_spec.specs.Wording.{all_meant}
-use Rattle.shape_spec.specs.Heads.{item_of}
-use Rattle.shape_spec.specs.declared.words.ItemWord.{ItemWord}
-use Rattle.shape_spec.specs.declared.words.ItemWord.TheVariants as item
+use Rattle.gl_logic.specs.Object.{Object}
+use Rattle.gl_logic.specs.Lists.{size_of}
 use Rattle.shape_spec.specs.ItemsMeant.{Slotted, item_meant, in_sequence, mixed}
 use Rattle.shape_spec.specs.Gives.{within, all_within, slots_in, slotted_of}
 use Rattle.shape_spec.specs.declared.item_form.Items.{Items}
 use Rattle.shape_spec.proofs.Fits.{gives_at, gives_err, refuses_none}
-use Rattle.shape_spec.proofs.Proper.{most_at, front_size}
+use Rattle.shape_spec.proofs.Proper.{most_at}
 use Rattle.shape_spec.proofs.InReverse.{started, read_more, read_none, read_all, left_of}
-use Rattle.shape_spec.proofs.ItemSteps.{item_none, item_nil, item_at, within_some, within_none, within_not, all_within_not, all_within_at, too_many, slots_push, sequence_none, sequence_some, mixed_none, mixed_some, nat_at, int_at, boolean_at, no_word_at, most_front}
+use Rattle.shape_spec.proofs.ItemSteps.{item_none, within_some, within_none, all_within_at, too_many, slots_push, sequence_none, sequence_some, mixed_none, mixed_some, nat_at, int_at, boolean_at, no_word_at, most_front}
 use Rattle.shape_spec.proofs.item_form.+item.Goals as goal
 
 abbrev one_item : Slotted → Option Slotted

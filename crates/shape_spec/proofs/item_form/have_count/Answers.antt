@@ -1,6 +1,5 @@
-use Rattle.std.proofs.Common.{◌≡◌, ◌∙◌, ap, sym, false, map, length, eqb, arith, Bool}
+use Rattle.std.proofs.Common.{◌≡◌, ◌∙◌, ap, sym, false, length, Bool}
 use Rattle.std.specs.Prelude.{◌==◌}
-use Rattle.std.specs.List.{list_all}
 use Rattle.std.proofs.lemmas.Bool.{ne_eqb}
 use Rattle.std.proofs.lemmas.List.Folds.{list_all_at, list_all-map}
 use Rattle.shape_spec.specs.ItemsMeant.{Slotted}

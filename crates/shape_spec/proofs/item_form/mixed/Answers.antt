@@ -1,4 +1,4 @@
-use Rattle.std.proofs.Common.{◌≡◌, ◌∙◌, ap, sym, ◌++◌, map, List, ℕ}
+use Rattle.std.proofs.Common.{◌∙◌, ap, sym, ◌++◌, map, List, ℕ}
 use Rattle.shape_spec.specs.ItemsMeant.{slots_at}
 use Rattle.shape_spec.specs.Gives.{slotted_of}
 use Rattle.shape_spec.proofs.ItemSteps.{turn_more}

@@ -1,4 +1,4 @@
-use Rattle.std.proofs.Common.{◌≡◌, ◌∙◌, ap, sym, refl, ◌++◌, ◌∷◌, [], cond, eqb, eq-eqb, get_or, List, ℕ, Bool, true, false, append-nil}
+use Rattle.std.proofs.Common.{◌≡◌, ◌∙◌, sym, refl, ◌++◌, ◌∷◌, [], cond, eqb, get_or, ℕ, Bool}
 use Rattle.std.specs.List.{filter}
 use Rattle.shape_spec.proofs.ItemSteps.{filter_more}
 use Rattle.shape_spec.proofs.item_form.places_of.Goals as goal

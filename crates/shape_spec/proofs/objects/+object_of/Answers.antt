@@ -1,5 +1,5 @@
-use Rattle.std.proofs.Common.{◌≡◌, ◌∙◌, ap, sym, subst, rules, map, ◌∷◌, [], ◌++◌, get_or, drop, arith, length, ◌+◌, ◌<◌, List}
-use Rattle.std.proofs.lemmas.List.{drop_more, length-map, get_or-map, drop_all}
+use Rattle.std.proofs.Common.{◌≡◌, ◌∙◌, ap, sym, subst, map, [], get_or, drop, arith, length, ◌+◌, ◌<◌, List}
+use Rattle.std.proofs.lemmas.List.{drop_all}
 use Rattle.gl_logic.specs.Object.{Object, Cons}
 use Rattle.gl_logic.specs.Lists.{conses}
 use Rattle.gl_logic.specs.Assignments.{value_at}

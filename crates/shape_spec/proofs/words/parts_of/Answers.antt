@@ -1,5 +1,5 @@
-use Rattle.std.proofs.Common.{◌≡◌, ◌∙◌, ap, sym, Some, rules, List, reverse}
-use Rattle.gl_logic.specs.Object.{Object, nil}
+use Rattle.std.proofs.Common.{◌∙◌, ap, sym, Some, rules, List, reverse}
+use Rattle.gl_logic.specs.Object.{Object}
 use Rattle.shape_spec.proofs.Proper.{proper, elements_proper, elements_improper}
 use Rattle.shape_spec.proofs.words.parts_of.Goals as goal
 

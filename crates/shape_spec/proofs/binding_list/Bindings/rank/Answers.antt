@@ -1,7 +1,6 @@
-use Rattle.std.proofs.Common.{◌≡◌, ◌∙◌, ap, arith, sym, subst, rules, List, ℕ, length, ◌≤◌}
+use Rattle.std.proofs.Common.{◌∙◌, ap, arith, subst, List, ℕ, length, ◌≤◌}
 use Rattle.shape_spec.specs.ShapeSeen.{ShapeSeen}
-use Rattle.shape_spec.specs.Indices.{indices_of, width_of, rank_in}
-use Rattle.shape_spec.specs.BindingOf.{bindings_of}
+use Rattle.shape_spec.specs.Indices.{indices_of, rank_in}
 use Rattle.shape_spec.proofs.Bound.{ranks_sorted, width_sorted}
 use Rattle.shape_spec.proofs.binding_list.Bindings.rank.Goals as goal
 

@@ -1,5 +1,4 @@
-use Rattle.std.proofs.Common.{◌≡◌, ◌∙◌, ap, sym, subst, ℕ, List, Bool, true, false, ◌++◌, ◌+◌, ◌≤◌, length}
-use Rattle.shape_spec.specs.ShapeSeen.{ShapeSeen}
+use Rattle.std.proofs.Common.{◌≡◌, ◌∙◌, ap, subst, ℕ, List, Bool, true, false, ◌++◌}
 use Rattle.shape_spec.specs.ShapeOf.{shape_of}
 use Rattle.shape_spec.specs.Indices.{indices_in}
 use Rattle.shape_spec.specs.Order.{Joins}

@@ -1,4 +1,4 @@
-use Rattle.std.proofs.Common.{◌≡◌, ◌∙◌, ap, sym, ◌++◌, append_assoc, rules, arith, ℕ, drop}
+use Rattle.std.proofs.Common.{◌≡◌, ◌∙◌, ap, sym, ◌++◌, append_assoc, arith, ℕ, drop}
 use Rattle.shape_spec.specs.ShapeOf.{shape_of}
 use Rattle.shape_spec.specs.Indices.{indices_in}
 use Rattle.shape_spec.specs.declared.shape.Shape.{Shape}

@@ -1,11 +1,11 @@
-use Rattle.std.proofs.Common.{◌≡◌, ◌∙◌, ap, sym, subst, ℕ, ◌+◌, ◌-◌, ◌*◌, ◌<◌, ◌≤◌, List, [], ◌∷◌, ◌++◌, map, take, drop, get_or, length, Option, None, Some, Bool, true, false, refl, rules, arith}
+use Rattle.std.proofs.Common.{◌≡◌, ◌∙◌, ap, sym, subst, ℕ, ◌+◌, ◌-◌, ◌<◌, ◌≤◌, List, [], ◌∷◌, map, take, drop, get_or, length, Option, Some, Bool, true, false, refl, arith}
 use Rattle.std.specs.List.{list_all}
 use Rattle.std.specs.Option.{option_and_then}
 use Rattle.std.proofs.lemmas.List.{take_rest, length-append, drop_more, drop_all, map-append, length-take-le, get_or-take, get_or_default}
 use Rattle.std.proofs.lemmas.Result.{err_from_is_err_and}
 use denote.Param.Weighed.{most}
-use Rattle.gl_logic.specs.Object.{Object, Cons, nil}
-use Rattle.gl_logic.specs.Lists.{conses, size_of, size-conses, IsAtom}
+use Rattle.gl_logic.specs.Object.{Object, nil}
+use Rattle.gl_logic.specs.Lists.{conses, size_of, IsAtom}
 use Rattle.gl_logic.proofs.Parts.{conses-whole, tail_is_atom}
 use Rattle.shape_spec.specs.ShapeSeen.{ShapeSeen, Pair}
 use Rattle.shape_spec.specs.ShapeOf.{shape_of, pairs}
@@ -15,12 +15,12 @@ use Rattle.shape_spec.specs.Heads.{head_of, is_plain}
 use Rattle.shape_spec.specs.declared.shape.Shape.{Shape}
 use Rattle.shape_spec.specs.declared.words.Head.{Head}
 use Rattle.shape_spec.specs.declared.words.Head.TheVariants as head
-use Rattle.shape_spec.specs.ShapeMeant.{shape_meant, choice_meant, headed, test_meant, choice_of, atom_meant}
-use Rattle.shape_spec.specs.Gives.{Gives, taken, small, shape_left, before_meant}
+use Rattle.shape_spec.specs.ShapeMeant.{shape_meant, choice_meant, headed, test_meant, choice_of}
+use Rattle.shape_spec.specs.Gives.{taken, small, shape_left, before_meant}
 use Rattle.shape_spec.proofs.Proper.{conses-last, conses-cut, front_size, back_size, most_at}
 use Rattle.shape_spec.proofs.Conses.{pairs_push}
 use Rattle.shape_spec.proofs.Fits.{gives_at, gives_err, constant_taken, true_false, refuses_none, IsFit, fit_to, fit_from, taken_some, taken_is, pair_fit, choice_no_test, choice_no_index, choice_no_second, choice_no_first, choice_taken}
-use Rattle.shape_spec.proofs.ShapeSteps.{headed_at, choice_parts, atom_is, plain_meant, none_before, before_more, before_none, choice_at, no_choice}
+use Rattle.shape_spec.proofs.ShapeSteps.{headed_at, choice_parts, plain_meant, none_before, before_more, before_none, choice_at, no_choice}
 use Rattle.shape_spec.proofs.shape_form.Setting.+shape.Goals as goal
 
 abbrev some_shape : ℕ → ShapeSeen → Option (ShapeSeen × ℕ)

@@ -1,4 +1,4 @@
-use Rattle.std.proofs.Common.{◌≡◌, ◌∙◌, ap, sym, ◌<◌, length, None, ℕ, Option, rules, arith}
+use Rattle.std.proofs.Common.{ap, ◌<◌, length, ℕ, Option, rules}
 use Rattle.std.specs.Option.{option_map}
 use Rattle.shape_spec.specs.ShapeSeen.{Boolean}
 use Rattle.shape_spec.specs.Gives.{taken}

@@ -1,4 +1,4 @@
-use Rattle.std.proofs.Common.{◌≡◌, ap, sym}
+use Rattle.std.proofs.Common.{ap, sym}
 use Rattle.shape_spec.specs.Gives.{taken, shape_left}
 use Rattle.shape_spec.proofs.Fits.{gives_at}
 use Rattle.shape_spec.proofs.ShapeSteps.{no_call, call_two, call_four}

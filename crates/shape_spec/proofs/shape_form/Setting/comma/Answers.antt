@@ -1,8 +1,7 @@
-use Rattle.std.proofs.Common.{◌≡◌, ◌∙◌, ap, sym, ◌<◌, length, cond, Bool, true, ℕ, get_or, List, Option, None, Some, reverse, arith, rules}
+use Rattle.std.proofs.Common.{◌≡◌, ◌∙◌, ap, sym, length, cond, Bool, true, ℕ, get_or, List, Option, None, rules}
 use Rattle.std.specs.Option.{option_and_then}
 use Rattle.gl_logic.specs.Object.{Object, nil}
 use Rattle.gl_logic.specs.Lists.{conses}
-use Rattle.shape_spec.specs.ShapeSeen.{ShapeSeen}
 use Rattle.shape_spec.specs.Wording.{elements}
 use Rattle.shape_spec.specs.ShapeMeant.{comma_of, call_of}
 use Rattle.shape_spec.specs.Gives.{taken, shape_left}

@@ -1,10 +1,10 @@
-use Rattle.std.proofs.Common.{◌≡◌, ◌∙◌, ap, sym, subst, List, ℕ, None, Some, Option, reverse, rules}
+use Rattle.std.proofs.Common.{◌≡◌, ◌∙◌, ap, sym, List, ℕ, None, Option, reverse, rules}
 use Rattle.std.specs.Option.{option_map, option_and_then}
 use Rattle.std.proofs.lemmas.Result.{err_from_is_err_and}
 use Rattle.gl_logic.specs.Object.{Object, nil}
 use Rattle.gl_logic.specs.Lists.{conses}
 use Rattle.shape_spec.specs.ShapeSeen.{Integer}
-use Rattle.shape_spec.specs.Wording.{all_meant, elements}
+use Rattle.shape_spec.specs.Wording.{all_meant}
 use Rattle.shape_spec.specs.ShapeMeant.{index_meant, indices_meant}
 use Rattle.shape_spec.specs.Gives.{taken, small_index, shape_left}
 use Rattle.shape_spec.proofs.Proper.{elements_conses, improper_atom}
