@@ -1,25 +1,26 @@
 -- Where nothing is uncovered, each environment that meets the hypothesis is met by an input.
-use Rattle.std.proofs.Common.{◌≡◌, ◌∙◌, ap, sym, refl, subst, ℕ, ◌^◌, ◌<◌, Bool, true, false, not, ◌&&◌, ◌||◌, cond, eqb, List, [], ◌∷◌, map, length, None, Some, arith, inl, inr}
+use Rattle.std.proofs.Common.{◌≡◌, ◌∙◌, ap, sym, refl, subst, ℕ, ◌^◌, ◌<◌, Bool, true, false, not, ◌&&◌, ◌||◌, cond, eqb, List, [], ◌∷◌, map, length, Option, None, Some, arith, inl, inr}
+use Rattle.std.specs.List.{list_any}
 use Rattle.std.proofs.lemmas.Bool.{or_left, or_right}
 use Rattle.gl_logic.specs.Object.{Object, Int, Character, Symbol, Text, Cons, nil}
 use Rattle.gl_logic.specs.ObjectEq.{is_nil}
 use Rattle.gl_logic.specs.Definition.{Definition}
 use Rattle.gl_logic.specs.Environment.{look}
 use Rattle.gl_logic.specs.Exp.{Exp}
-use Rattle.gl_logic.specs.Walk.{Walk, walk, opened, then}
+use Rattle.gl_logic.specs.Walk.{Walk, Walks, walk, walk_by, opened, then}
 use Rattle.gl_logic.specs.FreeVariables.{is_free_in, AgreeOn}
 use Rattle.gl_logic.proofs.FreeVariables.{agree}
 use Rattle.gl_logic.proofs.Optional.{some_same, then_inverted}
 use Rattle.shape_spec.specs.ShapeSeen.{ShapeSeen, Boolean, Integer, Choice, Constant, Pair}
-use Rattle.shape_spec.specs.Indices.{indices_in, width_of, IsBindings}
+use Rattle.shape_spec.specs.Indices.{indices_in, width_of, AreApart, IsBindings}
 use Rattle.shape_spec.specs.InputMeant.{object_meant, truth_of, input_meant, number_of, assignment_numbered}
 use Rattle.shape_spec.specs.Theorems.{IsMet, Holds}
 use Rattle.shape_spec.proofs.Digits.{number_below, input_by_number}
 use Rattle.coverage.specs.Conjuncts.{conjuncts}
-use Rattle.coverage.specs.Covered.{is_variable, is_unsigned_row, is_covered, is_free_in_either, lacks_cover, first_uncovered}
+use Rattle.coverage.specs.Covered.{is_variable, fits, is_unsigned_row, is_signed_row, is_byte_row, is_equality_row, is_row, is_covered, is_free_in_either, lacks_cover, first_uncovered}
 use Rattle.coverage.specs.Sound.{is_bound_in, AllAreBound}
-use Rattle.coverage.proofs.Says.{bool_cases, never, IsByte, said, unsigned_met}
-use Rattle.coverage.proofs.Chosen.{IsBound, IsInteger, chosen, chosen_object}
+use Rattle.coverage.proofs.Says.{bool_cases, never, or_either, said, unsigned_met, signed_met, equality_met}
+use Rattle.coverage.proofs.Chosen.{Has, byte_has, fit_has, first_has, second_has, apart_first, apart_second, IsBound, apart_of, all_given, chosen, chosen_object}
 
 -- ---- values that are not NIL
 apart : (a b : ℕ) → (a ≡ b → ⊥) → eqb a b ≡ false
@@ -65,23 +66,36 @@ covered_each hyp concl (q ∷ b) p h k f = elim (bool_cases (lacks_cover hyp con
 ]
 
 -- ---- covered variables
-is_byte_of : (definitions : List Definition) (n : ℕ) (env : List (ℕ × Object)) (hyp : Exp) (v : ℕ) (s : ShapeSeen) (r : Walk) → walk definitions n env hyp ≡ Some r → is_nil r.value ≡ false
-    → is_covered (conjuncts hyp) (is_variable v) s ≡ true → IsByte (length (indices_in s)) (look env v)
-is_byte_of definitions n env hyp v (Integer is) r e m h =
-    let row = is_unsigned_row (length is) (is_variable v) in
-    let one = said (opened definitions n) env row hyp r h e m in
-    unsigned_met (opened definitions n) env (length is) v one.term one.run one.is_row one.runs one.met
-is_byte_of definitions n env hyp v (Boolean i) r e m h = never h
-is_byte_of definitions n env hyp v (Choice i x y) r e m h = never h
-is_byte_of definitions n env hyp v (Constant x) r e m h = never h
-is_byte_of definitions n env hyp v (Pair x y) r e m h = never h
+module _ (c : ℕ → Walks → Option Walk) (env : List (ℕ × Object)) (v : ℕ) where
+  by_bytes : (s : ShapeSeen) (t : Exp) (r : Walk) → AreApart (indices_in s) → is_byte_row s (is_variable v) t ≡ true → walk_by c t env ≡ Some r → is_nil r.value ≡ false → Has s (look env v)
+  by_bytes (Integer is) t r a h e m = elim (or_either (is_unsigned_row (length is) (is_variable v) t) (is_signed_row (length is) (is_variable v) t) h) [
+    | inl k ↦ byte_has is (look env v) a (unsigned_met c env (length is) v t r k e m)
+    | inr k ↦ byte_has is (look env v) a (signed_met c env (length is) v t r k e m)
+  ]
+  by_bytes (Boolean i) t r a h e m = never h
+  by_bytes (Choice i x y) t r a h e m = never h
+  by_bytes (Constant x) t r a h e m = never h
+  by_bytes (Pair x y) t r a h e m = never h
 
-is_integer_of : (hyp : Exp) (v : ℕ) (s : ShapeSeen) → is_covered (conjuncts hyp) (is_variable v) s ≡ true → IsInteger s
-is_integer_of hyp v (Integer is) h = tt
-is_integer_of hyp v (Boolean i) h = never h
-is_integer_of hyp v (Choice i x y) h = never h
-is_integer_of hyp v (Constant x) h = never h
-is_integer_of hyp v (Pair x y) h = never h
+  row_has : (s : ShapeSeen) (t : Exp) (r : Walk) → AreApart (indices_in s) → is_row s (is_variable v) t ≡ true → walk_by c t env ≡ Some r → is_nil r.value ≡ false → Has s (look env v)
+  row_has s t r a h e m = elim (or_either (is_byte_row s (is_variable v) t) (is_equality_row (fits s) (is_variable v) t) h) [
+    | inl k ↦ by_bytes s t r a k e m
+    | inr k ↦ fit_has s (look env v) a (equality_met c env (fits s) v t r k e m)
+  ]
+
+  module _ (hyp : Exp) (r : Walk) (e : walk_by c hyp env ≡ Some r) (m : is_nil r.value ≡ false) where
+    said_has : (s : ShapeSeen) → AreApart (indices_in s) → list_any (is_row s (is_variable v)) (conjuncts hyp) ≡ true → Has s (look env v)
+    said_has s a h = let one = said c env (is_row s (is_variable v)) hyp r h e m in row_has s one.term one.run a one.is_row one.runs one.met
+
+    pub covered_has : (s : ShapeSeen) → AreApart (indices_in s) → is_covered (conjuncts hyp) (is_variable v) s ≡ true → Has s (look env v)
+    covered_has (Choice i x y) a h = elim (or_either (is_covered (conjuncts hyp) (is_variable v) x) (is_covered (conjuncts hyp) (is_variable v) y) h) [
+      | inl k ↦ first_has i x y (look env v) a (covered_has x (apart_first i x y a) k)
+      | inr k ↦ second_has i x y (look env v) a (covered_has y (apart_second i x y a) k)
+    ]
+    covered_has (Integer is) a h = said_has (Integer is) a h
+    covered_has (Boolean i) a h = said_has (Boolean i) a h
+    covered_has (Constant x) a h = said_has (Constant x) a h
+    covered_has (Pair x y) a h = said_has (Pair x y) a h
 
 -- ---- looking a variable up in an input
 abbrev pub made_by : (ShapeSeen → Object) → List (ℕ × ShapeSeen) → List (ℕ × Object)
@@ -101,14 +115,13 @@ module _ (definitions : List Definition) (hyp concl : Exp) (b : List (ℕ × Sha
       let n = m.1.0 in
       let i = then_inverted (walk definitions n env hyp) (λ (r : Walk). Some r.value) m.0 m.1.1 in
       let met : is_nil i.0.value ≡ false = ap is_nil (some_same _ _ i.1.1) ∙ not_nil m.0 m.2 in
-      let a = chosen env b in (
+      let wanted = is_free_in_either hyp concl in
+      let given = all_given env wanted b proper.indices
+      (λ p k f. covered_has (opened definitions n) env p.0 hyp i.0 i.1.0 met p.1 (apart_of p b k proper.indices) (covered_each hyp concl b p covered k f)) in
+      let a = chosen b given.0 in (
         a,
         λ v f. look_made (object_meant (truth_of b a)) (look env v) b v
-            (λ p k e.
-            let free : is_free_in_either hyp concl p.0 ≡ true = ap (is_free_in_either hyp concl) e ∙ f in
-            let c = covered_each hyp concl b p covered k free in
-            let byte = is_byte_of definitions n env hyp p.0 p.1 i.0 i.1.0 met c in
-            chosen_object env b p proper.indices k (is_integer_of hyp p.0 p.1 c) byte ∙ ap (look env) e)
+            (λ p k e. chosen_object b given.0 p k ∙ (given.1 p k (ap wanted e ∙ f) ∙ ap (look env) e))
             (bound v f),
       )
 

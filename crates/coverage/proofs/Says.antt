@@ -1,22 +1,23 @@
 -- What the conjuncts of a hypothesis say where it is met.
-use Rattle.std.proofs.Common.{◌≡◌, ◌∙◌, ap, sym, refl, ℕ, zero, suc, ◌^◌, ◌<◌, ◌≤◌, Bool, true, false, ◌&&◌, ◌||◌, cond, List, [], ◌∷◌, ◌++◌, Option, Some, ℤ, pos, negsuc, arith, ◌⊎◌, inl, inr}
+use Rattle.std.proofs.Common.{◌≡◌, ◌∙◌, ap, sym, refl, ℕ, zero, suc, ◌+◌, ◌^◌, ◌<◌, ◌≤◌, ltb, leb, Bool, true, false, ◌&&◌, ◌||◌, cond, List, [], ◌∷◌, ◌++◌, Option, Some, ℤ, pos, negsuc, arith, ◌⊎◌, inl, inr}
 use Rattle.std.specs.List.{list_any}
 use Rattle.std.proofs.lemmas.List.Folds.{list_any-append}
 use Rattle.std.proofs.lemmas.Int.{ints}
 use Rattle.std.proofs.Math.Pow.{pow_mono}
 use Rattle.gl_logic.specs.Object.{Object, Int, Character, Symbol, Text, Cons, boolean_object}
 use Rattle.gl_logic.specs.ObjectEq.{is_nil}
-use Rattle.gl_logic.specs.Bytes.{is_unsigned_byte}
+use Rattle.gl_logic.specs.Bytes.{is_unsigned_byte, is_signed_byte}
 use Rattle.gl_logic.specs.PrimValue.{both_integers}
 use Rattle.gl_logic.specs.Environment.{look}
 use Rattle.gl_logic.specs.Exp.{Exp, Exps, Var, Const, If, Prim, Call, Let, Last, More}
 use Rattle.gl_logic.specs.Walk.{Walk, Walks, then, ended, walk_by}
 use Rattle.gl_logic.specs.declared.prim.Primitive.{Primitive}
-use Rattle.gl_logic.specs.declared.prim.Primitive.TheVariants.{UnsignedByteP}
+use Rattle.gl_logic.specs.declared.prim.Primitive.TheVariants.{UnsignedByteP, SignedByteP, Equal}
 use Rattle.gl_logic.proofs.Optional.{some_same, then_inverted}
-use Rattle.gl_logic.proofs.TwosComplement.{Within}
+use Rattle.gl_logic.proofs.Equality.{equal_from}
+use Rattle.gl_logic.proofs.TwosComplement.{Within, within}
 use Rattle.coverage.specs.Conjuncts.{is_nil_term, conjuncts}
-use Rattle.coverage.specs.Covered.{is_variable, is_unsigned_byte_p, is_width_below, bound_by, is_unsigned_row}
+use Rattle.coverage.specs.Covered.{is_variable, is_literal, is_width_in, bound_by, is_unsigned_byte_p, is_unsigned_row, is_signed_byte_p, is_signed_row, is_equal, pairs_with, is_equality_row}
 
 pub bool_cases : (b : Bool) → (b ≡ true) ⊎ (b ≡ false)
 bool_cases true = inl refl
@@ -113,23 +114,43 @@ its_prim : (p : Primitive) → is_unsigned_byte_p p ≡ true → p ≡ UnsignedB
 its_prim UnsignedByteP h = refl
 its_prim _ h = never h
 
-pub record IsWidth (n : ℕ) (t : Exp) : Type 0 where
-  pub width : ℕ
-  pub is : t ≡ Const (Int (pos width))
-  pub below : width < n
+signed_prim : (p : Primitive) → is_signed_byte_p p ≡ true → p ≡ SignedByteP
+signed_prim SignedByteP h = refl
+signed_prim _ h = never h
 
-its_width : (n : ℕ) (t : Exp) → is_width_below n t ≡ true → IsWidth n t
-its_width n (Const (Int (pos m))) h = record { width = m; is = refl; below = grind (arith, h) }
-its_width n (Const (Int (negsuc m))) h = never h
-its_width n (Const (Character k)) h = never h
-its_width n (Const (Symbol k)) h = never h
-its_width n (Const (Text k)) h = never h
-its_width n (Const (Cons a d)) h = never h
-its_width n (Var v) h = never h
-its_width n (If a b d) h = never h
-its_width n (Prim p ts) h = never h
-its_width n (Call f ts) h = never h
-its_width n (Let vs ts b) h = never h
+equal_prim : (p : Primitive) → is_equal p ≡ true → p ≡ Equal
+equal_prim Equal h = refl
+equal_prim _ h = never h
+
+pub record IsLiteral (test : Object → Bool) (t : Exp) : Type 0 where
+  pub object : Object
+  pub is : t ≡ Const object
+  pub passes : test object ≡ true
+
+its_literal : (test : Object → Bool) (t : Exp) → is_literal test t ≡ true → IsLiteral test t
+its_literal test (Const x) h = record { object = x; is = refl; passes = h }
+its_literal test (Var v) h = never h
+its_literal test (If a b d) h = never h
+its_literal test (Prim p ts) h = never h
+its_literal test (Call f ts) h = never h
+its_literal test (Let vs ts b) h = never h
+
+pub record IsWidth (least n : ℕ) (x : Object) : Type 0 where
+  pub width : ℕ
+  pub is : x ≡ Int (pos width)
+  pub above : least ≤ width
+  pub below : width < n + least
+
+its_width : (least n : ℕ) (x : Object) → is_width_in least n x ≡ true → IsWidth least n x
+its_width least n (Int (pos m)) h =
+    let a = and_first (leb least m) (ltb m (n + least)) h in
+    let b = and_second (leb least m) (ltb m (n + least)) h in
+    record { width = m; is = refl; above = grind (arith, a); below = grind (arith, b) }
+its_width least n (Int (negsuc m)) h = never h
+its_width least n (Character k) h = never h
+its_width least n (Symbol k) h = never h
+its_width least n (Text k) h = never h
+its_width least n (Cons a d) h = never h
 
 its_variable : (v : ℕ) (t : Exp) → is_variable v t ≡ true → t ≡ Var v
 its_variable v (Var u) h = ap Var (grind (arith, h))
@@ -139,19 +160,22 @@ its_variable v (Prim p ts) h = never h
 its_variable v (Call f ts) h = never h
 its_variable v (Let vs ts b) h = never h
 
-pub record IsBoundBy (n v : ℕ) (ts : Exps) : Type 0 where
+pub record IsBoundBy (least n v : ℕ) (ts : Exps) : Type 0 where
   pub width : ℕ
   pub are : ts ≡ More (Const (Int (pos width))) (More (Var v) Last)
-  pub below : width < n
+  pub above : least ≤ width
+  pub below : width < n + least
 
-its_arguments : (n v : ℕ) (ts : Exps) → bound_by n (is_variable v) ts ≡ true → IsBoundBy n v ts
-its_arguments n v Last h = never h
-its_arguments n v (More m Last) h = never h
-its_arguments n v (More m (More s Last)) h =
-    let w = its_width n m (and_first (is_width_below n m) (is_variable v s) h) in
-    let u = its_variable v s (and_second (is_width_below n m) (is_variable v s) h) in
-    record { width = w.width; are = λ k. More (w.is k) (More (u k) Last); below = w.below }
-its_arguments n v (More m (More s (More t ts))) h = never h
+its_arguments : (least n v : ℕ) (ts : Exps) → bound_by (is_width_in least n) (is_variable v) ts ≡ true → IsBoundBy least n v ts
+its_arguments least n v Last h = never h
+its_arguments least n v (More m Last) h = never h
+its_arguments least n v (More m (More s Last)) h =
+    let l = its_literal (is_width_in least n) m (and_first (is_literal (is_width_in least n) m) (is_variable v s) h) in
+    let w = its_width least n l.object l.passes in
+    let u = its_variable v s (and_second (is_literal (is_width_in least n) m) (is_variable v s) h) in
+    let e : m ≡ Const (Int (pos w.width)) = l.is ∙ ap Const w.is in
+    record { width = w.width; are = λ k. More (e k) (More (u k) Last); above = w.above; below = w.below }
+its_arguments least n v (More m (More s (More t ts))) h = never h
 
 not_nil_boolean : (b : Bool) → is_nil (boolean_object b) ≡ false → b ≡ true
 not_nil_boolean true h = refl
@@ -169,17 +193,96 @@ byte_of (suc w) m (Symbol k) l h = never h
 byte_of (suc w) m (Text k) l h = never h
 byte_of (suc w) m (Cons a d) l h = never h
 
-module _ (c : ℕ → Walks → Option Walk) (env : List (ℕ × Object)) (n v : ℕ) where
-  unsigned_walk : (m : ℕ) (r : Walk) → m < n → walk_by c (Prim UnsignedByteP (More (Const (Int (pos m))) (More (Var v) Last))) env ≡ Some r → is_nil r.value ≡ false → IsByte n (look env v)
-  unsigned_walk m r l e h = byte_of n m (look env v) l (not_nil_boolean _ (ap is_nil (ap (λ (w : Walk). w.value) (some_same _ _ e)) ∙ h))
+wider : (u w : ℕ) (z : ℤ) → u ≤ w → Within u z → Within w z
+wider u w z l h =
+    let p : 2 ^ u ≤ 2 ^ w = pow_mono {i = u} {j = w} l in
+    record { least = omega (arith, ints, p, h.least); most = omega (arith, ints, p, h.most) }
 
-  pub unsigned_met : (t : Exp) (r : Walk) → is_unsigned_row n (is_variable v) t ≡ true → walk_by c t env ≡ Some r → is_nil r.value ≡ false → IsByte n (look env v)
-  unsigned_met (Prim p ts) r h e m =
-      let q = its_prim p (and_first (is_unsigned_byte_p p) (bound_by n (is_variable v) ts) h) in
-      let a = its_arguments n v ts (and_second (is_unsigned_byte_p p) (bound_by n (is_variable v) ts) h) in
-      unsigned_walk a.width r a.below ((λ k. walk_by c (Prim (sym q k) (sym a.are k)) env) ∙ e) m
-  unsigned_met (Var u) r h e m = never h
-  unsigned_met (Const x) r h e m = never h
-  unsigned_met (If a b d) r h e m = never h
-  unsigned_met (Call f ts) r h e m = never h
-  unsigned_met (Let vs ts b) r h e m = never h
+pub signed_of : (n m : ℕ) (z : ℤ) → m ≤ n → is_signed_byte (pos m) z ≡ true → IsByte n (Int z)
+signed_of n zero z l h = never h
+signed_of zero (suc u) z l h = absurd (omega (arith, l))
+signed_of (suc w) (suc u) z l h =
+    record { number = z; beside_sign = w; is = refl; bits = refl; within = wider u w z (omega (arith, l)) (within u z h) }
+
+signed_byte_of : (n m : ℕ) (x : Object) → m ≤ n → both_integers is_signed_byte (Int (pos m)) x ≡ true → IsByte n x
+signed_byte_of n m (Int z) l h = signed_of n m z l h
+signed_byte_of n m (Character k) l h = never h
+signed_byte_of n m (Symbol k) l h = never h
+signed_byte_of n m (Text k) l h = never h
+signed_byte_of n m (Cons a d) l h = never h
+
+pub or_either : (a b : Bool) → (a || b) ≡ true → (a ≡ true) ⊎ (b ≡ true)
+or_either true b h = inl refl
+or_either false b h = inr h
+
+-- what (equal s 'x) says of the arguments
+pub record IsPairOf (test : Object → Bool) (a b : Exp) (v : ℕ) : Type 0 where
+  pub object : Object
+  pub subject : a ≡ Var v
+  pub literal : b ≡ Const object
+  pub passes : test object ≡ true
+
+pair_of : (test : Object → Bool) (a b : Exp) (v : ℕ) → (is_variable v a && is_literal test b) ≡ true → IsPairOf test a b v
+pair_of test a b v h =
+    let l = its_literal test b (and_second (is_variable v a) (is_literal test b) h) in
+    record { object = l.object; subject = its_variable v a (and_first (is_variable v a) (is_literal test b) h); literal = l.is; passes = l.passes }
+
+module _ (c : ℕ → Walks → Option Walk) (env : List (ℕ × Object)) where
+  module _ (n v : ℕ) where
+    unsigned_walk : (m : ℕ) (r : Walk) → m < n → walk_by c (Prim UnsignedByteP (More (Const (Int (pos m))) (More (Var v) Last))) env ≡ Some r → is_nil r.value ≡ false → IsByte n (look env v)
+    unsigned_walk m r l e h = byte_of n m (look env v) l (not_nil_boolean _ (ap is_nil (ap (λ (w : Walk). w.value) (some_same _ _ e)) ∙ h))
+
+    pub unsigned_met : (t : Exp) (r : Walk) → is_unsigned_row n (is_variable v) t ≡ true → walk_by c t env ≡ Some r → is_nil r.value ≡ false → IsByte n (look env v)
+    unsigned_met (Prim p ts) r h e m =
+        let q = its_prim p (and_first (is_unsigned_byte_p p) (bound_by (is_width_in 0 n) (is_variable v) ts) h) in
+        let a = its_arguments 0 n v ts (and_second (is_unsigned_byte_p p) (bound_by (is_width_in 0 n) (is_variable v) ts) h) in
+        unsigned_walk a.width r (omega (arith, a.below)) ((λ k. walk_by c (Prim (sym q k) (sym a.are k)) env) ∙ e) m
+    unsigned_met (Var u) r h e m = never h
+    unsigned_met (Const x) r h e m = never h
+    unsigned_met (If a b d) r h e m = never h
+    unsigned_met (Call f ts) r h e m = never h
+    unsigned_met (Let vs ts b) r h e m = never h
+
+    signed_walk : (m : ℕ) (r : Walk) → m ≤ n → walk_by c (Prim SignedByteP (More (Const (Int (pos m))) (More (Var v) Last))) env ≡ Some r → is_nil r.value ≡ false → IsByte n (look env v)
+    signed_walk m r l e h = signed_byte_of n m (look env v) l (not_nil_boolean _ (ap is_nil (ap (λ (w : Walk). w.value) (some_same _ _ e)) ∙ h))
+
+    pub signed_met : (t : Exp) (r : Walk) → is_signed_row n (is_variable v) t ≡ true → walk_by c t env ≡ Some r → is_nil r.value ≡ false → IsByte n (look env v)
+    signed_met (Prim p ts) r h e m =
+        let q = signed_prim p (and_first (is_signed_byte_p p) (bound_by (is_width_in 1 n) (is_variable v) ts) h) in
+        let a = its_arguments 1 n v ts (and_second (is_signed_byte_p p) (bound_by (is_width_in 1 n) (is_variable v) ts) h) in
+        signed_walk a.width r (omega (arith, a.below)) ((λ k. walk_by c (Prim (sym q k) (sym a.are k)) env) ∙ e) m
+    signed_met (Var u) r h e m = never h
+    signed_met (Const x) r h e m = never h
+    signed_met (If a b d) r h e m = never h
+    signed_met (Call f ts) r h e m = never h
+    signed_met (Let vs ts b) r h e m = never h
+
+  module _ (test : Object → Bool) (v : ℕ) where
+    first_walk : (x : Object) (r : Walk) → test x ≡ true → walk_by c (Prim Equal (More (Var v) (More (Const x) Last))) env ≡ Some r → is_nil r.value ≡ false → test (look env v) ≡ true
+    first_walk x r l e h =
+        let q = equal_from (look env v) x (not_nil_boolean _ (ap is_nil (ap (λ (w : Walk). w.value) (some_same _ _ e)) ∙ h)) in
+        ap test q ∙ l
+
+    second_walk : (x : Object) (r : Walk) → test x ≡ true → walk_by c (Prim Equal (More (Const x) (More (Var v) Last))) env ≡ Some r → is_nil r.value ≡ false → test (look env v) ≡ true
+    second_walk x r l e h =
+        let q = equal_from x (look env v) (not_nil_boolean _ (ap is_nil (ap (λ (w : Walk). w.value) (some_same _ _ e)) ∙ h)) in
+        ap test (sym q) ∙ l
+
+    paired_met : (ts : Exps) (r : Walk) → pairs_with test (is_variable v) ts ≡ true → walk_by c (Prim Equal ts) env ≡ Some r → is_nil r.value ≡ false → test (look env v) ≡ true
+    paired_met Last r h e m = never h
+    paired_met (More a Last) r h e m = never h
+    paired_met (More a (More b Last)) r h e m = elim (or_either (is_variable v a && is_literal test b) (is_variable v b && is_literal test a) h) [
+      | inl k ↦ let q = pair_of test a b v k in first_walk q.object r q.passes ((λ i. walk_by c (Prim Equal (More (sym q.subject i) (More (sym q.literal i) Last))) env) ∙ e) m
+      | inr k ↦ let q = pair_of test b a v k in second_walk q.object r q.passes ((λ i. walk_by c (Prim Equal (More (sym q.literal i) (More (sym q.subject i) Last))) env) ∙ e) m
+    ]
+    paired_met (More a (More b (More d ts))) r h e m = never h
+
+    pub equality_met : (t : Exp) (r : Walk) → is_equality_row test (is_variable v) t ≡ true → walk_by c t env ≡ Some r → is_nil r.value ≡ false → test (look env v) ≡ true
+    equality_met (Prim p ts) r h e m =
+        let q = equal_prim p (and_first (is_equal p) (pairs_with test (is_variable v) ts) h) in
+        paired_met ts r (and_second (is_equal p) (pairs_with test (is_variable v) ts) h) ((λ k. walk_by c (Prim (sym q k) ts) env) ∙ e) m
+    equality_met (Var u) r h e m = never h
+    equality_met (Const x) r h e m = never h
+    equality_met (If a b d) r h e m = never h
+    equality_met (Call f ts) r h e m = never h
+    equality_met (Let vs ts b) r h e m = never h
