@@ -9,6 +9,7 @@ pub mod Closed
 pub mod Counts
 pub mod Deep
 pub mod Outcomes
+pub mod Pushed
 pub mod Whole
 pub mod LaterNames
 pub mod SoundTerms

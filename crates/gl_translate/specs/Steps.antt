@@ -1,11 +1,10 @@
 -- What the forms mean that are still to be translated, and the steps that they take.
-use Rattle.gl_logic.specs.Exp.{Const, Prim, Call}
-use Rattle.gl_logic.specs.TermOf.{exps_of}
-use Rattle.std.specs.Prelude.{◌≡◌, ◌≢◌, ℕ, ◌+◌, ◌<◌, List, [], ◌∷◌, map, reverse, Result, MatchResult, IfOk, Bool}
+use Rattle.std.specs.Prelude.{◌≡◌, ◌≢◌, ℕ, ◌+◌, ◌<◌, List, [], ◌∷◌, map, reverse, Result, MatchResult, Ok, Err, Option, Some, None, if◌then◌else◌}
 use Rattle.std.specs.Option.{option_map}
-use Rattle.std.specs.Prelude.{Option, Some, None, Ok, Err, if◌then◌else◌}
 use Rattle.gl_logic.specs.Object.{Object, Int, nil}
 use Rattle.gl_logic.specs.Lists.{size_of}
+use Rattle.gl_logic.specs.Exp.{Const, Prim, Call}
+use Rattle.gl_logic.specs.TermOf.{exps_of}
 use denote.Param.Weighed.{most}
 use Rattle.gl_logic.specs.declared.prim.Primitive.TheVariants as prim
 use Rattle.gl_translate.specs.declared.fault.TermFault.{TermFault}

@@ -3,9 +3,10 @@
 ghost use Rattle.std.specs.Prelude.{◌≡◌, ◌≤◌, ◌+◌, map, OnOk, IfOk};
 ghost use Rattle.gl_logic.specs.Exp.{If, Let};
 ghost use Rattle.gl_logic.specs.TermOf.{term_of, terms_of};
-ghost use Rattle.gl_translate.specs.Meaning.{every_part, if_parts, let_inside, symbol_inside};
+ghost use Rattle.gl_translate.specs.Meaning.{symbol_inside};
 ghost use Rattle.gl_translate.specs.Translation.{are_in};
-ghost use Rattle.gl_translate.specs.Steps.{IsBelow, form_means, step_inside};
+ghost use Rattle.gl_translate.specs.declared.form.Step.TheVariants as step;
+ghost use Rattle.gl_translate.specs.Steps.{IsBelow};
 ghost use Rattle.gl_translate.specs.Answers.{Gives, subterms, subterms_of};
 
 use super::context::Context;
@@ -18,7 +19,7 @@ use gl_logic::{Names, NoMemory, Term, TextId, Tree};
 const DEPTH: u32 = 2_000;
 
 impl Context<'_> {
-    ghost use Rattle.gl_translate.specs.Contexts.{setting_in};
+    ghost use Rattle.gl_translate.specs.Contexts.{setting_in, form_in, forms_in, step_in};
 
     /// The term of a form inside so many others. At most 2,000 such calls stand inside one another.
     #[cycle(translate)]
@@ -29,7 +30,7 @@ impl Context<'_> {
         walk: &mut Walk,
     ) -> Result<Term, TermFault>
         requires { around ≤ 2000 }
-        ensures meant { Gives term_of (form_means (setting_in self.now) form.entry (are_in walk.old.bound) around) result }
+        ensures meant { Gives term_of (form_in self.now form.entry walk.old.bound around) result }
         ensures bound { OnOk result (walk.new.bound ≡ walk.old.bound) }
         ensures left { IfOk result (λ t. walk.new.left + subterms (term_of t) ≡ walk.old.left) }
     {
@@ -46,7 +47,7 @@ impl Context<'_> {
     fn taken<'f>(&'f self, step: Step<'f>, around: u32, walk: &mut Walk) -> Result<Term, TermFault>
         requires depth { around ≤ 2000 }
         requires other { IsBelow 0 step }
-        ensures meant { Gives term_of (step_inside (setting_in self.now) step.entry (are_in walk.old.bound) around) result }
+        ensures meant { Gives term_of (step_in self.now step.entry walk.old.bound around) result }
         ensures bound { OnOk result (walk.new.bound ≡ walk.old.bound) }
         ensures left { IfOk result (λ t. walk.new.left + subterms (term_of t) ≡ walk.old.left + 1) }
     {
@@ -71,7 +72,7 @@ impl Context<'_> {
         walk: &mut Walk,
     ) -> Result<Vec<Term>, TermFault>
         requires { around ≤ 2000 }
-        ensures meant { Gives (λ ts. map term_of ts.items) (every_part (map (form_means (setting_in self.now)) forms.entry.items) (are_in walk.old.bound) around) result }
+        ensures meant { Gives (λ ts. map term_of ts.items) (forms_in self.now forms.entry.items walk.old.bound around) result }
         ensures bound { OnOk result (walk.new.bound ≡ walk.old.bound) }
         ensures left { IfOk result (λ ts. walk.new.left + subterms_of (terms_of ts.items) ≡ walk.old.left) }
     {
@@ -93,7 +94,7 @@ impl Context<'_> {
         walk: &mut Walk,
     ) -> Result<Term, TermFault>
         requires { around ≤ 2000 }
-        ensures meant { Gives term_of (if_parts (form_means (setting_in self.now) a.entry) (form_means (setting_in self.now) b.entry) (form_means (setting_in self.now) c.entry) (are_in walk.old.bound) around) result }
+        ensures meant { Gives term_of (step_in self.now (step.If a.entry b.entry c.entry) walk.old.bound around) result }
         ensures bound { OnOk result (walk.new.bound ≡ walk.old.bound) }
         ensures left { IfOk result (λ t. walk.new.left + subterms (term_of t) ≡ walk.old.left + 1) }
     {
@@ -114,7 +115,7 @@ impl Context<'_> {
         walk: &mut Walk,
     ) -> Result<Term, TermFault>
         requires { around ≤ 2000 }
-        ensures meant { Gives term_of (if_parts (form_means (setting_in self.now) a.entry) (form_means (setting_in self.now) a.entry) (form_means (setting_in self.now) b.entry) (are_in walk.old.bound) around) result }
+        ensures meant { Gives term_of (step_in self.now (step.Or a.entry b.entry) walk.old.bound around) result }
         ensures bound { OnOk result (walk.new.bound ≡ walk.old.bound) }
         ensures left { IfOk result (λ t. walk.new.left + subterms (term_of t) ≡ walk.old.left + 1) }
     {
@@ -137,7 +138,7 @@ impl Context<'_> {
         walk: &mut Walk,
     ) -> Result<Term, TermFault>
         requires { around ≤ 2000 }
-        ensures meant { Gives term_of (let_inside names (map (form_means (setting_in self.now)) values.entry.items) (form_means (setting_in self.now) body.entry) (are_in walk.old.bound) around) result }
+        ensures meant { Gives term_of (step_in self.now (step.Let names values.entry body.entry) walk.old.bound around) result }
         ensures bound { OnOk result (walk.new.bound ≡ walk.old.bound) }
         ensures left { IfOk result (λ t. walk.new.left + subterms (term_of t) ≡ walk.old.left + 1) }
     {

@@ -5,7 +5,7 @@ mod reader;
 mod rows;
 
 use super::*;
-use gl_logic::{Names, NoMemory, Texts, Tree, World};
+use gl_logic::{Names, NoMemory, TextId, Texts, Tree, World};
 use reader::{form_of, object_of};
 use std::alloc::Global;
 use std::process::Abort;
@@ -22,16 +22,24 @@ enum Kind {
     Theorem,
 }
 
-/// G, H, and `binary-append` and `member-equal` under their numbers.
+/// Puts a definition last, where its name is new.
+fn put(own: &mut Owns, name: TextId, formals: u32) -> Result<(), NoMemory> {
+    match own.place(name) {
+        None => own.push(name, formals),
+        Some(_) => Ok(()),
+    }
+}
+
+/// G, H, and `binary-append` and `member-equal` under their numbers, among others that no form names.
 fn definitions(alloc: Global, texts: &mut Texts) -> Result<Owns, NoMemory> {
     let mut own = Owns::new(alloc);
-    for i in 0..40 {
+    for i in 0..40u8 {
         match i {
-            0 => own.push(texts.id_of(b"G")?, 2)?,
-            1 => own.push(texts.id_of(b"H")?, 0)?,
-            27 => own.push(texts.id_of(b"BINARY-APPEND")?, 2)?,
-            31 => own.push(texts.id_of(b"MEMBER-EQUAL")?, 2)?,
-            _ => own.push(texts.id_of(b"FILLER")?, 1)?,
+            0 => put(&mut own, texts.id_of(b"G")?, 2)?,
+            1 => put(&mut own, texts.id_of(b"H")?, 0)?,
+            27 => put(&mut own, texts.id_of(b"BINARY-APPEND")?, 2)?,
+            31 => put(&mut own, texts.id_of(b"MEMBER-EQUAL")?, 2)?,
+            _ => put(&mut own, texts.id_of(&[200 + i])?, 1)?,
         }
     }
     Ok(own)

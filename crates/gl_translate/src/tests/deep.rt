@@ -5,7 +5,6 @@ use super::*;
 use crate::context::Context;
 use crate::form::Form;
 use crate::walk::Walk;
-use gl_logic::TextId;
 
 /// A head, a form so many times, and a last form.
 fn repeated(
