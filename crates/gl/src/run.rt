@@ -34,9 +34,8 @@ pub fn run<R: Threads + Sync, S: Shelf, K: Sink>(
     ensures usage_front { IfNone (book_named (map string_bytes words.now)) (result ≡ Status.WriteFault → GrowsByFront (K.written out.old) (K.written out.new) usage_line) }
     ensures unread { IfNone (book_named (map string_bytes words.now)) (shelf.new ≡ shelf.old) }
 
-    // The words name a book: what was written is its transcript with this status, a front of one where a write
-    // failed, and nothing or a front of one where memory was refused. Where the shelf does not tell the book's
-    // bytes, it is so for some bytes.
+    // The words name a book: what was written is its transcript with this status, and a front of one where a write
+    // failed or memory was refused. Where the shelf does not tell the book's bytes, it is so for some bytes.
     ensures transcript { IfSome (book_named (map string_bytes words.now)) (λ name. result ≢ Status.ReadFault → WritesBook 12 (S.holds shelf.old name) (K.written out.old) (K.written out.new) result) }
 
     // Why the run failed.

@@ -1,16 +1,14 @@
 -- The entries that end a book, their lines and the status.
-use Rattle.std.proofs.Common.{◌≡◌, ◌∙◌, ap, sym, refl, subst, ℕ, ◌+◌, ◌<◌, ◌≤◌, ◌-◌, ◌^◌, List, [], ◌∷◌, ◌++◌, length, true, false, Bool, cond, Option, Some, None, append-nil, length-append, arith}
+use Rattle.std.proofs.Common.{◌≡◌, ◌∙◌, ap, sym, refl, ℕ, ◌+◌, ◌<◌, ◌≤◌, ◌-◌, ◌^◌, List, [], ◌∷◌, ◌++◌, length, true, false, Bool, cond, Option, Some, None, append-nil, arith}
 use Rattle.std.specs.Prelude.{count_by, ◌||◌}
 use Rattle.std.specs.List.{flat_map, list_any}
 use Rattle.std.proofs.lemmas.List.Sums.{count_by-le-length, sum_by-append, sum_by-cons}
 use Rattle.std.proofs.lemmas.List.Folds.{list_any-append}
-use Rattle.gl_base.specs.declared.status.Status.{Status}
 use Rattle.gl_base.specs.declared.status.Status.TheVariants as status
 use Rattle.gl_book.specs.Entry.{Entry, Answered, Refused}
-use Rattle.gl_book.specs.Lines.{entry_lines, done_line, is_answer, is_proved, is_vacuous, is_refuted, is_undecided, count_of, counts_of, is_refusal, status_by, status_of}
+use Rattle.gl_book.specs.Lines.{entry_lines, done_line, is_answer, is_proved, is_vacuous, is_refuted, is_undecided, counts_of, is_refusal, status_by, status_of}
 use Rattle.gl_book.specs.Stops.{one_more, counts_with, HasRoom, closing_lines, closing_status}
 use Rattle.gl_book.specs.declared.answer.Answer.{Answer}
-use Rattle.gl_book.specs.declared.counts.Counts.{Counts}
 use Rattle.gl_book.specs.declared.refusal.Refusal.{Refusal}
 
 -- ---- counts

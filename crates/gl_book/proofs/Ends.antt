@@ -2,19 +2,28 @@
 use Rattle.std.proofs.Common.{◌≡◌, ◌≤◌, sym, subst, refl, ℕ, List, [], ◌∷◌, take, length, Bool, true, false, cond, Option, Some, None, inl, inr, arith}
 use Rattle.std.specs.Prelude.{OnOk, OnErr, IfOk, IfSome, Result, Ok, Err, nat_lt}
 use Rattle.std.specs.List.{list_any}
+use Rattle.std.proofs.lemmas.Bool.{cases_Bool, ltb-true, ltb-false}
 use Rattle.std.proofs.lemmas.List.{take_all}
 use Rattle.gl_base.specs.Outside.{Grows, Rose}
 use Rattle.gl_base.specs.declared.status.Status.{Status}
 use Rattle.gl_base.specs.declared.status.Status.TheVariants as status
 use Rattle.sexp_reader.specs.declared.ends.Forms.{Forms}
 use Rattle.sexp_reader.specs.Book.{IsBeyond}
+use Rattle.sexp_reader.specs.Places.{behind, first_place}
+use Rattle.sexp_reader.specs.Reads.{start}
+use Rattle.sexp_reader.proofs.Exact.{some_reading}
+use Rattle.sexp_reader.proofs.FirstTable.{first_table}
+use Rattle.sexp_reader.proofs.Tabled.{table, is_table, table_numbers}
+use Rattle.gl_book.specs.Events.{first_state}
 use Rattle.gl_book.specs.Entry.{Entry, Refused}
 use Rattle.gl_book.specs.Lines.{transcript_lines, status_of, counts_of, is_refusal}
-use Rattle.gl_book.specs.Transcript.{told, most_bytes, long_refusal, IsReadBy, ComesOf, long, short, IsTranscript, WritesFront, WritesTranscript, EndsWith, WritesBook}
+use Rattle.gl_book.specs.Transcript.{most_bytes, long_refusal, IsReadBy, long, short, IsTranscript, WritesFront, WritesTranscript, EndsWith, WritesBook}
 use Rattle.gl_book.specs.Stops.{IsCounted, IsReported, EndsBy, status_from, closing_lines, WritesLines, WritesLinesFront, WritesWalk, WritesWalkFront}
 use Rattle.gl_book.specs.declared.counts.Counts.{Counts}
 use Rattle.gl_book.specs.declared.stop.Stop.{Stop}
 use Rattle.gl_book.specs.declared.stop.Stop.TheVariants.{Write, Memory}
+use Rattle.gl_book.proofs.Told.{grows_nothing}
+use Rattle.gl_book.proofs.Onward.{some_walk}
 
 pub on_err_known : {T E P : Type 0} (r : Result T E) → P → OnErr r P
 on_err_known (Ok x) p = tt
@@ -87,8 +96,7 @@ module _ (most : ℕ) (text : List ℕ) (last : Bool) (old new : Option (List �
 
     pub walked : (run : Result Status Stop) → IfOk run (WritesWalk names most book last old new) → OnErr run (WritesWalkFront names most book last old new) → EndsBy most text last old new run
     walked (Ok s) h f = walk_written s h
-    walked (Err Write) h f = front_written f
-    walked (Err Memory) h f = inr (front_written f)
+    walked (Err stop) h f = front_written f
 
   -- ---- a text that is too long
   module _ (line column : ℕ) (beyond : IsBeyond most_bytes text line column) where
@@ -104,8 +112,7 @@ module _ (most : ℕ) (text : List ℕ) (last : Bool) (old new : Option (List �
     pub too_long : (run : Result Status Stop) (counts : Counts) → counts ≡ counts_of [] → OnOk run (WritesLines last (closing_lines counts (Some (long_refusal line column))) old new) → IfOk run (λ s. s ≡ status.BookRefused)
         → OnErr run (WritesLinesFront last (closing_lines counts (Some (long_refusal line column))) old new) → EndsBy most text last old new run
     too_long (Ok s) counts none w e f = (alone, ([], only, long line column beyond, refl, e), subst (λ c. WritesLines last (closing_lines c (Some (long_refusal line column))) old new) none w)
-    too_long (Err Write) counts none w e f = long_front (subst (λ c. WritesLinesFront last (closing_lines c (Some (long_refusal line column))) old new) none f)
-    too_long (Err Memory) counts none w e f = inr (long_front (subst (λ c. WritesLinesFront last (closing_lines c (Some (long_refusal line column))) old new) none f))
+    too_long (Err stop) counts none w e f = long_front (subst (λ c. WritesLinesFront last (closing_lines c (Some (long_refusal line column))) old new) none f)
 
 pub refused_reported : (run : Result Status Stop) → IfOk run (λ s. s ≡ status.BookRefused) → IfOk run IsReported
 refused_reported (Ok s) e = subst IsReported (sym e) tt
@@ -119,7 +126,24 @@ pub of_long_book : (most : ℕ) (held old new : Option (List ℕ)) (line column 
     → ((m : ℕ) (text : List ℕ) → IsBeyond most_bytes text line column → EndsWith m text false old new s) → WritesBook most held old new s
 of_long_book most held old new line column s h f = of_text most held old new s h.0 h.1 (f most h.0 h.2)
 
--- nothing was written for want of memory
+-- ---- each text has a transcript, and nothing is the front of it
+pub some_transcript : (most : ℕ) (text : List ℕ) → (lines : List (List ℕ)) × (s : Status) × IsTranscript most text lines s
+some_transcript most text = elim (cases_Bool (nat_lt most_bytes (length text))) [
+  | inl e ↦
+      let place = behind first_place (take most_bytes text) in
+      let entries : List Entry = Refused (long_refusal place.line place.column) ∷ [] in
+      (transcript_lines [] entries, status_of entries, ([], entries, long place.line place.column (ltb-true most_bytes (length text) e, refl), refl, refl))
+  | inr e ↦
+      let names = table first_table text in
+      let read = some_reading names (start text) in
+      let by : IsReadBy names text read.0 read.1 = record { table = is_table first_table text; reads = read.2; numbered = table_numbers first_table text read.0 read.1 read.2 } in
+      let walk = some_walk names most read.1 first_state read.0 in
+      (transcript_lines names walk.0, status_of walk.0, (names, walk.0, short read.0 read.1 walk.0 (ltb-false most_bytes (length text) e) by walk.1, refl, refl))
+]
+
+pub nothing_written : (most : ℕ) (text : List ℕ) (last : Bool) (old new : Option (List ℕ)) → old ≡ new → WritesFront most text last old new
+nothing_written most text last old new e = let t = some_transcript most text in (t.0, t.1, 0, t.2, subst (λ (o : Option (List ℕ)). Grows old o []) e (grows_nothing old))
+
 pub of_no_memory : (most : ℕ) (held old new : Option (List ℕ)) → old ≡ new → WritesBook most held old new status.NoMemory
-of_no_memory most None old new e = record { text = []; told = tt; written = inl e }
-of_no_memory most (Some t) old new e = record { text = t; told = refl; written = inl e }
+of_no_memory most None old new e = record { text = []; told = tt; written = nothing_written most [] false old new e }
+of_no_memory most (Some t) old new e = record { text = t; told = refl; written = nothing_written most t false old new e }

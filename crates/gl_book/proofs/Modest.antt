@@ -1,5 +1,5 @@
 -- The values of a form's event stay within 128 bits, and their cars are nested no deeper than the form's.
-use Rattle.std.proofs.Common.{◌≡◌, refl, ℕ, zero, suc, List, [], ◌∷◌, ◌≤◌, arith, Option, Some, None}
+use Rattle.std.proofs.Common.{◌≡◌, ℕ, zero, suc, List, [], ◌∷◌, arith, Some, None}
 use Rattle.std.specs.Prelude.{option_map, codes}
 use Rattle.std.specs.List.{AllByRecursion}
 use Rattle.std.proofs.lemmas.Option.{option_and_then_some}

@@ -1,12 +1,11 @@
 -- A walk on its way: what has come, what is left, and what is written.
-use Rattle.std.proofs.Common.{◌≡◌, ◌∙◌, ap, sym, subst, refl, ℕ, zero, suc, ◌+◌, ◌<◌, ◌≤◌, ◌-◌, ◌^◌, List, [], ◌∷◌, ◌++◌, length, take, drop, true, false, Bool, cond, Option, Some, None, append_assoc, append-nil, length-append, arith}
+use Rattle.std.proofs.Common.{◌≡◌, ◌∙◌, ap, sym, subst, refl, ℕ, zero, suc, ◌+◌, ◌<◌, ◌≤◌, ◌-◌, ◌^◌, List, [], ◌∷◌, ◌++◌, length, take, drop, true, false, Bool, Option, Some, append_assoc, append-nil, length-append, arith}
 use Rattle.std.specs.Prelude.{slice_get, Result, Ok, Err, OnOk, OnErr, IfOk}
 use Rattle.std.specs.List.{flat_map, list_any}
 use Rattle.std.proofs.lemmas.Option.{get_or_from_slice_get, slice_get_within}
 use Rattle.gl_base.specs.Outside.{Grows}
 use Rattle.gl_base.proofs.Growth.{grows-then}
 use Rattle.gl_base.specs.declared.status.Status.{Status}
-use Rattle.gl_logic.specs.declared.ids.TextId.{TextId}
 use Rattle.sexp_reader.specs.declared.list.Form.{Form}
 use Rattle.sexp_reader.specs.declared.ends.Forms.{Forms}
 use Rattle.sexp_reader.specs.declared.ends.End.{End}
@@ -14,8 +13,8 @@ use Rattle.sexp_reader.specs.declared.ends.End.TheVariants.{Clean, Bad}
 use Rattle.gl_decide.specs.declared.verdict.Verdict.TheVariants as verdict
 use Rattle.gl_book.specs.Events.{Event, Value, Claim, first_state, next_state, event_meant}
 use Rattle.gl_book.specs.Entry.{Entry, Answered, Refused}
-use Rattle.gl_book.specs.Lines.{entry_lines, answer_lines, done_line, counts_of, is_refusal, transcript_lines, status_of}
-use Rattle.gl_book.specs.Walk.{IsProperAnswer, refusal_at, text_refusal, Walk, ended, bad, refused, event}
+use Rattle.gl_book.specs.Lines.{entry_lines, answer_lines, done_line, counts_of, is_refusal, transcript_lines}
+use Rattle.gl_book.specs.Walk.{IsProperAnswer, refusal_at, Walk, ended, bad, refused, event}
 use Rattle.gl_book.specs.Transcript.{told}
 use Rattle.gl_book.specs.Stops.{HasRoom, counts_with, end_refusal, closing_lines, closing_status, told_before, WritesLines, WritesLinesFront, WritesWalk, WritesWalkFront}
 use Rattle.gl_book.specs.declared.answer.Answer.{Answer}

@@ -1,5 +1,5 @@
 -- What is written of a walk, and what a run that stops has done to the sink.
-use Rattle.std.specs.Prelude.{◌≡◌, ℕ, ◌+◌, ◌-◌, ◌^◌, ◌<◌, ◌⊎◌, Bool, cond, List, [], ◌∷◌, take, Option, Some, None, Result, Ok, Err, MatchResult}
+use Rattle.std.specs.Prelude.{◌≡◌, ℕ, ◌+◌, ◌-◌, ◌^◌, ◌<◌, Bool, cond, List, [], ◌∷◌, take, Option, Some, None, Result, Ok, Err, MatchResult}
 use Rattle.std.specs.List.{concat}
 use Rattle.gl_base.specs.Outside.{Grows, Rose}
 use Rattle.gl_base.specs.declared.status.Status.{Status}
@@ -86,5 +86,4 @@ IsReported s = Unit {0}
 -- what a run over these bytes has written, by how it ends: a status that a transcript gives, or a stop
 abbrev pub EndsBy : ℕ → List ℕ → Bool → Option (List ℕ) → Option (List ℕ) → Result Status Stop → Type 0
 EndsBy most bytes last_only old new (Ok s) = WritesTranscript most bytes last_only old new s
-EndsBy most bytes last_only old new (Err Write) = WritesFront most bytes last_only old new
-EndsBy most bytes last_only old new (Err Memory) = (old ≡ new) ⊎ WritesFront most bytes last_only old new
+EndsBy most bytes last_only old new (Err stop) = WritesFront most bytes last_only old new

@@ -1,5 +1,5 @@
 -- The transcript of a book.
-use Rattle.std.specs.Prelude.{◌≡◌, ℕ, ◌-◌, ◌≤◌, ◌<◌, ◌⊎◌, Bool, false, cond, List, [], ◌∷◌, length, take, get_or, All, Option, IfSome}
+use Rattle.std.specs.Prelude.{◌≡◌, ℕ, ◌-◌, ◌≤◌, Bool, false, cond, List, [], ◌∷◌, length, take, get_or, All, Option, IfSome}
 use Rattle.std.specs.List.{concat}
 use Rattle.gl_logic.specs.Numbered.{IsNumbered}
 use Rattle.gl_logic.specs.Names.{IsTable}
@@ -54,12 +54,12 @@ WritesTranscript most bytes last_only old new s = (lines : List (List ℕ)) × I
 abbrev pub WritesFront : ℕ → List ℕ → Bool → Option (List ℕ) → Option (List ℕ) → Type 0
 WritesFront most bytes last_only old new = (lines : List (List ℕ)) × (s : Status) × (n : ℕ) × IsTranscript most bytes lines s × Grows old new (take n (told last_only lines))
 
--- what a run over these bytes has written when it ends with a status: where memory was refused, nothing or the front of a transcript
+-- what a run over these bytes has written when it ends with a status: a front alone where a write failed or memory was refused
 abbrev pub EndsWith : ℕ → List ℕ → Bool → Option (List ℕ) → Option (List ℕ) → Status → Type 0
 EndsWith most bytes last_only old new status.ReadFault = ⊥
 EndsWith most bytes last_only old new status.Usage = ⊥
 EndsWith most bytes last_only old new status.WriteFault = WritesFront most bytes last_only old new
-EndsWith most bytes last_only old new status.NoMemory = (old ≡ new) ⊎ WritesFront most bytes last_only old new
+EndsWith most bytes last_only old new status.NoMemory = WritesFront most bytes last_only old new
 EndsWith most bytes last_only old new s = WritesTranscript most bytes last_only old new s
 
 -- what a run has written of a book whose bytes may not be told: what it writes of some text, which is the book's where it is told

@@ -32,5 +32,5 @@ mod walker;
 
 pub use answer::Answer;
 pub use event::Event;
-pub use run::{run_book, run_text};
+pub use run::{every_text_has_a_transcript, run_book, run_text};
 pub use walk::every_walk_goes_on;

@@ -2,8 +2,9 @@
 
 ghost use Rattle.std.specs.Prelude.{◌≡◌, ◌≢◌, ◌≤◌, ℕ, List, length, IfOk};
 ghost use Rattle.gl_base.specs.Outside.{Rose};
+ghost use Rattle.gl_base.specs.declared.status.Status.{Status as StatusSeen};
 ghost use Rattle.sexp_reader.specs.Book.{IsBeyond};
-ghost use Rattle.gl_book.specs.Transcript.{EndsWith, WritesBook, most_bytes};
+ghost use Rattle.gl_book.specs.Transcript.{IsTranscript, EndsWith, WritesBook, most_bytes};
 ghost use Rattle.gl_book.specs.Stops.{EndsBy, status_from, IsCounted, IsReported};
 
 use super::counts::Counts;
@@ -131,3 +132,8 @@ fn refuse_long<K: Sink>(
     };
     status_of_run(close(alloc, Some(refusal), Counts::none(), last_only, out))
 }
+
+/// A law: each text has a transcript.
+pub fn every_text_has_a_transcript()
+    ensures { (most : ℕ) (text : List ℕ) → (lines : List (List ℕ)) × (s : StatusSeen) × IsTranscript most text lines s }
+{}

@@ -1,6 +1,6 @@
-use Rattle.std.proofs.Common.{sym, [], append-nil}
+use Rattle.std.proofs.Common.{sym, refl, [], append-nil}
 use Rattle.gl_book.specs.Transcript.{IsReadBy}
-use Rattle.gl_book.proofs.Ends.{walked, walk_reported}
+use Rattle.gl_book.proofs.Ends.{walked, walk_reported, nothing_written}
 use Rattle.gl_book.proofs.run.write_text.Goals as goal
 
 pub returns-clause-written : goal.returns-clause-written
@@ -24,3 +24,9 @@ returns-clause-reported g c =
       numbered = c.in-Ok-forms.ensures.numbered;
     } in
     walk_reported c.args.limits.now.enum_bits c.args.text.now c.args.last_only _ _ names book c.requires read c.walk.result c.walk.ensures.ok
+
+pub returns-in_default-clause-written : goal.returns-in_default-clause-written
+returns-in_default-clause-written g c = nothing_written c.args.limits.now.enum_bits c.args.text.now c.args.last_only _ _ refl
+
+pub returns-in_default-forms-clause-written : goal.returns-in_default-forms-clause-written
+returns-in_default-forms-clause-written g c = nothing_written c.args.limits.now.enum_bits c.args.text.now c.args.last_only _ _ refl

@@ -1,4 +1,4 @@
-use Rattle.std.proofs.Common.{◌≡◌, ◌∙◌, ap, sym, refl, subst, ◌+◌, ◌≤◌, ◌<◌, List, arith}
+use Rattle.std.proofs.Common.{◌∙◌, ap, sym, subst, ◌+◌, ◌≤◌, List, arith}
 use Rattle.std.proofs.lemmas.List.{take_all}
 use Rattle.gl_logic.specs.Object.{Object}
 use Rattle.gl_logic.specs.Lists.{size_of}
