@@ -105,7 +105,7 @@ byte_has is x h byte =
     let bits = bits_of (length is) byte.number in (
       listed is bits,
       ap (λ bs. Int (integer_of bs)) (found is bits h (bits_long (length is) byte.number))
-      ∙ ((λ k. Int (integer_of (bits_of (byte.bits k) byte.number))) ∙ (ap Int (from_bits_of byte.beside_sign byte.number byte.within) ∙ sym byte.is)),
+          ∙ ((λ k. Int (integer_of (bits_of (byte.bits k) byte.number))) ∙ (ap Int (from_bits_of byte.beside_sign byte.number byte.within) ∙ sym byte.is)),
     )
 
 integer_has : (is : List ℕ) (x : Object) → AreApart is → is_integer_of (length is) x ≡ true → Has (Integer is) x

@@ -78,9 +78,7 @@ fn is_signed(term: &Term, variable: TextId, width: usize) -> bool
     ensures { result ≡ is_signed_row width (is_variable variable.number) (term_of term.now) }
 {
     match term {
-        Term::Prim(Prim::SignedByteP, terms) => {
-            are_bound(terms.as_slice(), variable, 1, width)
-        }
+        Term::Prim(Prim::SignedByteP, terms) => { are_bound(terms.as_slice(), variable, 1, width) }
         _ => false,
     }
 }
