@@ -1,0 +1,11 @@
+pub mod Among
+pub mod Sound
+pub mod Logs
+pub mod Marks
+pub mod Turns
+pub mod Searches
+pub mod Parts
+pub mod Gates
+pub mod Counts
+pub mod Makes
+pub mod Worked

@@ -1,0 +1,7 @@
+pub mod Literals
+pub mod Shown
+pub mod Marked
+pub mod Books
+pub mod Cones
+pub mod Cnfs
+pub mod Searches
