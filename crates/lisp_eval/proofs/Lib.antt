@@ -1,7 +1,17 @@
 pub mod Along
+pub mod AppliedGo
 pub mod Calls
 pub mod Charges
 pub mod Cover
+pub mod Goes
 pub mod Law
 pub mod Levels
+pub mod PrimValues
+pub mod More
+pub mod MovesGo
+pub mod Running
+pub mod Seen
+pub mod Steps
+pub mod Structural
+pub mod Values
 pub mod Worked

@@ -7,3 +7,6 @@
 #![tactic(auto)]
 
 pub mod laws;
+mod primitives;
+
+pub use primitives::{PrimFault, primitive};
