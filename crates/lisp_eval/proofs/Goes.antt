@@ -20,7 +20,7 @@ use Rattle.lisp_eval.proofs.Along.{then_is}
 use Rattle.lisp_eval.proofs.More.{thread_grow, threaded_more}
 use Rattle.lisp_eval.proofs.Values.{value_seen, HasPlain, threaded_plain, call_value_unique}
 use Rattle.lisp_eval.specs.CallValue.{IsCallValue}
-use Rattle.lisp_eval.proofs.Steps.{followed_assoc, resume_push, rest_push, give_push}
+use Rattle.lisp_eval.proofs.Followed.{followed_assoc, resume_push, rest_push, give_push}
 
 length_visit : (xs : List Object) (x : Object) → length (xs ++ x ∷ []) ≡ length xs + 1
 length_visit xs x = length-append xs (x ∷ [])

@@ -13,7 +13,7 @@ use Rattle.lisp_eval.specs.Frames.{Frame, Keep, Focus, Visit, Apply, Give, Rest,
 use Rattle.lisp_eval.proofs.Along.{then_is}
 use Rattle.lisp_eval.proofs.Values.{value_seen}
 use Rattle.lisp_eval.specs.CallValue.{IsCallValue}
-use Rattle.lisp_eval.proofs.Steps.{followed_by_none}
+use Rattle.lisp_eval.proofs.Followed.{followed_by_none}
 use Rattle.lisp_eval.proofs.Cover.{AnswersAreFine, IsFineCall, Threaded, threads_there}
 use Rattle.lisp_eval.proofs.Goes.{Left, Goes, kept_value}
 use Rattle.lisp_eval.proofs.Law.{threaded_at_most}

@@ -1,7 +1,9 @@
 pub mod Applied
+pub mod Bindings
 pub mod CallValue
 pub mod Costs
 pub mod Frames
 pub mod Gives
 pub mod Moves
+pub mod States
 pub mod Threads
