@@ -1,26 +1,32 @@
 -- Environments by ids, and what they stand for.
-use Rattle.std.proofs.Common.{◌≡◌, ◌∙◌, ap, sym, refl, subst, ℕ, zero, suc, ◌+◌, ◌<◌, ◌≤◌, Bool, true, false, cond, eqb, List, [], ◌∷◌, ◌++◌, length, take, get_or, arith, Some, slice_get, Result, Ok, Err}
+use Rattle.std.proofs.Common.{◌≡◌, ◌∙◌, ap, sym, refl, subst, ℕ, zero, suc, ◌+◌, ◌<◌, ◌≤◌, Bool, true, false, cond, eqb, List, [], ◌∷◌, ◌++◌, length, take, get_or, arith, Option, Some, slice_get, Result, Ok, Err, length-append}
+use Rattle.std.proofs.lemmas.List.{get_or_append_left}
+use Rattle.gl_logic.specs.Definition.{Definition}
+use Rattle.hons_arena.specs.declared.id.IdKind.{IdKind}
+use Rattle.hons_arena.specs.declared.id.IdKind.TheVariants as kind
+use Rattle.memo_tables.specs.Calls.{Call}
+use Rattle.lisp_eval.specs.Kept.{kept_frame}
 use Rattle.std.specs.Prelude.{map, IfOk}
 use Rattle.std.proofs.lemmas.Option.{get_or_from_slice_get}
 use Rattle.gl_logic.specs.Object.{Object, nil}
 use Rattle.gl_logic.specs.Environment.{look, bound, extended}
-use Rattle.gl_logic.specs.Exp.{Exp, Var, If}
+use Rattle.gl_logic.specs.Exp.{Exp, Exps, Var, If}
 use Rattle.gl_logic.specs.TermOf.{term_of, terms_of}
 use Rattle.gl_logic.specs.declared.ids.NoMemory.{NoMemory}
 use Rattle.gl_logic.specs.declared.ids.TextId.{TextId}
 use Rattle.gl_logic.specs.declared.term.Term.{Term}
 use Rattle.hons_arena.specs.declared.id.Id.{Id}
-use Rattle.hons_arena.specs.Ids.{object_at}
+use Rattle.hons_arena.specs.Ids.{object_at, object_numbered, IsLive, IsNumberBelow}
 use Rattle.lisp_eval.specs.declared.frame.Binding.{Binding}
 use Rattle.lisp_eval.specs.declared.frame.Focus.{Focus}
 use Rattle.lisp_eval.specs.declared.frame.Focus.TheVariants as focus
 use Rattle.lisp_eval.specs.declared.frame.Frame.{Frame}
 use Rattle.lisp_eval.specs.Bindings.{nil_id, id_or_nil, id_in, bindings_of}
-use Rattle.lisp_eval.specs.Frames.{Work, Give}
+use Rattle.lisp_eval.specs.Frames.{Work, Give, Visit}
 use Rattle.lisp_eval.specs.Moves.{Next, begun, entered}
 use Rattle.lisp_eval.specs.States.{env_of, values_of, frame_of, frames_of, focus_of, IsNext}
 
-append_none : {A : Type 0} (xs : List A) → xs ++ [] ≡ xs
+pub append_none : {A : Type 0} (xs : List A) → xs ++ [] ≡ xs
 append_none [] = refl
 append_none (x ∷ xs) = ap (λ ys. x ∷ ys) (append_none xs)
 
@@ -84,3 +90,34 @@ bind_next names ids i old new t x h e q s v =
 
 pub bind_all : (names : List ℕ) (ids : List Id) (i : ℕ) (all : List Binding) → i ≡ length names → all ≡ take i (bindings_of names ids) → all ≡ bindings_of names ids
 bind_all names ids i all e h = h ∙ (ap (λ n. take n (bindings_of names ids)) e ∙ bindings_all names ids)
+
+-- ---- bodies
+module _ (objects : List Object) where
+  pub bound_next : (names : List ℕ) (ids : List Id) (outer items : List Binding) (body : Exp) (o : Focus) (frames : List Frame) → items ≡ bindings_of names ids ++ outer → focus_of objects o ≡ Visit body (env_of objects items)
+      → IsNext objects (record { focus = Visit body (extended names (values_of objects ids) (env_of objects outer)); pushed = [] }) frames o frames
+  bound_next names ids outer items body o frames e f = record {
+    focus = f ∙ ap (Visit body) (ap (env_of objects) e ∙ extended_is objects names ids outer);
+    frames = sym (append_none (frames_of objects frames));
+  }
+
+  pub opened_next : (found d : Definition) (ids : List Id) (items : List Binding) (keep : Option Call) (o : Focus) (old new : List Frame) → found ≡ d → items ≡ bindings_of found.formals ids ++ [] → focus_of objects o ≡ Visit found.body (env_of objects items)
+      → frames_of objects new ≡ frames_of objects old ++ kept_frame objects keep → IsNext objects (record { focus = Visit d.body (extended d.formals (values_of objects ids) []); pushed = kept_frame objects keep }) old o new
+  opened_next found d ids items keep o old new q e f g = subst (λ (k : Definition). IsNext objects (record { focus = Visit k.body (extended k.formals (values_of objects ids) []); pushed = kept_frame objects keep }) old o new) q (record {
+    focus = f ∙ ap (Visit found.body) (ap (env_of objects) e ∙ extended_is objects found.formals ids []);
+    frames = g;
+  })
+
+  values_push : (ids : List Id) (x : Id) → values_of objects (ids ++ x ∷ []) ≡ values_of objects ids ++ object_at objects x ∷ []
+  values_push [] x = refl
+  values_push (y ∷ ids) x = ap (λ xs. object_at objects y ∷ xs) (values_push ids x)
+
+  pub argument_next : (w : Work) (done done' : List Id) (x : Id) (v : Object) (ts : Exps) (env : List (ℕ × Object)) (old new : List Frame) (r : Result Focus NoMemory) → done' ≡ done ++ x ∷ [] → object_at objects x ≡ v
+      → IfOk r (λ f. IsNext objects (begun w (values_of objects done') ts env) old f new) → IfOk r (λ f. IsNext objects (begun w (values_of objects done ++ v ∷ []) ts env) old f new)
+  argument_next w done done' x v ts env old new r e q h = subst (λ (xs : List Object). IfOk r (λ f. IsNext objects (begun w xs ts env) old f new)) (ap (values_of objects) e ∙ (values_push done x ∙ ap (λ y. values_of objects done ++ y ∷ []) q)) h
+
+pub stays_at : (objects more : List Object) (x : Id) → IsLive objects x → object_at (objects ++ more) x ≡ object_at objects x
+stays_at objects more x live = (numbered_kept objects more (object_at objects x) x.kind x.number live refl).1 where
+  numbered_kept : (xs made : List Object) (x : Object) (t : IdKind) (n : ℕ) → IsNumberBelow (length xs) t n → object_numbered xs t n ≡ x → IsNumberBelow (length (xs ++ made)) t n × (object_numbered (xs ++ made) t n ≡ x)
+  numbered_kept xs made x kind.Symbol n h e = (tt, e)
+  numbered_kept xs made x kind.Text n h e = (tt, e)
+  numbered_kept xs made x kind.Cell n h e = (omega (arith, h, length-append xs made), get_or_append_left xs made nil n h ∙ e)

@@ -14,7 +14,7 @@ use Rattle.gl_logic.specs.Every.{Every}
 use Rattle.gl_logic.proofs.MadeCalls.{every_append}
 use Rattle.lisp_eval.specs.Threads.{Thread, Threads, is_kept, stays_shut, keeping, plain_call, threaded, thread, threads}
 use Rattle.lisp_eval.specs.Frames.{Work, ToPrim, ToCall, ToLet, Frame, Branch, Arguments, Keep, Focus, Visit, Apply, Give, Rest, before, followed, given, all_of, call_of, is_value, behind, worked, resumed, resume, focused, rest_of}
-use Rattle.lisp_eval.proofs.Calls.{every_parts}
+use Rattle.lisp_eval.proofs.CallsMade.{every_parts}
 
 -- ---- following is associative, and giving is its unit
 add_assoc : (a b c : ℕ) → a + (b + c) ≡ (a + b) + c

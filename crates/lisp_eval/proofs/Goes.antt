@@ -15,7 +15,7 @@ use Rattle.gl_logic.specs.Every.{Every}
 use Rattle.gl_logic.proofs.MadeCalls.{every_append}
 use Rattle.lisp_eval.specs.Threads.{Thread, Threads, after, closed, chained, is_kept, stays_shut, keeping, finished, skipped, plain_call, thread_by, threaded, thread, threads}
 use Rattle.lisp_eval.specs.Frames.{Work, ToPrim, ToCall, ToLet, Frame, Branch, Arguments, Keep, Focus, Visit, Apply, Give, Rest, before, followed, given, all_of, call_of, is_value, behind, worked, resumed, resume, focused, rest_of}
-use Rattle.lisp_eval.proofs.Calls.{every_parts}
+use Rattle.lisp_eval.proofs.CallsMade.{every_parts}
 use Rattle.lisp_eval.proofs.Along.{then_is}
 use Rattle.lisp_eval.proofs.More.{thread_grow, threaded_more}
 use Rattle.lisp_eval.proofs.Values.{value_seen, HasPlain, threaded_plain, call_value_unique}

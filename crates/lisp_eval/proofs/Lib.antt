@@ -1,6 +1,7 @@
 pub mod Along
+pub mod Amongs
 pub mod AppliedGo
-pub mod Calls
+pub mod CallsMade
 pub mod Charges
 pub mod Cover
 pub mod Environments

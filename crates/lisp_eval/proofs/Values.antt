@@ -12,7 +12,7 @@ use Rattle.gl_logic.proofs.Walks.{opened_more}
 use Rattle.gl_logic.specs.Every.{Every}
 use Rattle.lisp_eval.specs.Threads.{Thread, Threads, after, closed, thread_by, threads_by, stays_shut, finished, skipped, plain_call, threaded, thread}
 use Rattle.lisp_eval.specs.CallValue.{IsCallValue}
-use Rattle.lisp_eval.proofs.Calls.{every_parts}
+use Rattle.lisp_eval.proofs.CallsMade.{every_parts}
 use Rattle.lisp_eval.proofs.Along.{then_is}
 use Rattle.lisp_eval.proofs.Levels.{body_is}
 

@@ -4,6 +4,7 @@ pub mod CallValue
 pub mod Costs
 pub mod Frames
 pub mod Gives
+pub mod Kept
 pub mod Moves
 pub mod States
 pub mod Threads

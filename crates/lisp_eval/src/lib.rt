@@ -2,6 +2,7 @@
 #![tactic(auto)]
 
 mod bindings;
+mod calls;
 mod frame;
 pub mod laws;
 mod primitives;

@@ -1,15 +1,19 @@
 //! The steps that make no call and no cell.
 
-ghost use Rattle.std.specs.Prelude.{◌≡◌, ◌≢◌, [], ◌++◌, ◌∷◌, IfOk, List};
+ghost use Rattle.std.specs.Prelude.{◌≡◌, ◌≢◌, [], ◌++◌, ◌∷◌, IfOk, OnOk, List};
 ghost use Rattle.gl_logic.specs.Object.{Object};
+ghost use Rattle.hons_arena.specs.Ids.{object_at, IsLive};
 ghost use Rattle.gl_logic.specs.TermOf.{term_of, terms_of};
-ghost use Rattle.lisp_eval.specs.Moves.{begun, entered, IsNoConstant};
-ghost use Rattle.lisp_eval.specs.States.{env_of, work_of, values_of, IsNext};
+ghost use Rattle.lisp_eval.specs.Moves.{begun, entered, handed, IsNoConstant};
+ghost use Rattle.lisp_eval.specs.States.{env_of, work_of, values_of, frame_of, IsNext};
+ghost use Rattle.lisp_eval.specs.Kept.{KeepsCall};
 
 use crate::bindings::look;
 use crate::frame::{Binding, Focus, Frame, Work};
 use gl_logic::{NoMemory, Term};
-use hons_arena::Id;
+use crate::primitives::is_nil;
+use hons_arena::{HonsArena, Id};
+use memo_tables::MemoTables;
 use std::alloc::Global;
 use std::rc::Rc;
 
@@ -66,5 +70,42 @@ pub fn visit<'a>(
             env,
             frames,
         ),
+    }
+}
+
+/// Hands a value to a frame. The call of a frame that is to be kept is kept then.
+pub fn hand<'a>(
+    frame: Frame<'a>,
+    value: Id,
+    arena: &HonsArena,
+    memos: &mut MemoTables,
+    frames: &mut Vec<Frame<'a>>,
+) -> Result<Focus<'a>, NoMemory>
+    requires live { IsLive arena.now.objects value }
+    ensures next { (more : List Object) → IfOk result (λ f. IsNext (arena.now.objects ++ more) (handed (frame_of (arena.now.objects ++ more) frame.entry) (object_at arena.now.objects value)) frames.old.items f frames.new.items) }
+    ensures keeps { OnOk result (KeepsCall frame.entry value memos.old memos.new) }
+{
+    match frame {
+        Frame::Branch(then, otherwise, env) => {
+            if is_nil(arena, value) {
+                Ok(Focus::Visit(otherwise, env))
+            } else {
+                Ok(Focus::Visit(then, env))
+            }
+        }
+        Frame::Arguments(work, done, terms, env) => {
+            let mut done = done;
+            done.push(value)?;
+            begin(work, done, terms, env, frames)
+        }
+        Frame::Keep(call) => {
+            match memos.look(&call) {
+                Some(_) => Ok(Focus::Give(value)),
+                None => {
+                    memos.keep(call, value)?;
+                    Ok(Focus::Give(value))
+                }
+            }
+        }
     }
 }
