@@ -7,6 +7,7 @@ pub mod Cover
 pub mod Environments
 pub mod Followed
 pub mod Goes
+pub mod Going
 pub mod Law
 pub mod Levels
 pub mod More
@@ -17,4 +18,5 @@ pub mod Seen
 pub mod Structural
 pub mod TermForms
 pub mod Values
+pub mod Within
 pub mod Worked

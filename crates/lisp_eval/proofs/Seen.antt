@@ -4,10 +4,7 @@ use Rattle.gl_logic.specs.Object.{Object, Int, Character, Symbol, Text, Cons, ni
 use Rattle.gl_logic.specs.Width.{Fits}
 use Rattle.gl_logic.specs.Wide.{IsWideObject, SomeWide}
 use Rattle.gl_logic.specs.Every.{Every}
-
--- x is an element
-abbrev pub IsIn : List Object → Object → Type 0
-IsIn xs x = (k : ℕ) × (slice_get xs k ≡ Some x)
+use Rattle.lisp_eval.specs.Within.{IsIn}
 
 in_more : (x : Object) (xs ys : List Object) → Every (IsIn xs) ys → Every (IsIn (x ∷ xs)) ys
 in_more x xs [] h = tt

@@ -1,3 +1,4 @@
+pub mod Answers
 pub mod Applied
 pub mod Bindings
 pub mod CallValue
@@ -8,3 +9,4 @@ pub mod Kept
 pub mod Moves
 pub mod States
 pub mod Threads
+pub mod Within

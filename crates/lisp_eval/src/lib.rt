@@ -6,6 +6,7 @@ mod calls;
 mod frame;
 pub mod laws;
 mod primitives;
+mod run;
 mod steps;
 
 pub use primitives::{PrimFault, primitive};
