@@ -15,6 +15,9 @@ pub mod MovesGo
 pub mod PrimValues
 pub mod Running
 pub mod Seen
+pub mod Standing
+pub mod State
+pub mod StateApplies
 pub mod Structural
 pub mod TermForms
 pub mod Values

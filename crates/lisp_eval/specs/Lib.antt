@@ -2,6 +2,7 @@ pub mod Answers
 pub mod Applied
 pub mod Bindings
 pub mod CallValue
+pub mod Compound
 pub mod Costs
 pub mod Frames
 pub mod Gives
