@@ -12,14 +12,17 @@ pub mod Law
 pub mod Levels
 pub mod More
 pub mod MovesGo
+pub mod Places
 pub mod PrimValues
 pub mod Running
 pub mod Seen
 pub mod Standing
 pub mod State
 pub mod StateApplies
+pub mod StateGives
 pub mod Structural
 pub mod TermForms
+pub mod Turns
 pub mod Values
 pub mod Within
 pub mod Worked

@@ -63,3 +63,6 @@ pub record FitMemos (definitions : List Definition) (objects : List Object) (ent
   pub calls : List (CallMade × Object)
   pub stand : (more : List Object) → entries_of (objects ++ more) entries ≡ calls
   pub right : Every (IsRightEntry definitions) calls
+
+abbrev pub HasGrown : List Object → List Object → Type 0
+HasGrown old new = (made : List Object) × (new ≡ old ++ made)

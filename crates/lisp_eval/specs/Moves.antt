@@ -43,7 +43,3 @@ abbrev pub handed_kept : Frame → List CallMade → List CallMade
 handed_kept (Branch a b env) kept = kept
 handed_kept (Arguments w done ts env) kept = kept
 handed_kept (Keep f xs) kept = (f, xs) ∷ kept
-
-abbrev pub IsNoConstant : Exp → Type 0
-IsNoConstant (Const x) = ⊥
-IsNoConstant _ = Unit {0}

@@ -4,11 +4,12 @@ ghost use Rattle.std.specs.Prelude.{◌≡◌, ◌≢◌, [], ◌++◌, ◌∷�
 ghost use Rattle.gl_logic.specs.Object.{Object};
 ghost use Rattle.hons_arena.specs.Ids.{object_at, IsLive};
 ghost use Rattle.gl_logic.specs.TermOf.{term_of, terms_of};
-ghost use Rattle.lisp_eval.specs.Moves.{begun, entered, handed, IsNoConstant};
+ghost use Rattle.lisp_eval.specs.Moves.{begun, entered, handed};
+ghost use Rattle.lisp_eval.specs.Compound.{IsCompound};
 ghost use Rattle.lisp_eval.specs.States.{env_of, work_of, values_of, frame_of, IsNext};
 ghost use Rattle.lisp_eval.specs.Kept.{KeepsCall};
 
-use crate::bindings::look;
+
 use crate::frame::{Binding, Focus, Frame, Work};
 use gl_logic::{NoMemory, Term};
 use crate::primitives::is_nil;
@@ -35,18 +36,18 @@ pub fn begin<'a>(
     Ok(Focus::Visit(&terms[0], inner))
 }
 
-/// Goes into a term that is no constant.
+/// Goes into a term with parts.
 pub fn visit<'a>(
     term: &'a Term,
     env: Rc<Vec<Binding>>,
     alloc: Global,
     frames: &mut Vec<Frame<'a>>,
 ) -> Result<Focus<'a>, NoMemory>
-    requires { IsNoConstant (term_of term.now) }
+    requires { IsCompound (term_of term.now) }
     ensures next { (objects : List Object) → IfOk result (λ f. IsNext objects (entered (term_of term.now) (env_of objects env.value.items)) frames.old.items f frames.new.items) }
 {
     match term {
-        Term::Var(name) => Ok(Focus::Give(look(env.as_ref().as_slice(), *name))),
+        Term::Var(_) => unreachable!(),
         Term::Const(_) => unreachable!(),
         Term::If(test, then, otherwise) => {
             let inner = env.clone()?;

@@ -14,15 +14,6 @@ use Rattle.lisp_eval.proofs.Environments.{next_at, var_next, frames_push}
 use Rattle.lisp_eval.proofs.TermForms.{var_term, if_term, prim_term, call_term, let_term}
 use Rattle.lisp_eval.proofs.steps.visit.Goals as goal
 
-pub returns-in-Var : goal.returns-in-Var
-returns-in-Var c =
-    let env = c.args.env.value.items in
-    let at : term_of c.args.term.now ≡ exp.Var c.in-Var.name.number = ap term_of c.in-Var.is ∙ var_term c.in-Var.name in
-    let id : c.look.result ≡ id_in env c.in-Var.name.number = search rules in
-    record {
-      next = λ objects. subst (λ (t : Exp). IsNext objects (entered t (env_of objects env)) c.args.frames.now.items (focus.Give c.look.result) c.args.frames.now.items) (sym at) (var_next objects env c.in-Var.name.number c.look.result c.args.frames.now.items id);
-    }
-
 pub returns-in-Prim : goal.returns-in-Prim
 returns-in-Prim c =
     let env = c.args.env.value.items in
