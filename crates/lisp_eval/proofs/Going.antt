@@ -46,7 +46,7 @@ module _ (w : WorldSeen) (functions : List ℕ) (env : List (ℕ × Object)) (t 
   abbrev ds : List Definition
   ds = w.definitions
 
-  abbrev run_of : (depth : ℕ) (r : Walk) → walk ds depth env t ≡ Some r → List CallMade → Thread
+  abbrev pub run_of : (depth : ℕ) (r : Walk) → walk ds depth env t ≡ Some r → List CallMade → Thread
   run_of depth r walks first = (there (IsIn r.seen) Narrow ds [] functions (no_answers ds) depth env t r walks (every_in r.seen) first).run
 
   pub record Going (left : ℕ) (focus : Focus) (frames : List Frame) (kept : List CallMade) (objects : List Object) : Type 0 where

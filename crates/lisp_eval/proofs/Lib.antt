@@ -8,6 +8,7 @@ pub mod Environments
 pub mod Followed
 pub mod Goes
 pub mod Going
+pub mod Grown
 pub mod Law
 pub mod Levels
 pub mod More

@@ -42,6 +42,7 @@ gives_cell old new v id cell i = record {
   limit = i.limit;
   wide = λ e. absurd cc;
   full = λ e. absurd cc;
+  cell = λ e. cell;
   unchanged = tt;
 }
 
@@ -57,16 +58,17 @@ the_answer f = Err f
 err_same : (f g : PrimFault) → the_answer f ≡ the_answer g → f ≡ g
 err_same f g e = cc
 
-gives_full : (old new : Held) (v : Object) (r : Result Id Full) (answer : Result Id PrimFault) → IsErr r → answer ≡ Err fault.Full → Interns old new v r → Gives old new v answer
-gives_full old new v (Ok id) answer e f i = absurd cc
-gives_full old new v (Err u) answer e f i = subst (λ (a : Result Id PrimFault). Gives old new v a) (sym f) (record {
+gives_full : (old new : Held) (v : Object) → is_cell v ≡ true → (r : Result Id Full) (answer : Result Id PrimFault) → IsErr r → answer ≡ Err fault.Full → Interns old new v r → Gives old new v answer
+gives_full old new v cell (Ok id) answer e f i = absurd cc
+gives_full old new v cell (Err u) answer e f i = subst (λ (a : Result Id PrimFault). Gives old new v a) (sym f) (record {
   id = tt;
   objects = subst (λ (h : Held). Rattle.hons_arena.specs.Held.AddsCellsOf v old.objects h.objects) (sym i.unchanged) (adds_none v old.objects);
   limit = i.limit;
   wide = λ g. not_wide (err_same fault.Full fault.Wide g);
   full = λ g. i.full.0 refl;
+  cell = λ g. cell;
   unchanged = i.unchanged;
 })
 
-pub gives_err : (old new : Held) (v w : Object) (r : Result Id Full) (answer : Result Id PrimFault) → v ≡ w → IsErr r → answer ≡ Err fault.Full → Interns old new w r → Gives old new v answer
-gives_err old new v w r answer e h f i = subst (λ (z : Object). Gives old new z answer) (sym e) (gives_full old new w r answer h f i)
+pub gives_err : (old new : Held) (v w : Object) → is_cell w ≡ true → (r : Result Id Full) (answer : Result Id PrimFault) → v ≡ w → IsErr r → answer ≡ Err fault.Full → Interns old new w r → Gives old new v answer
+gives_err old new v w cell r answer e h f i = subst (λ (z : Object). Gives old new z answer) (sym e) (gives_full old new w cell r answer h f i)

@@ -23,7 +23,8 @@ use Rattle.lisp_eval.specs.Answers.{IsCrowded}
 use Rattle.lisp_eval.specs.Bindings.{id_or_nil}
 use Rattle.lisp_eval.specs.CallValue.{IsCallValue}
 use Rattle.lisp_eval.specs.Frames.{Work, ToPrim, ToCall, ToLet, Frame, Keep, Focus, Visit, Apply, Give, rest_of}
-use Rattle.lisp_eval.specs.Kept.{entry_of, entries_of, kept_frame}
+use Rattle.lisp_eval.specs.Kept.{IsKnown, entry_of, entries_of, kept_frame}
+use Rattle.lisp_eval.specs.declared.calls.Known.TheVariants as known
 use Rattle.lisp_eval.specs.Moves.{Next, on}
 use Rattle.lisp_eval.specs.States.{env_of, values_of, work_of, frame_of, frames_of, focus_of, keep_of, IsNext}
 use Rattle.lisp_eval.specs.Threads.{is_kept, stays_shut}
@@ -193,8 +194,11 @@ module _ (w : WorldSeen) (functions : List ℕ) (env : List (ℕ × Object)) (t 
             }
 
       -- that is opened
+      pub call_definition : (d : Definition) × (slice_get w.definitions f.number ≡ Some d)
+      call_definition = call_is_there w.definitions functions at_call.depth f.number values s.stack s.kept at_call.running.rest at_call.running.is
+
       pub call_there : f.number < length w.definitions
-      call_there = let k = call_is_there w.definitions functions at_call.depth f.number values s.stack s.kept at_call.running.rest at_call.running.is in below_at w.definitions f.number k.0 k.1
+      call_there = below_at w.definitions f.number call_definition.0 call_definition.1
 
       open_state : (d : Definition) → (k : program.Focus) (frames' : List held.Frame) (keep : Option Call) (pushed : List Frame)
           → StepOn w functions env t limit start left (Apply (ToCall f.number) values) s.stack s.kept objects at_call [] left (Visit d.body (extended d.formals values [])) (s.stack ++ pushed) s.kept
@@ -244,3 +248,8 @@ module _ (w : WorldSeen) (functions : List ℕ) (env : List (ℕ × Object)) (t 
                 (at_once (λ all. values_of all g.0.0.arguments) e.0.0.1 objects stands ∙ (ap (λ (z : CallMade). z.1) e.1.1 ∙ sym (at_once (λ all. values_of all args.items) values objects values_stand))) in
             let c : At entries k.0 (record { function = f.number; arguments = args.items }, g.0.1) = subst (λ (z : Call). At entries k.0 (z, g.0.1)) (λ j. record { function = number j; arguments = ids j }) g.1.0 in
             absent (g.0.1, contains_at entries k.0 (record { function = f.number; arguments = args.items }, g.0.1) c))
+
+      pub opens_known : ((a b : Id) → IsLive objects a → IsLive objects b → object_at objects a ≡ object_at objects b → a ≡ b) → (d : Definition) → slice_get w.definitions f.number ≡ Some d → (keep : Option Call) → IsKnown functions entries (record { function = f.number; arguments = args.items }) (known.Opens keep)
+          → (k : program.Focus) (frames' : List held.Frame) → ((all : List Object) → IsNext all (record { focus = Visit d.body (extended d.formals (values_of all args.items) []); pushed = kept_frame all keep }) frames k frames') → State w functions env t limit start left k frames' objects entries
+      opens_known same_id d there None h k frames' n = opens_plain d there h k frames' n
+      opens_known same_id d there (Some c) h k frames' n = opens_kept same_id d there h.0 c h.1.0 h.1.1 k frames' n

@@ -64,31 +64,28 @@ or_held false b h = refl
 
 module _ (w : WorldSeen) (functions : List ℕ) (env : List (ℕ × Object)) (t : Exp) (limit : ℕ) (start : List Object) where
   -- ---- the start
-  module _ (u : _) (uenv : _) (entries : List (Call × Id)) (fit : FitMemos w.definitions start entries) where
-    firsts : List CallMade
-    firsts = map (λ e. e.0) fit.calls
+  firsts_fine : (es : List (CallMade × Object)) → Every (IsRightEntry w.definitions) es → Every (IsFineCall w.definitions Narrow) (map (λ e. e.0) es)
+  firsts_fine [] h = tt
+  firsts_fine (e ∷ es) h = (narrow_fine w.definitions e.0 h.0.narrow, firsts_fine es h.1)
 
-    firsts_fine : (es : List (CallMade × Object)) → Every (IsRightEntry w.definitions) es → Every (IsFineCall w.definitions Narrow) (map (λ e. e.0) es)
-    firsts_fine [] h = tt
-    firsts_fine (e ∷ es) h = (narrow_fine w.definitions e.0 h.0.narrow, firsts_fine es h.1)
+  firsts_right : (es : List (CallMade × Object)) → Every (IsRightEntry w.definitions) es → Every (λ e. IsCallValue w.definitions e.0.0 e.0.1 e.1) es
+  firsts_right [] h = tt
+  firsts_right (e ∷ es) h = (h.0.value, firsts_right es h.1)
 
-    firsts_right : (es : List (CallMade × Object)) → Every (IsRightEntry w.definitions) es → Every (λ e. IsCallValue w.definitions e.0.0 e.0.1 e.1) es
-    firsts_right [] h = tt
-    firsts_right (e ∷ es) h = (h.0.value, firsts_right es h.1)
-
-    pub state_start : (frames : List held.Frame) → frames ≡ [] → (n : ℕ) (x : Object) → evaluate w.definitions n env t ≡ Some x → term_of u.now ≡ t → ((more : List Object) → env_of (start ++ more) uenv.value.items ≡ env) → State w functions env t limit start limit (focus.Visit u uenv) frames start entries
-    state_start frames none n x e is_term env_stands = record {
-      focus = Visit t env;
-      stack = [];
-      kept = map (λ k. k.0) fit.calls;
-      calls = fit.calls;
-      going = going_start w functions env t limit start n x (map (λ k. k.0) fit.calls) e (firsts_fine fit.calls fit.right);
-      focus_is = λ more. (λ j. Visit (is_term j) (env_stands more j));
-      frames_are = λ more. ap (frames_of (start ++ more)) none;
-      entries_are = fit.stand;
-      right = firsts_right fit.calls fit.right;
-      same = λ c. refl;
-    }
+  pub state_start : (now : program.Focus) (frames : List held.Frame) (entries : List (Call × Id)) → FitMemos w.definitions start entries → frames ≡ [] → (n : ℕ) (x : Object) → evaluate w.definitions n env t ≡ Some x
+      → ((more : List Object) → focus_of (start ++ more) now ≡ Visit t env) → State w functions env t limit start limit now frames start entries
+  state_start now frames entries fit none n x e stands = record {
+    focus = Visit t env;
+    stack = [];
+    kept = map (λ k. k.0) fit.calls;
+    calls = fit.calls;
+    going = going_start w functions env t limit start n x (map (λ k. k.0) fit.calls) e (firsts_fine fit.calls fit.right);
+    focus_is = stands;
+    frames_are = λ more. ap (frames_of (start ++ more)) none;
+    entries_are = fit.stand;
+    right = firsts_right fit.calls fit.right;
+    same = λ c. refl;
+  }
 
   -- ---- a value is there
   module _ (left : ℕ) (id : Id) (frames : List held.Frame) (objects : List Object) (entries : List (Call × Id)) (s : State w functions env t limit start left (focus.Give id) frames objects entries) where

@@ -1,6 +1,7 @@
 -- The value of a primitive on ids of an arena.
 use Rattle.std.specs.Prelude.{◌≡◌, Bool, true, false, Result, IfOk, OnErr, IsErrOf, ◌⊎◌}
 use Rattle.gl_logic.specs.Object.{Object}
+use Rattle.gl_logic.specs.Parts.{is_cell}
 use Rattle.gl_logic.specs.Wide.{IsWideObject}
 use Rattle.gl_logic.specs.declared.prim.Primitive.{Primitive}
 use Rattle.gl_logic.specs.declared.prim.Primitive.TheVariants as prim
@@ -37,4 +38,5 @@ pub record Gives (old new : Held) (value : Object) (answer : Result Id PrimFault
   pub limit : new.limit ≡ old.limit
   pub wide : IsErrOf answer fault.Wide → IsWideObject value
   pub full : IsErrOf answer fault.Full → HasNoCell old value
+  pub cell : IsErrOf answer fault.Full → is_cell value ≡ true
   pub unchanged : OnErr answer (new ≡ old)

@@ -64,17 +64,17 @@ pub fn look_up(
 /// Opens a call: its body is visited, with the formals bound to the arguments.
 pub fn open<'a>(
     f: FnId,
-    args: &[Id],
+    args: Vec<Id>,
     keep: Option<MemoCall>,
     world: &'a World,
     alloc: Global,
     frames: &mut Vec<Frame<'a>>,
 ) -> Result<Focus<'a>, NoMemory>
     requires { f.number < length world.now.definitions }
-    ensures next { (objects : List Object) (d : Definition) → slice_get world.now.definitions f.number ≡ Some d → IfOk result (λ o. IsNext objects (record { focus = Visit d.body (extended d.formals (values_of objects args.now) []); pushed = kept_frame objects keep }) frames.old.items o frames.new.items) }
+    ensures next { (objects : List Object) (d : Definition) → slice_get world.now.definitions f.number ≡ Some d → IfOk result (λ o. IsNext objects (record { focus = Visit d.body (extended d.formals (values_of objects args.items) []); pushed = kept_frame objects keep }) frames.old.items o frames.new.items) }
 {
     let def = world.def(f);
-    let env = Rc::new(alloc, bind(alloc, &def.formals, args, &[])?)?;
+    let env = Rc::new(alloc, bind(alloc, &def.formals, args.as_slice(), &[])?)?;
     match keep {
         None => Ok(Focus::Visit(&def.body, env)),
         Some(call) => {
@@ -88,12 +88,12 @@ pub fn open<'a>(
 pub fn bound<'a>(
     names: &'a Names,
     body: &'a Term,
-    values: &[Id],
-    outer: &[Binding],
+    values: Vec<Id>,
+    outer: Rc<Vec<Binding>>,
     alloc: Global,
 ) -> Result<Focus<'a>, NoMemory>
-    ensures next { (objects : List Object) (frames : List FrameSeen) → IfOk result (λ o. IsNext objects (record { focus = Visit (term_of body.now) (extended names.now (values_of objects values.now) (env_of objects outer.now)); pushed = [] }) frames o frames) }
+    ensures next { (objects : List Object) (frames : List FrameSeen) → IfOk result (λ o. IsNext objects (record { focus = Visit (term_of body.now) (extended names.now (values_of objects values.items) (env_of objects outer.value.items)); pushed = [] }) frames o frames) }
 {
-    let env = Rc::new(alloc, bind(alloc, names, values, outer)?)?;
+    let env = Rc::new(alloc, bind(alloc, names, values.as_slice(), outer.as_ref().as_slice())?)?;
     Ok(Focus::Visit(body, env))
 }

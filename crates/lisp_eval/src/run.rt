@@ -114,11 +114,11 @@ pub fn run<'a>(
                     }
                     Known::Opens(keep) => {
                         let _held = arena.count();
-                        focus = open(f, values.as_slice(), keep, world, alloc, &mut frames)?;
+                        focus = open(f, values, keep, world, alloc, &mut frames)?;
                     }
                 },
                 Work::Let(names, body) => {
-                    focus = bound(names, body, values.as_slice(), outer.as_ref().as_slice(), alloc)?;
+                    focus = bound(names, body, values, outer, alloc)?;
                 }
             },
             Focus::Give(value) => match frames.pop() {

@@ -44,6 +44,7 @@ pub fn visit<'a>(
     frames: &mut Vec<Frame<'a>>,
 ) -> Result<Focus<'a>, NoMemory>
     requires { IsCompound (term_of term.now) }
+    ensures parts { IsCompound (term_of term.now) }
     ensures next { (objects : List Object) → IfOk result (λ f. IsNext objects (entered (term_of term.now) (env_of objects env.value.items)) frames.old.items f frames.new.items) }
 {
     match term {

@@ -18,7 +18,7 @@ returns-in_err-int-in-Ok c =
     let full : c.from_residual.result ≡ Err fault.Full = search rules in
     let interns : Interns c.args.arena.now c.int.new.self (Int c.in-Ok.i) c.int.result = search rules in
     let err : IsErr c.int.result = search rules in
-    gives_err c.args.arena.now c.int.new.self (prim_of c.args.prim x y) (Int c.in-Ok.i) c.int.result c.from_residual.result value err full interns
+    gives_err c.args.arena.now c.int.new.self (prim_of c.args.prim x y) (Int c.in-Ok.i) refl c.int.result c.from_residual.result value err full interns
 
 pub returns-in_ok-int-in-Ok : goal.returns-in_ok-int-in-Ok
 returns-in_ok-int-in-Ok c =
