@@ -1,5 +1,5 @@
 -- Turns that a focus may still take before a term is visited.
-use Rattle.std.proofs.Common.{◌≡◌, ◌∙◌, ap, sym, refl, ℕ, ◌+◌, ◌*◌, ◌<◌, ◌≤◌, arith, List, [], ◌∷◌, ◌++◌, length, length-append, Option, None, Some}
+use Rattle.std.proofs.Common.{◌≡◌, ◌∙◌, ap, sym, refl, ℕ, suc, ◌+◌, ◌*◌, ◌<◌, ◌≤◌, arith, List, [], ◌∷◌, ◌++◌, length, length-append, Option, None, Some}
 use Rattle.std.specs.Prelude.{map}
 use Rattle.gl_logic.specs.Exp.{Exp, Exps, Last, More}
 use Rattle.gl_logic.specs.Object.{Object}
@@ -27,7 +27,7 @@ turns_same objects (focus.Give x) = refl
 
 count_same : (objects : List Object) (fs : List held.Frame) → length (frames_of objects fs) ≡ length (frames_of [] fs)
 count_same objects [] = refl
-count_same objects (f ∷ fs) = ap (λ n. n + 1) (count_same objects fs)
+count_same objects (f ∷ fs) = ap suc (count_same objects fs)
 
 kept_few : (objects : List Object) (keep : Option Call) → length (kept_frame objects keep) ≤ 1
 kept_few objects None = omega arith

@@ -1,5 +1,5 @@
 -- What an evaluation answers, and when.
-use Rattle.std.specs.Prelude.{◌≡◌, ◌<◌, ◌++◌, ℕ, List, length, map, Some, Result, IfOk}
+use Rattle.std.specs.Prelude.{◌≡◌, ◌<◌, ◌++◌, ℕ, List, length, map, Some, Result, IfOk, IsErrOf}
 use Rattle.gl_logic.specs.Object.{Object}
 use Rattle.gl_logic.specs.ObjectEq.{object_eq}
 use Rattle.gl_logic.specs.Definition.{Definition}
@@ -13,6 +13,7 @@ use Rattle.gl_logic.specs.Wide.{IsWide, IsWideObject}
 use Rattle.gl_logic.specs.WorldSeen.{WorldSeen}
 use Rattle.gl_logic.specs.Walk.{Walk, CallMade, body_walk}
 use Rattle.hons_arena.specs.declared.id.Id.{Id}
+use Rattle.hons_arena.specs.Held.{Held}
 use Rattle.hons_arena.specs.Ids.{object_at, IsLive, IsIdOf}
 use Rattle.memo_tables.specs.Calls.{Call}
 use Rattle.lisp_eval.specs.CallValue.{IsCallValue}
@@ -21,6 +22,8 @@ use Rattle.lisp_eval.specs.States.{env_of}
 use Rattle.lisp_eval.specs.declared.frame.Binding.{Binding}
 use Rattle.lisp_eval.specs.declared.run.Cause.{Cause}
 use Rattle.lisp_eval.specs.declared.run.Cause.TheVariants as cause
+use Rattle.lisp_eval.specs.declared.fault.EvalFault.{EvalFault}
+use Rattle.lisp_eval.specs.declared.fault.EvalFault.TheVariants as fault
 
 -- at a depth at which the term has a value, the memoized cost exceeds the limit
 pub record IsDear (w : WorldSeen) (functions : List ℕ) (env : List (ℕ × Object)) (t : Exp) (limit : ℕ) : Type 0 where
@@ -66,3 +69,18 @@ pub record FitMemos (definitions : List Definition) (objects : List Object) (ent
 
 abbrev pub HasGrown : List Object → List Object → Type 0
 HasGrown old new = (made : List Object) × (new ≡ old ++ made)
+
+-- ---- of a whole evaluation
+abbrev pub IsLiveBinding : List Object → Binding → Type 0
+IsLiveBinding objects b = IsLive objects b.value
+
+abbrev pub fault_of : Cause → EvalFault
+fault_of cause.Width = fault.Width
+fault_of cause.Steps = fault.Steps
+fault_of cause.Cells = fault.Cells
+
+-- each refusal but want of memory has its cause
+pub record IsLicensed (w : WorldSeen) (functions : List ℕ) (env : List (ℕ × Object)) (t : Exp) (steps : ℕ) (arena : Held) (answer : Result Id EvalFault) : Type 0 where
+  pub width : IsErrOf answer fault.Width → IsWide w.definitions env t
+  pub steps_more : IsErrOf answer fault.Steps → IsDear w functions env t steps
+  pub cells_more : IsErrOf answer fault.Cells → IsCrowded w env t arena.objects arena.limit
