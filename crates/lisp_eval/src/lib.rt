@@ -21,3 +21,6 @@ pub use eval::evaluate;
 pub use fault::EvalFault;
 pub use frame::Binding;
 pub use primitives::{PrimFault, primitive};
+
+#[cfg(test)]
+mod tests;
