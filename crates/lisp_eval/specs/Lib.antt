@@ -8,6 +8,7 @@ pub mod Frames
 pub mod Gives
 pub mod Kept
 pub mod Moves
+pub mod Nexts
 pub mod States
 pub mod Threads
 pub mod Within

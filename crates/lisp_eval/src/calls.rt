@@ -1,15 +1,10 @@
 //! Calls of definitions.
 
-ghost use Rattle.std.specs.Prelude.{◌≡◌, ◌<◌, [], ◌++◌, length, List, Some, IfOk, IfSome, slice_get};
-ghost use Rattle.gl_logic.specs.Definition.{Definition};
-ghost use Rattle.gl_logic.specs.Environment.{extended};
+ghost use Rattle.std.specs.Prelude.{◌≡◌, ◌<◌, length, IfOk};
 ghost use Rattle.gl_logic.specs.Counts.{is_among};
-ghost use Rattle.gl_logic.specs.Object.{Object};
 ghost use Rattle.gl_logic.specs.TermOf.{term_of};
-ghost use Rattle.lisp_eval.specs.Frames.{Visit};
-ghost use Rattle.lisp_eval.specs.declared.frame.Frame.{Frame as FrameSeen};
-ghost use Rattle.lisp_eval.specs.Kept.{IsKnown, kept_frame};
-ghost use Rattle.lisp_eval.specs.States.{env_of, values_of, IsNext};
+ghost use Rattle.lisp_eval.specs.Kept.{IsKnown};
+ghost use Rattle.lisp_eval.specs.Nexts.{Opens, Binds};
 
 use crate::bindings::bind;
 use crate::frame::{Binding, Focus, Frame};
@@ -71,7 +66,7 @@ pub fn open<'a>(
     frames: &mut Vec<Frame<'a>>,
 ) -> Result<Focus<'a>, NoMemory>
     requires { f.number < length world.now.definitions }
-    ensures next { (objects : List Object) (d : Definition) → slice_get world.now.definitions f.number ≡ Some d → IfOk result (λ o. IsNext objects (record { focus = Visit d.body (extended d.formals (values_of objects args.items) []); pushed = kept_frame objects keep }) frames.old.items o frames.new.items) }
+    ensures next { Opens world.now.definitions f.number args.items keep frames.old.items frames.new.items result }
 {
     let def = world.def(f);
     let env = Rc::new(alloc, bind(alloc, &def.formals, args.as_slice(), &[])?)?;
@@ -92,7 +87,7 @@ pub fn bound<'a>(
     outer: Rc<Vec<Binding>>,
     alloc: Global,
 ) -> Result<Focus<'a>, NoMemory>
-    ensures next { (objects : List Object) (frames : List FrameSeen) → IfOk result (λ o. IsNext objects (record { focus = Visit (term_of body.now) (extended names.now (values_of objects values.items) (env_of objects outer.value.items)); pushed = [] }) frames o frames) }
+    ensures next { Binds names.now (term_of body.now) values.items outer.value.items result }
 {
     let env = Rc::new(alloc, bind(alloc, names, values.as_slice(), outer.as_ref().as_slice())?)?;
     Ok(Focus::Visit(body, env))

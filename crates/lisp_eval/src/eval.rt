@@ -1,9 +1,10 @@
 //! The evaluator.
 
-ghost use Rattle.std.specs.Prelude.{◌≡◌, ◌≤◌, [], All, IfOk, OnErr, OnOk, MatchResult, length, take};
+ghost use Rattle.std.specs.Prelude.{◌≡◌, ◌≤◌, [], All, IfOk, OnErr, OnOk, length, take};
 ghost use Rattle.gl_logic.specs.IsTermOf.{IsTermOf};
 ghost use Rattle.gl_logic.specs.TermOf.{term_of};
-ghost use Rattle.lisp_eval.specs.Answers.{IsValueOf, IsCauseOf, IsLicensed, FitMemos, HasGrown, IsLiveBinding};
+ghost use Rattle.lisp_eval.specs.Answers.{IsValueOf, IsLicensed, FitMemos, HasGrown, IsLiveBinding};
+ghost use Rattle.lisp_eval.specs.Nexts.{Answered};
 ghost use Rattle.lisp_eval.specs.States.{env_of};
 
 use crate::fault::{EvalFault, fault_for};
@@ -72,7 +73,7 @@ fn started(
     requires term { IsTermOf world.now.definitions (term_of term.now) }
     requires env { All (IsLiveBinding arena.old.objects) env.now }
     requires memos { FitMemos world.now.definitions arena.old.objects memos.old }
-    ensures answer { IfOk result (λ r. MatchResult r (IsValueOf world.now (env_of arena.old.objects env.now) (term_of term.now) arena.new.objects) (IsCauseOf world.now functions.now (env_of arena.old.objects env.now) (term_of term.now) steps arena.old.objects arena.old.limit)) }
+    ensures answer { IfOk result (Answered world.now functions.now env.now (term_of term.now) steps arena.old arena.new) }
     ensures memos { IfOk result (λ r. OnOk r (FitMemos world.now.definitions arena.new.objects memos.new)) }
     ensures grown { HasGrown arena.old.objects arena.new.objects }
     ensures limit { arena.new.limit ≡ arena.old.limit }

@@ -1,13 +1,12 @@
 //! The evaluator's loop.
 
-ghost use Rattle.std.specs.Prelude.{◌≡◌, ◌++◌, List, IfOk, OnOk, MatchResult};
+ghost use Rattle.std.specs.Prelude.{◌≡◌, IfOk, OnOk};
 ghost use Rattle.gl_logic.specs.IsTermOf.{IsTermOf};
-ghost use Rattle.gl_logic.specs.Object.{Object};
 ghost use Rattle.gl_logic.specs.TermOf.{term_of};
 ghost use Rattle.gl_logic.specs.Wide.{IsWideObject};
 ghost use Rattle.hons_arena.specs.Ids.{object_at, IsLive};
-ghost use Rattle.lisp_eval.specs.Answers.{IsValueOf, IsCauseOf, FitMemos, HasGrown};
-ghost use Rattle.lisp_eval.specs.States.{env_of};
+ghost use Rattle.lisp_eval.specs.Answers.{FitMemos, HasGrown};
+ghost use Rattle.lisp_eval.specs.Nexts.{Answered, Stand};
 
 use crate::bindings::{id_at, look};
 use crate::calls::{Known, bound, look_up, open};
@@ -54,9 +53,9 @@ pub fn run<'a>(
     memos: &mut MemoTables,
 ) -> Result<Result<Id, Cause>, NoMemory>
     requires term { IsTermOf world.now.definitions (term_of term.now) }
-    requires env { (more : List Object) → env_of (arena.old.objects ++ more) env.value.items ≡ env_of arena.old.objects env.value.items }
+    requires env { Stand arena.old.objects env.value.items }
     requires memos { FitMemos world.now.definitions arena.old.objects memos.old }
-    ensures answer { IfOk result (λ r. MatchResult r (IsValueOf world.now (env_of arena.old.objects env.value.items) (term_of term.now) arena.new.objects) (IsCauseOf world.now functions.now (env_of arena.old.objects env.value.items) (term_of term.now) limit arena.old.objects arena.old.limit)) }
+    ensures answer { IfOk result (Answered world.now functions.now env.value.items (term_of term.now) limit arena.old arena.new) }
     ensures memos { IfOk result (λ r. OnOk r (FitMemos world.now.definitions arena.new.objects memos.new)) }
     ensures grown { HasGrown arena.old.objects arena.new.objects }
     ensures limit { arena.new.limit ≡ arena.old.limit }

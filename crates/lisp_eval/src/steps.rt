@@ -1,14 +1,11 @@
 //! The steps that make no call and no cell.
 
-ghost use Rattle.std.specs.Prelude.{◌≡◌, ◌≢◌, [], ◌++◌, ◌∷◌, IfOk, OnOk, List};
-ghost use Rattle.gl_logic.specs.Object.{Object};
+ghost use Rattle.std.specs.Prelude.{OnOk};
+ghost use Rattle.gl_logic.specs.TermOf.{term_of};
 ghost use Rattle.hons_arena.specs.Ids.{object_at, IsLive};
-ghost use Rattle.gl_logic.specs.TermOf.{term_of, terms_of};
-ghost use Rattle.lisp_eval.specs.Moves.{begun, entered, handed};
 ghost use Rattle.lisp_eval.specs.Compound.{IsCompound};
-ghost use Rattle.lisp_eval.specs.States.{env_of, work_of, values_of, frame_of, IsNext};
 ghost use Rattle.lisp_eval.specs.Kept.{KeepsCall};
-
+ghost use Rattle.lisp_eval.specs.Nexts.{Begins, Enters, Hands};
 
 use crate::frame::{Binding, Focus, Frame, Work};
 use gl_logic::{NoMemory, Term};
@@ -26,7 +23,7 @@ pub fn begin<'a>(
     env: Rc<Vec<Binding>>,
     frames: &mut Vec<Frame<'a>>,
 ) -> Result<Focus<'a>, NoMemory>
-    ensures next { (objects : List Object) → IfOk result (λ f. IsNext objects (begun (work_of (env_of objects env.value.items) work.entry) (values_of objects done.items) (terms_of terms.now) (env_of objects env.value.items)) frames.old.items f frames.new.items) }
+    ensures next { Begins work.entry done.items terms.now env.value.items frames.old.items frames.new.items result }
 {
     if terms.is_empty() {
         return Ok(Focus::Apply(work, done, env));
@@ -45,7 +42,7 @@ pub fn visit<'a>(
 ) -> Result<Focus<'a>, NoMemory>
     requires { IsCompound (term_of term.now) }
     ensures parts { IsCompound (term_of term.now) }
-    ensures next { (objects : List Object) → IfOk result (λ f. IsNext objects (entered (term_of term.now) (env_of objects env.value.items)) frames.old.items f frames.new.items) }
+    ensures next { Enters (term_of term.now) env.value.items frames.old.items frames.new.items result }
 {
     match term {
         Term::Var(_) => unreachable!(),
@@ -84,7 +81,7 @@ pub fn hand<'a>(
     frames: &mut Vec<Frame<'a>>,
 ) -> Result<Focus<'a>, NoMemory>
     requires live { IsLive arena.now.objects value }
-    ensures next { (more : List Object) → IfOk result (λ f. IsNext (arena.now.objects ++ more) (handed (frame_of (arena.now.objects ++ more) frame.entry) (object_at arena.now.objects value)) frames.old.items f frames.new.items) }
+    ensures next { Hands arena.now.objects frame.entry (object_at arena.now.objects value) frames.old.items frames.new.items result }
     ensures keeps { OnOk result (KeepsCall frame.entry value memos.old memos.new) }
 {
     match frame {

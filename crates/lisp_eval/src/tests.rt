@@ -16,6 +16,7 @@ use gl_logic::{Def, FnId, Names, NoMemory, Prim, Term, TextId, Tree, World};
 use hons_arena::{HonsArena, Kind};
 use memo_tables::MemoTables;
 use std::alloc::Global;
+use std::process::Abort;
 use std::test::Fail;
 
 // (defun atom (x) (not (consp x))), where x has number 5
@@ -82,6 +83,22 @@ fn kind_of_value(
     }
 }
 
+// rows: the memoized functions, the limits, and what comes
+fn all_rows<R: Abort>(
+    rt: &R,
+    alloc: Global,
+    world: &World,
+    term: &Term,
+    rows: &[(&[u64], u64, u32, Result<Kind, EvalFault>)],
+) -> Result<(), Fail>
+    requires { IsTermOf world.now.definitions (term_of term.now) }
+{
+    for (functions, steps, cells, wanted) in rows {
+        assert!(rt; kind_of_value(alloc, world, term, functions, *steps, *cells)? == *wanted);
+    }
+    Ok(())
+}
+
 #[test]
 fn limits(rt: HostRuntime) -> Result<(), Fail> {
     let world = atoms(rt.alloc())?;
@@ -94,10 +111,7 @@ fn limits(rt: HostRuntime) -> Result<(), Fail> {
         (&[], 10, 2, Err(EvalFault::Steps)),
         (&[1], 10, 2, Err(EvalFault::Steps)),
     ];
-    for (functions, steps, cells, wanted) in rows {
-        assert!(rt; kind_of_value(rt.alloc(), &world, &term, functions, steps, cells)? == wanted);
-    }
-    Ok(())
+    all_rows(&rt, rt.alloc(), &world, &term, &rows)
 }
 
 // (binary-+ most '1)
