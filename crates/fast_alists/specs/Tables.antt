@@ -1,9 +1,10 @@
 -- Tables of lists, and what it is for them to agree with an arena.
 use Rattle.std.specs.Prelude.{◌≡◌, List, Option, None, Some, Result, IfOk, OnOk, cond, ◌⊎◌}
 use Rattle.std.specs.Map.{lookup}
-use Rattle.gl_logic.specs.Object.{Object}
+use Rattle.gl_logic.specs.Object.{Object, Cons}
 use Rattle.hons_arena.specs.declared.id.Id.{Id}
-use Rattle.hons_arena.specs.Ids.{object_at, IsLive}
+use Rattle.hons_arena.specs.Held.{AddsCellsOf}
+use Rattle.hons_arena.specs.Ids.{object_at, IsLive, ArePartsOf}
 use Rattle.fast_alists.specs.Alists.{first_pair}
 use Rattle.fast_alists.specs.Keys.{id_eq}
 
@@ -44,9 +45,21 @@ pub record Covers (objects : List Object) (list rest : Object) (table : List (Id
   pub right : (key pair : Id) → pair_in table key ≡ Some pair → IsFirst objects list key pair
   pub later : (key : Object) → HasKeyOf objects table key ⊎ (first_pair key list ≡ first_pair key rest)
 
+-- a table in which an element is noted covers one element more
+abbrev pub Notes : List Object → Id → List (Id × Id) → List (Id × Id) → Type 0
+Notes objects element old new = (list rest : Object) → Covers objects list (Cons (object_at objects element) rest) old → Covers objects list rest new
+
+-- the ids of the two parts of a cons
+abbrev pub HasParts : List Object → Id → Id × Id → Type 0
+HasParts objects id p = ArePartsOf objects (object_at objects id) p.0 p.1
+
 -- each id in the tables is live, and each table answers as its list does
 abbrev pub Agree : List Object → List (Id × List (Id × Id)) → Type 0
 Agree objects tables = (alist : Id) (table : List (Id × Id)) → table_in tables alist ≡ Some table → IsTable objects alist table
+
+-- whatever cells of an object are added, the tables agree still
+abbrev pub StayAgreed : List (Id × List (Id × Id)) → Type 0
+StayAgreed tables = (x : Object) (old new : List Object) → AddsCellsOf x old new → Agree old tables → Agree new tables
 
 -- ---- how tables change
 -- the key has that pair from then on, and each other key what it had

@@ -5,6 +5,7 @@ use Rattle.gl_logic.specs.Definition.{Definition}
 use Rattle.gl_logic.specs.Evaluate.{HasValue}
 use Rattle.gl_logic.specs.IsGround.{AreGround}
 use Rattle.gl_logic.specs.Object.{Object, nil}
+use Rattle.fast_alists.specs.Alists.{first_pair, forked, with_key}
 
 -- NIL where there is no pair
 abbrev pub pair_or_nil : Option Object → Object
@@ -26,3 +27,13 @@ GetGives definitions key alist x = HasValue definitions [] (constant_call 40 (ke
 
 abbrev pub ForkGives : List Definition → Object → Object → Object → Type 0
 ForkGives definitions alist ans x = HasValue definitions [] (constant_call 42 (alist ∷ ans ∷ [])) x
+
+-- ---- so what the tables answer is right
+abbrev pub AconsIsRight : List Definition → Type 0
+AconsIsRight definitions = (key value alist : Object) → AconsGives definitions key value alist (with_key key value alist)
+
+abbrev pub GetIsRight : List Definition → Type 0
+GetIsRight definitions = (key alist : Object) → GetGives definitions key alist (pair_or_nil (first_pair key alist))
+
+abbrev pub ForkIsRight : List Definition → Type 0
+ForkIsRight definitions = (alist ans : Object) → ForkGives definitions alist ans (forked alist ans)

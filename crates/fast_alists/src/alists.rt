@@ -5,9 +5,9 @@ ghost use Rattle.std.specs.Option.{option_map};
 ghost use Rattle.gl_logic.specs.Object.{Object};
 ghost use Rattle.hons_arena.specs.Held.{IsWhole};
 ghost use Rattle.hons_arena.specs.Ids.{object_at, IsLive};
-ghost use Rattle.fast_alists.specs.Alists.{first_pair, forked, with_key};
+ghost use Rattle.fast_alists.specs.Alists.{pair_object, forked_object};
 ghost use Rattle.fast_alists.specs.Tables.{Agree, HasTable, IsTable, SetsTable, TakesOver, table_in};
-ghost use Rattle.fast_alists.specs.Longer.{IsLonger};
+ghost use Rattle.fast_alists.specs.Longer.{IsLonger, longer_object};
 ghost use Rattle.fast_alists.specs.Makes.{Makes};
 
 use crate::extend::{Longer, extend};
@@ -65,7 +65,7 @@ impl FastAlists {
         requires key { IsLive arena.old.objects key }
         requires value { IsLive arena.old.objects value }
         requires alist { IsLive arena.old.objects alist }
-        ensures makes { Makes arena.old arena.new (with_key (object_at arena.old.objects key) (object_at arena.old.objects value) (object_at arena.old.objects alist)) result }
+        ensures makes { Makes arena.old arena.new (longer_object arena.old.objects key value alist) result }
         ensures agree { Agree arena.new.objects self.new }
         ensures table { TakesOver self.old self.new alist result }
     {
@@ -78,7 +78,7 @@ impl FastAlists {
         requires agree { Agree arena.now.objects self.now }
         requires key { IsLive arena.now.objects key }
         requires alist { IsLive arena.now.objects alist }
-        ensures pair { option_map (object_at arena.now.objects) result ≡ first_pair (object_at arena.now.objects key) (object_at arena.now.objects alist) }
+        ensures pair { option_map (object_at arena.now.objects) result ≡ pair_object arena.now.objects key alist }
         ensures live { IfSome result (λ p. IsLive arena.now.objects p) }
     {
         let key_is_live = arena.is_live(key);
@@ -97,7 +97,7 @@ impl FastAlists {
         requires agree { Agree arena.old.objects self.old }
         requires alist { IsLive arena.old.objects alist }
         requires ans { IsLive arena.old.objects ans }
-        ensures makes { Makes arena.old arena.new (forked (object_at arena.old.objects alist) (object_at arena.old.objects ans)) result }
+        ensures makes { Makes arena.old arena.new (forked_object arena.old.objects alist ans) result }
         ensures agree { Agree arena.new.objects self.new }
         ensures table { IfOk result (HasTable self.new) }
     {

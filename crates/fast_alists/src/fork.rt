@@ -2,7 +2,7 @@
 
 ghost use Rattle.std.specs.Prelude.{IfOk};
 ghost use Rattle.hons_arena.specs.Ids.{object_at, IsLive};
-ghost use Rattle.fast_alists.specs.Alists.{with_pair, forked};
+ghost use Rattle.fast_alists.specs.Alists.{with_pair_object, forked_object};
 ghost use Rattle.fast_alists.specs.Makes.{GoesOn};
 ghost use Rattle.fast_alists.specs.Tables.{IsTable};
 
@@ -21,7 +21,7 @@ pub fn fork_onto(
 ) -> Result<Id, AlistFault>
     requires alist { IsLive arena.old.objects alist }
     requires table { IsTable arena.old.objects ans table.old }
-    ensures makes { GoesOn arena.old arena.new (forked (object_at arena.old.objects alist) (object_at arena.old.objects ans)) result }
+    ensures makes { GoesOn arena.old arena.new (forked_object arena.old.objects alist ans) result }
     ensures table { IfOk result (λ id. IsTable arena.new.objects id table.new) }
 {
     let mut list = alist;
@@ -42,7 +42,7 @@ fn put_in_front(
 ) -> Result<Id, AlistFault>
     requires element { IsLive arena.old.objects element }
     requires table { IsTable arena.old.objects ans table.old }
-    ensures makes { GoesOn arena.old arena.new (with_pair (object_at arena.old.objects element) (object_at arena.old.objects ans)) result }
+    ensures makes { GoesOn arena.old arena.new (with_pair_object arena.old.objects element ans) result }
     ensures table { IfOk result (λ id. IsTable arena.new.objects id table.new) }
 {
     let is_live = arena.is_live(element);

@@ -3,10 +3,9 @@
 ghost use Rattle.std.specs.Prelude.{◌≡◌, IfOk, IfSome, OnOk, MatchOption};
 ghost use Rattle.std.specs.Option.{option_map};
 ghost use Rattle.gl_logic.specs.Lists.{IsAtom};
-ghost use Rattle.gl_logic.specs.Object.{Object, Cons};
-ghost use Rattle.hons_arena.specs.Ids.{object_at, IsLive, ArePartsOf};
-ghost use Rattle.fast_alists.specs.Alists.{first_pair, has_key};
-ghost use Rattle.fast_alists.specs.Tables.{IsTable, Covers};
+ghost use Rattle.hons_arena.specs.Ids.{object_at, IsLive};
+ghost use Rattle.fast_alists.specs.Alists.{pair_object, has_key};
+ghost use Rattle.fast_alists.specs.Tables.{IsTable, HasParts, Notes};
 
 use crate::table::Table;
 use gl_logic::NoMemory;
@@ -16,7 +15,7 @@ use std::alloc::Global;
 /// The ids of the two parts of a cons.
 pub fn parts(arena: &HonsArena, id: Id) -> Option<(Id, Id)>
     requires { IsLive arena.now.objects id }
-    ensures { MatchOption result (IsAtom (object_at arena.now.objects id)) (λ p. ArePartsOf arena.now.objects (object_at arena.now.objects id) p.0 p.1) }
+    ensures { MatchOption result (IsAtom (object_at arena.now.objects id)) (HasParts arena.now.objects id) }
 {
     match arena.kind(id) {
         Kind::Cons => Some((arena.car(id), arena.cdr(id))),
@@ -28,7 +27,7 @@ pub fn parts(arena: &HonsArena, id: Id) -> Option<(Id, Id)>
 pub fn first_pair(arena: &HonsArena, key: Id, alist: Id) -> Option<Id>
     requires key { IsLive arena.now.objects key }
     requires alist { IsLive arena.now.objects alist }
-    ensures pair { option_map (object_at arena.now.objects) result ≡ first_pair (object_at arena.now.objects key) (object_at arena.now.objects alist) }
+    ensures pair { option_map (object_at arena.now.objects) result ≡ pair_object arena.now.objects key alist }
     ensures live { IfSome result (λ p. IsLive arena.now.objects p) }
 {
     let mut list = alist;
@@ -70,7 +69,7 @@ pub fn table_of(alloc: Global, arena: &HonsArena, alist: Id) -> Result<Table, No
 /// Puts an element into a table that lacks its key, if it is a pair.
 fn note(arena: &HonsArena, table: &mut Table, element: Id) -> Result<(), NoMemory>
     requires { IsLive arena.now.objects element }
-    ensures { (list rest : Object) → Covers arena.now.objects list (Cons (object_at arena.now.objects element) rest) table.old → OnOk result (Covers arena.now.objects list rest table.new) }
+    ensures { OnOk result (Notes arena.now.objects element table.old table.new) }
 {
     let is_live = arena.is_live(element);
     prove!(is_live);

@@ -2,4 +2,4 @@ use Rattle.fast_alists.proofs.Agreeing.{tables_stay}
 use Rattle.fast_alists.proofs.laws.tables_stay.Goals as goal
 
 pub returns : goal.returns
-returns c x old new tables adds agree = tables_stay x old new adds tables agree
+returns c tables x old new adds agree = tables_stay x old new adds tables agree

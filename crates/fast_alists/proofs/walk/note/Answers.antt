@@ -13,8 +13,8 @@ returns-in-Some-pair c list rest h =
     skipped_parts objects c.is_live-is_live.ensures.whole.ids c.args.element c.in-Some.key c.in-Some.field-0-1 parts c.requires c.args.table.now c.in-Some-pair.field-0 held list rest h
 
 pub returns-in-None-pair : goal.returns-in-None-pair
-returns-in-None-pair c list rest h =
+returns-in-None-pair c =
     let objects = c.args.arena.now.objects in
     let parts : ArePartsOf objects (object_at objects c.args.element) c.in-Some.key c.in-Some.field-0-1 = search rules in
     let none : pair_in c.args.table.now c.in-Some.key ≡ None = search rules in
-    on_ok_then c.put.result (λ puts. noted_parts objects c.is_live-is_live.ensures.whole.ids c.args.element c.in-Some.key c.in-Some.field-0-1 parts c.requires c.args.table.now c.put.new.self none puts list rest h) c.put.ensures.ok
+    on_ok_then c.put.result (λ puts list rest h. noted_parts objects c.is_live-is_live.ensures.whole.ids c.args.element c.in-Some.key c.in-Some.field-0-1 parts c.requires c.args.table.now c.put.new.self none puts list rest h) c.put.ensures.ok
