@@ -17,7 +17,7 @@ use Rattle.gl_logic.proofs.OwnWalks.{own_walk, own_walk_more}
 use Rattle.gl_logic.specs.Every.{Every}
 use Rattle.gl_logic.proofs.MadeCalls.{every_map}
 use Rattle.lisp_eval.specs.Threads.{Thread, is_kept, thread, met_in, threaded_cost}
-use Rattle.lisp_eval.proofs.Calls.{absent_parts, every_parts, never_inside, not_inside}
+use Rattle.lisp_eval.proofs.CallsMade.{absent_parts, every_parts, never_inside, not_inside}
 use Rattle.lisp_eval.proofs.Charges.{charge, charge_at_most, charge_more, different_has, filter_has, every_own}
 use Rattle.lisp_eval.proofs.Along.{own_of, IsKeptByVisits}
 use Rattle.lisp_eval.proofs.Levels.{IsKeptByCalls, body_is, along}

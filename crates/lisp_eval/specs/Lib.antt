@@ -1,2 +1,14 @@
+pub mod Answers
+pub mod Applied
+pub mod Bindings
+pub mod CallValue
+pub mod Compound
 pub mod Costs
+pub mod Frames
+pub mod Gives
+pub mod Kept
+pub mod Moves
+pub mod Nexts
+pub mod States
 pub mod Threads
+pub mod Within

@@ -1,0 +1,156 @@
+-- The invariant of the evaluator's loop, and its steps.
+use Rattle.std.proofs.Common.{◌≡◌, ◌∙◌, ap, sym, refl, subst, ℕ, zero, suc, ◌+◌, ◌-◌, ◌<◌, ◌≤◌, Bool, true, false, cond, ◌&&◌, List, [], ◌∷◌, ◌++◌, length, get_or, arith, Option, None, Some, slice_get, inl, inr}
+use Rattle.std.specs.Prelude.{map}
+use Rattle.gl_logic.specs.Object.{Object, nil}
+use Rattle.gl_logic.specs.Definition.{Definition}
+use Rattle.gl_logic.specs.Environment.{look, extended}
+use Rattle.gl_logic.specs.Every.{Every}
+use Rattle.gl_logic.specs.Exp.{Exp, Var, Const}
+use Rattle.gl_logic.specs.PrimValue.{prim_of, prim_value}
+use Rattle.gl_logic.specs.TermOf.{term_of}
+use Rattle.gl_logic.specs.Walk.{CallMade}
+use Rattle.gl_logic.specs.Wide.{IsWide, IsWideObject}
+use Rattle.gl_logic.specs.WorldSeen.{WorldSeen}
+use Rattle.hons_arena.specs.declared.id.Id.{Id}
+use Rattle.hons_arena.specs.Held.{Held, AddsCellsOf, IsEachOnce, LacksCell}
+use Rattle.hons_arena.specs.Ids.{object_at, IsLive, IsIdOf}
+use Rattle.memo_tables.specs.Calls.{Call}
+use Rattle.lisp_eval.specs.Answers.{IsDear, IsCrowded}
+use Rattle.lisp_eval.specs.Bindings.{id_or_nil, id_in}
+use Rattle.lisp_eval.specs.CallValue.{IsCallValue}
+use Rattle.lisp_eval.specs.Compound.{IsCompound}
+use Rattle.lisp_eval.specs.Frames.{Work, ToPrim, ToCall, ToLet, Frame, Focus, Visit, Apply, Give, rest_of}
+use Rattle.lisp_eval.specs.Kept.{entries_of}
+use Rattle.lisp_eval.specs.Moves.{Next, on, entered, entered_met}
+use Rattle.lisp_eval.specs.States.{env_of, values_of, work_of, frame_of, frames_of, focus_of, IsNext}
+use Rattle.lisp_eval.specs.Threads.{is_kept}
+use Rattle.lisp_eval.specs.Within.{IsIn, AreWithin}
+use Rattle.lisp_eval.specs.declared.frame.Focus as program
+use Rattle.lisp_eval.specs.declared.frame.Focus.TheVariants as focus
+use Rattle.lisp_eval.specs.declared.frame.Frame as held
+use Rattle.lisp_eval.specs.declared.frame.Work.TheVariants as work
+use Rattle.lisp_eval.proofs.Environments.{append_none, look_is, stays_at}
+use Rattle.lisp_eval.proofs.Goes.{Goes, prim_done, let_done}
+use Rattle.lisp_eval.proofs.Going.{Narrow, Going, StepOn, going_step, going_wide, going_crowded, going_dear}
+use Rattle.lisp_eval.proofs.MovesGo.{entered_goes}
+use Rattle.lisp_eval.proofs.Standing.{stable_live, Grows, grows_same, grows_added, still, env_in, values_in, id_stands, at_once}
+use Rattle.lisp_eval.proofs.Within.{stays}
+
+compound_met : (u : Exp) (env : List (ℕ × Object)) → IsCompound u → entered_met u env ≡ []
+compound_met (Var v) env h = absurd h
+compound_met (Const x) env h = absurd h
+compound_met (Rattle.gl_logic.specs.Exp.If t a b) env h = refl
+compound_met (Rattle.gl_logic.specs.Exp.Prim p ts) env h = refl
+compound_met (Rattle.gl_logic.specs.Exp.Call f ts) env h = refl
+compound_met (Rattle.gl_logic.specs.Exp.Let vs ts b) env h = refl
+
+module _ (w : WorldSeen) (functions : List ℕ) (env : List (ℕ × Object)) (t : Exp) (limit : ℕ) (start : List Object) where
+  pub record State (left : ℕ) (now : program.Focus) (frames : List held.Frame) (objects : List Object) (entries : List (Call × Id)) : Type 0 where
+    pub focus : Focus
+    pub stack : List Frame
+    pub kept : List CallMade
+    pub calls : List (CallMade × Object)
+    pub going : Going w functions env t limit start left focus stack kept objects
+    pub focus_is : (more : List Object) → focus_of (objects ++ more) now ≡ focus
+    pub frames_are : (more : List Object) → frames_of (objects ++ more) frames ≡ stack
+    pub entries_are : (more : List Object) → entries_of (objects ++ more) entries ≡ calls
+    pub right : Every (λ e. IsCallValue w.definitions e.0.0 e.0.1 e.1) calls
+    pub same : (c : CallMade) → is_kept kept c ≡ is_kept (map (λ e. e.0) calls) c
+
+  -- ---- a term is visited
+  module _ (left : ℕ) (u : _) (uenv : _) (frames : List held.Frame) (objects : List Object) (entries : List (Call × Id)) (s : State left (focus.Visit u uenv) frames objects entries) where
+    abbrev visit_env : List (ℕ × Object)
+    visit_env = env_of (objects ++ []) uenv.value.items
+
+    env_stands : (more : List Object) → env_of (objects ++ more) uenv.value.items ≡ visit_env
+    env_stands more = ap env_in (s.focus_is more ∙ sym (s.focus_is []))
+
+    at_visit : Going w functions env t limit start left (Visit (term_of u.now) visit_env) s.stack s.kept objects
+    at_visit = subst (λ (g : Focus). Going w functions env t limit start left g s.stack s.kept objects) (sym (s.focus_is [])) s.going
+
+    pub visit_dear : left ≡ 0 → IsDear w functions env t limit
+    visit_dear z = going_dear w functions env t limit start left (term_of u.now) visit_env s.stack s.kept objects at_visit z
+
+    entered_step : (x : Exp) → (i : Going w functions env t limit start left (Visit x visit_env) s.stack s.kept objects) → (left ≡ 0 → ⊥)
+        → StepOn w functions env t limit start left (Visit x visit_env) s.stack s.kept objects i (entered_met x visit_env) (left - 1) (entered x visit_env).focus (s.stack ++ (entered x visit_env).pushed) s.kept
+    entered_step x i h = going_step w functions env t limit start left (Visit x visit_env) s.stack s.kept objects i (left - 1) 1 (entered_met x visit_env) (entered x visit_env).focus (s.stack ++ (entered x visit_env).pushed) s.kept (omega (arith, h))
+        (entered_goes (IsIn i.walked.seen) Narrow w.definitions [] functions i.depth x visit_env s.stack s.kept)
+
+    pub visit_next : (left ≡ 0 → ⊥) → IsCompound (term_of u.now) → (f : program.Focus) (frames' : List held.Frame) → ((all : List Object) → IsNext all (entered (term_of u.now) (env_of all uenv.value.items)) frames f frames') → State (left - 1) f frames' objects entries
+    visit_next h c f frames' n =
+        let step = entered_step (term_of u.now) at_visit h in
+        let narrow : Every Narrow (entered_met (term_of u.now) visit_env) = subst (Every Narrow) (sym (compound_met (term_of u.now) visit_env c)) tt in
+        let next : (more : List Object) → entered (term_of u.now) (env_of (objects ++ more) uenv.value.items) ≡ entered (term_of u.now) visit_env = λ more. ap (entered (term_of u.now)) (env_stands more) in
+        record {
+          focus = (entered (term_of u.now) visit_env).focus;
+          stack = s.stack ++ (entered (term_of u.now) visit_env).pushed;
+          kept = s.kept;
+          calls = s.calls;
+          going = step.goes_on narrow objects at_visit.within;
+          focus_is = λ more. (n (objects ++ more)).focus ∙ ap (λ (k : Next). k.focus) (next more);
+          frames_are = λ more. (n (objects ++ more)).frames ∙ (λ j. s.frames_are more j ++ (next more j).pushed);
+          entries_are = s.entries_are;
+          right = s.right;
+          same = s.same;
+        }
+
+    -- a visit whose value is there at once
+    gives : (x : Exp) (v : Object) → entered x visit_env ≡ on (Give v) → entered_met x visit_env ≡ v ∷ [] → term_of u.now ≡ x → (left ≡ 0 → ⊥)
+        → (i : Going w functions env t limit start left (Visit x visit_env) s.stack s.kept objects) × StepOn w functions env t limit start left (Visit x visit_env) s.stack s.kept objects i (v ∷ []) (left - 1) (Give v) s.stack s.kept
+    gives x v e m q h =
+        let i : Going w functions env t limit start left (Visit x visit_env) s.stack s.kept objects = subst (λ (y : Exp). Going w functions env t limit start left (Visit y visit_env) s.stack s.kept objects) q at_visit in
+        let a = entered_step x i h in
+        let b = subst (λ (k : Next). StepOn w functions env t limit start left (Visit x visit_env) s.stack s.kept objects i (entered_met x visit_env) (left - 1) k.focus (s.stack ++ k.pushed) s.kept) e a in
+        let d = subst (λ (zs : List Object). StepOn w functions env t limit start left (Visit x visit_env) s.stack s.kept objects i zs (left - 1) (Give v) (s.stack ++ []) s.kept) m b in
+        (i, subst (λ (zs : List Frame). StepOn w functions env t limit start left (Visit x visit_env) s.stack s.kept objects i (v ∷ []) (left - 1) (Give v) zs s.kept) (append_none s.stack) d)
+
+    -- a variable
+    module _ (v : ℕ) (id : Id) (is_var : term_of u.now ≡ Var v) (is_id : id ≡ id_in uenv.value.items v) where
+      var_stands : (more : List Object) → object_at (objects ++ more) id ≡ look visit_env v
+      var_stands more = ap (object_at (objects ++ more)) is_id ∙ (look_is (objects ++ more) uenv.value.items v ∙ ap (λ e. look e v) (env_stands more))
+
+      pub var_live : IsLive objects id
+      var_live = stable_live objects id (look visit_env v) var_stands
+
+      pub var_next : (left ≡ 0 → ⊥) → Narrow (object_at objects id) → State (left - 1) (focus.Give id) frames objects entries
+      var_next h n =
+          let g = gives (Var v) (look visit_env v) refl refl is_var h in
+          let narrow : Narrow (look visit_env v) = subst Narrow (at_once (λ all. object_at all id) (look visit_env v) objects var_stands) n in
+          record {
+            focus = Give (look visit_env v);
+            stack = s.stack;
+            kept = s.kept;
+            calls = s.calls;
+            going = g.1.goes_on (narrow, tt) objects g.0.within;
+            focus_is = λ more. ap Give (var_stands more);
+            frames_are = s.frames_are;
+            entries_are = s.entries_are;
+            right = s.right;
+            same = s.same;
+          }
+
+    -- a constant
+    module _ (x : Object) (is_const : term_of u.now ≡ Const x) (h : left ≡ 0 → ⊥) (new : List Object) (adds : AddsCellsOf x objects new) where
+      const_gives : (i : Going w functions env t limit start left (Visit (Const x) visit_env) s.stack s.kept objects) × StepOn w functions env t limit start left (Visit (Const x) visit_env) s.stack s.kept objects i (x ∷ []) (left - 1) (Give x) s.stack s.kept
+      const_gives = gives (Const x) x refl refl is_const h
+
+      const_within : AreWithin start const_gives.0.walked.seen new
+      const_within = stays start const_gives.0.walked.seen objects new x const_gives.1.met_seen.0 adds const_gives.0.within
+
+      pub const_next : (id : Id) → IsIdOf new x id → Narrow x → State (left - 1) (focus.Give id) frames new entries
+      const_next id is n = record {
+        focus = Give x;
+        stack = s.stack;
+        kept = s.kept;
+        calls = s.calls;
+        going = const_gives.1.goes_on (n, tt) new const_within;
+        focus_is = λ more. ap Give (stays_at new more id is.0 ∙ is.1);
+        frames_are = still (λ all. frames_of all frames) s.stack objects new (grows_added x objects new adds) s.frames_are;
+        entries_are = still (λ all. entries_of all entries) s.calls objects new (grows_added x objects new adds) s.entries_are;
+        right = s.right;
+        same = s.same;
+      }
+
+      pub const_crowded : (held : Held) → held.objects ≡ new → LacksCell held x → IsEachOnce held.objects → IsCrowded w env t start held.limit
+      const_crowded held e lack once = going_crowded w functions env t limit start left (Visit (Const x) visit_env) s.stack s.kept objects const_gives.0 held x const_gives.1.met_seen.0 lack once
+          (subst (λ (zs : List Object). AreWithin start const_gives.0.walked.seen zs) (sym e) const_within)

@@ -1,0 +1,359 @@
+use Rattle.std.proofs.Common.{rules, ◌≡◌, ◌∙◌, ap, sym, refl, subst, ℕ, ◌<◌, ◌++◌, [], List, Result, Ok, Err, Some, None}
+use Rattle.gl_logic.specs.Exp.{Var, Const}
+use Rattle.gl_logic.specs.Object.{Object}
+use Rattle.gl_logic.specs.PrimValue.{prim_of}
+use Rattle.gl_logic.specs.TermOf.{term_of}
+use Rattle.hons_arena.specs.Held.{Held, IsWhole, LacksCell}
+use Rattle.hons_arena.specs.Ids.{object_at, IsLive}
+use Rattle.hons_arena.specs.declared.id.Id.{Id}
+use Rattle.hons_arena.proofs.CellsIn.{cell_of}
+use Rattle.hons_arena.proofs.Placing.{part_self}
+use Rattle.lisp_eval.specs.Answers.{IsCrowded}
+use Rattle.lisp_eval.specs.Bindings.{id_in, id_or_nil}
+use Rattle.lisp_eval.specs.Compound.{IsCompound}
+use Rattle.lisp_eval.specs.Frames.{Visit}
+use Rattle.lisp_eval.specs.Gives.{Gives}
+use Rattle.lisp_eval.specs.Kept.{IsKnown}
+use Rattle.lisp_eval.specs.States.{env_of}
+use Rattle.lisp_eval.specs.declared.frame.Focus as program
+use Rattle.lisp_eval.specs.declared.frame.Focus.TheVariants as focus
+use Rattle.lisp_eval.specs.declared.frame.Work.TheVariants as work
+use Rattle.lisp_eval.specs.declared.calls.Known.{Known}
+use Rattle.lisp_eval.specs.declared.calls.Known.TheVariants as known
+use Rattle.lisp_eval.specs.declared.primitives.PrimFault.{PrimFault}
+use Rattle.lisp_eval.specs.declared.primitives.PrimFault.TheVariants as fault
+use Rattle.lisp_eval.proofs.Environments.{append_none}
+use Rattle.lisp_eval.proofs.Grown.{grown_more, crowded_at, lacks_itself}
+use Rattle.lisp_eval.proofs.State.{State, visit_dear, visit_next, var_live, var_next, const_next, const_crowded}
+use Rattle.lisp_eval.proofs.StateApplies.{arg_live, prim_next, prim_wide, prim_crowded, let_next, kept_live, kept_next, call_there, call_definition, opens_known}
+use Rattle.lisp_eval.proofs.StateGives.{state_start, state_done, give_live, hand_next, keeps_on}
+use Rattle.lisp_eval.proofs.Turns.{opens_smaller, hand_smaller}
+use Rattle.lisp_eval.proofs.TermForms.{var_term, const_term}
+use Rattle.lisp_eval.proofs.run.run.Goals as goal
+
+pub loop-focus-init : goal.loop-focus-init
+loop-focus-init c =
+    let st = c.args.arena.now.objects in
+    let env = env_of st c.args.env.value.items in
+    let t = term_of c.args.term.now in
+    let has = c.count-count.ensures.total env t c.requires.term in
+    record {
+      state = state_start c.args.world.now c.args.functions.now env t c.args.limit st (focus.Visit c.args.term c.args.env) c.new-frames.result.items c.args.memos.now c.requires.memos c.new-frames.ensures.items has.1.0 has.0 has.1.1 (λ more. ap (Visit t) (c.requires.env more));
+      grown = ([], sym (append_none st));
+      limit = refl;
+    }
+
+pub returns-then-left-eq0-clause-answer : goal.returns-then-left-eq0-clause-answer
+returns-then-left-eq0-clause-answer c =
+    let l = c.loop-focus in
+    let w = c.args.world.now in
+    let fs = c.args.functions.now in
+    let st = c.args.arena.now.objects in
+    let env = env_of st c.args.env.value.items in
+    let t = term_of c.args.term.now in
+    let s = subst (λ (f : program.Focus). State w fs env t c.args.limit st l.left f l.frames.items l.arena.objects l.memos) c.in-Visit.is l.invariant.state in
+    visit_dear w fs env t c.args.limit st l.left c.in-Visit.t c.in-Visit.inner l.frames.items l.arena.objects l.memos s c.if-left-eq0.true
+
+pub is_narrow-narrow-requires : goal.is_narrow-narrow-requires
+is_narrow-narrow-requires c =
+    let l = c.loop-focus in
+    let w = c.args.world.now in
+    let fs = c.args.functions.now in
+    let st = c.args.arena.now.objects in
+    let env = env_of st c.args.env.value.items in
+    let t = term_of c.args.term.now in
+    let s = subst (λ (f : program.Focus). State w fs env t c.args.limit st l.left f l.frames.items l.arena.objects l.memos) c.in-Visit.is l.invariant.state in
+    let v = c.in-Var.name.number in
+    let is_var : term_of c.in-Visit.t.now ≡ Var v = ap term_of c.in-Var.is ∙ var_term c.in-Var.name in
+    let is_id : c.look-id.result ≡ id_in c.in-Visit.inner.value.items v = c.look-id.ensures ∙ ap (λ bs. id_in bs v) (c.as_slice.ensures.value ∙ ap (λ z. z.items) c.as_ref.ensures) in
+    var_live w fs env t c.args.limit st l.left c.in-Visit.t c.in-Visit.inner l.frames.items l.arena.objects l.memos s v c.look-id.result is_var is_id
+
+pub loop-focus-preserved-in-Var-1 : goal.loop-focus-preserved-in-Var-1
+loop-focus-preserved-in-Var-1 c =
+    let l = c.loop-focus in
+    let w = c.args.world.now in
+    let fs = c.args.functions.now in
+    let st = c.args.arena.now.objects in
+    let env = env_of st c.args.env.value.items in
+    let t = term_of c.args.term.now in
+    let s = subst (λ (f : program.Focus). State w fs env t c.args.limit st l.left f l.frames.items l.arena.objects l.memos) c.in-Visit.is l.invariant.state in
+    let v = c.in-Var.name.number in
+    let is_var : term_of c.in-Visit.t.now ≡ Var v = ap term_of c.in-Var.is ∙ var_term c.in-Var.name in
+    let is_id : c.look-id.result ≡ id_in c.in-Visit.inner.value.items v = c.look-id.ensures ∙ ap (λ bs. id_in bs v) (c.as_slice.ensures.value ∙ ap (λ z. z.items) c.as_ref.ensures) in
+    record {
+      state = var_next w fs env t c.args.limit st l.left c.in-Visit.t c.in-Visit.inner l.frames.items l.arena.objects l.memos s v c.look-id.result is_var is_id c.if-left-eq0.false c.is_narrow-narrow.ensures;
+      grown = l.invariant.grown;
+      limit = l.invariant.limit;
+    }
+
+pub returns-in-Err-clause-answer : goal.returns-in-Err-clause-answer
+returns-in-Err-clause-answer c =
+    let l = c.loop-focus in
+    let w = c.args.world.now in
+    let fs = c.args.functions.now in
+    let st = c.args.arena.now.objects in
+    let env = env_of st c.args.env.value.items in
+    let t = term_of c.args.term.now in
+    let s = subst (λ (f : program.Focus). State w fs env t c.args.limit st l.left f l.frames.items l.arena.objects l.memos) c.in-Visit.is l.invariant.state in
+    let x = c.in-Const.tree in
+    let is_const : term_of c.in-Visit.t.now ≡ Const x = ap term_of c.in-Const.is ∙ const_term x in
+    crowded_at w env t st c.place.new.self.limit c.args.arena.now.limit (c.place.ensures.places.limit ∙ l.invariant.limit)
+    (const_crowded w fs env t c.args.limit st l.left c.in-Visit.t c.in-Visit.inner l.frames.items l.arena.objects l.memos s x is_const c.if-left-eq0.false c.place.new.self.objects c.place.ensures.places.objects c.place.new.self refl c.in-Err.ensures.places.lacks c.count-held.ensures.whole.different)
+
+pub loop-focus-preserved-in-Const-1 : goal.loop-focus-preserved-in-Const-1
+loop-focus-preserved-in-Const-1 c =
+    let l = c.loop-focus in
+    let w = c.args.world.now in
+    let fs = c.args.functions.now in
+    let st = c.args.arena.now.objects in
+    let env = env_of st c.args.env.value.items in
+    let t = term_of c.args.term.now in
+    let s = subst (λ (f : program.Focus). State w fs env t c.args.limit st l.left f l.frames.items l.arena.objects l.memos) c.in-Visit.is l.invariant.state in
+    let x = c.in-Const.tree in
+    let is_const : term_of c.in-Visit.t.now ≡ Const x = ap term_of c.in-Const.is ∙ const_term x in
+    let id = c.in-Ok.ensures.places.id in
+    record {
+      state = const_next w fs env t c.args.limit st l.left c.in-Visit.t c.in-Visit.inner l.frames.items l.arena.objects l.memos s x is_const c.if-left-eq0.false c.place.new.self.objects c.place.ensures.places.objects c.in-Ok.id id
+          (subst (λ (y : Object). Rattle.gl_logic.specs.Wide.IsWideObject y → ⊥) id.1 c.is_narrow-narrow-in-Ok.ensures);
+      grown = grown_more x st l.arena.objects c.place.new.self.objects l.invariant.grown c.place.ensures.places.objects;
+      limit = c.place.ensures.places.limit ∙ l.invariant.limit;
+    }
+
+pub loop-focus-preserved-in_default : goal.loop-focus-preserved-in_default
+loop-focus-preserved-in_default c =
+    let l = c.loop-focus in
+    let w = c.args.world.now in
+    let fs = c.args.functions.now in
+    let st = c.args.arena.now.objects in
+    let env = env_of st c.args.env.value.items in
+    let t = term_of c.args.term.now in
+    let s = subst (λ (f : program.Focus). State w fs env t c.args.limit st l.left f l.frames.items l.arena.objects l.memos) c.in-Visit.is l.invariant.state in
+    let compound : IsCompound (term_of c.in-Visit.t.now) = c.visit.ensures.parts in
+    record {
+      state = visit_next w fs env t c.args.limit st l.left c.in-Visit.t c.in-Visit.inner l.frames.items l.arena.objects l.memos s c.if-left-eq0.false compound c.in_ok-focus-in_default.focus c.visit.new.frames.items c.in_ok-focus-in_default.ensures.next;
+      grown = l.invariant.grown;
+      limit = l.invariant.limit;
+    }
+
+pub primitive-requires-clause-x : goal.primitive-requires-clause-x
+primitive-requires-clause-x c =
+    let l = c.loop-focus in
+    let w = c.args.world.now in
+    let fs = c.args.functions.now in
+    let st = c.args.arena.now.objects in
+    let env = env_of st c.args.env.value.items in
+    let t = term_of c.args.term.now in
+    let s = subst (λ (f : program.Focus). State w fs env t c.args.limit st l.left f l.frames.items l.arena.objects l.memos) c.in-Apply.is l.invariant.state in
+    let x : c.id_at-x.result ≡ id_or_nil c.in-Apply.values.items 0 = c.id_at-x.ensures ∙ ap (λ xs. id_or_nil xs 0) c.as_slice-in-Prim.ensures.value in
+    subst (λ (i : Id). IsLive l.arena.objects i) (sym x) (arg_live w fs env t c.args.limit st l.left c.in-Apply.work c.in-Apply.values c.in-Apply.outer l.frames.items l.arena.objects l.memos s 0)
+
+pub primitive-requires-clause-y : goal.primitive-requires-clause-y
+primitive-requires-clause-y c =
+    let l = c.loop-focus in
+    let w = c.args.world.now in
+    let fs = c.args.functions.now in
+    let st = c.args.arena.now.objects in
+    let env = env_of st c.args.env.value.items in
+    let t = term_of c.args.term.now in
+    let s = subst (λ (f : program.Focus). State w fs env t c.args.limit st l.left f l.frames.items l.arena.objects l.memos) c.in-Apply.is l.invariant.state in
+    let y : c.id_at-y.result ≡ id_or_nil c.in-Apply.values.items 1 = c.id_at-y.ensures ∙ ap (λ xs. id_or_nil xs 1) c.as_slice-in-Prim-2.ensures.value in
+    subst (λ (i : Id). IsLive l.arena.objects i) (sym y) (arg_live w fs env t c.args.limit st l.left c.in-Apply.work c.in-Apply.values c.in-Apply.outer l.frames.items l.arena.objects l.memos s 1)
+
+pub returns-in-Err-Wide-clause-answer : goal.returns-in-Err-Wide-clause-answer
+returns-in-Err-Wide-clause-answer c =
+    let l = c.loop-focus in
+    let w = c.args.world.now in
+    let fs = c.args.functions.now in
+    let st = c.args.arena.now.objects in
+    let env = env_of st c.args.env.value.items in
+    let t = term_of c.args.term.now in
+    let s = subst (λ (f : program.Focus). State w fs env t c.args.limit st l.left f l.frames.items l.arena.objects l.memos) c.in-Apply.is l.invariant.state in
+    let x : c.id_at-x.result ≡ id_or_nil c.in-Apply.values.items 0 = c.id_at-x.ensures ∙ ap (λ xs. id_or_nil xs 0) c.as_slice-in-Prim.ensures.value in
+    let y : c.id_at-y.result ≡ id_or_nil c.in-Apply.values.items 1 = c.id_at-y.ensures ∙ ap (λ xs. id_or_nil xs 1) c.as_slice-in-Prim-2.ensures.value in
+    let g = subst (λ (v : Object). Gives l.arena c.primitive.new.arena v c.primitive.result) (λ j. prim_of c.in-Prim.p (object_at l.arena.objects (x j)) (object_at l.arena.objects (y j))) c.primitive.ensures in
+    let wide : c.primitive.result ≡ Err fault.Wide = search rules in
+    prim_wide w fs env t c.args.limit st l.left c.in-Apply.work c.in-Apply.values c.in-Apply.outer l.frames.items l.arena.objects l.memos s c.in-Prim.p c.in-Prim.is (g.wide wide)
+
+pub returns-in-Err-Full-clause-answer : goal.returns-in-Err-Full-clause-answer
+returns-in-Err-Full-clause-answer c =
+    let l = c.loop-focus in
+    let w = c.args.world.now in
+    let fs = c.args.functions.now in
+    let st = c.args.arena.now.objects in
+    let env = env_of st c.args.env.value.items in
+    let t = term_of c.args.term.now in
+    let s = subst (λ (f : program.Focus). State w fs env t c.args.limit st l.left f l.frames.items l.arena.objects l.memos) c.in-Apply.is l.invariant.state in
+    let x : c.id_at-x.result ≡ id_or_nil c.in-Apply.values.items 0 = c.id_at-x.ensures ∙ ap (λ xs. id_or_nil xs 0) c.as_slice-in-Prim.ensures.value in
+    let y : c.id_at-y.result ≡ id_or_nil c.in-Apply.values.items 1 = c.id_at-y.ensures ∙ ap (λ xs. id_or_nil xs 1) c.as_slice-in-Prim-2.ensures.value in
+    let g = subst (λ (v : Object). Gives l.arena c.primitive.new.arena v c.primitive.result) (λ j. prim_of c.in-Prim.p (object_at l.arena.objects (x j)) (object_at l.arena.objects (y j))) c.primitive.ensures in
+    let full : c.primitive.result ≡ Err fault.Full = search rules in
+    let same : c.primitive.new.arena ≡ l.arena = search rules in
+    let whole : IsWhole l.arena = subst IsWhole same c.count-held-in-Err-Full.ensures.whole in
+    let v = prim_of c.in-Prim.p (object_at l.arena.objects (id_or_nil c.in-Apply.values.items 0)) (object_at l.arena.objects (id_or_nil c.in-Apply.values.items 1)) in
+    crowded_at w env t st l.arena.limit c.args.arena.now.limit l.invariant.limit
+    (prim_crowded w fs env t c.args.limit st l.left c.in-Apply.work c.in-Apply.values c.in-Apply.outer l.frames.items l.arena.objects l.memos s c.in-Prim.p c.in-Prim.is l.arena refl (lacks_itself l.arena v (g.cell full) (g.full full)) whole.different)
+
+pub loop-focus-preserved-in-Apply : goal.loop-focus-preserved-in-Apply
+loop-focus-preserved-in-Apply c =
+    let l = c.loop-focus in
+    let w = c.args.world.now in
+    let fs = c.args.functions.now in
+    let st = c.args.arena.now.objects in
+    let env = env_of st c.args.env.value.items in
+    let t = term_of c.args.term.now in
+    let s = subst (λ (f : program.Focus). State w fs env t c.args.limit st l.left f l.frames.items l.arena.objects l.memos) c.in-Apply.is l.invariant.state in
+    let x : c.id_at-x.result ≡ id_or_nil c.in-Apply.values.items 0 = c.id_at-x.ensures ∙ ap (λ xs. id_or_nil xs 0) c.as_slice-in-Prim.ensures.value in
+    let y : c.id_at-y.result ≡ id_or_nil c.in-Apply.values.items 1 = c.id_at-y.ensures ∙ ap (λ xs. id_or_nil xs 1) c.as_slice-in-Prim-2.ensures.value in
+    let g = subst (λ (v : Object). Gives l.arena c.primitive.new.arena v c.primitive.result) (λ j. prim_of c.in-Prim.p (object_at l.arena.objects (x j)) (object_at l.arena.objects (y j))) c.primitive.ensures in
+    let v = prim_of c.in-Prim.p (object_at l.arena.objects (id_or_nil c.in-Apply.values.items 0)) (object_at l.arena.objects (id_or_nil c.in-Apply.values.items 1)) in
+    let ok : c.primitive.result ≡ Ok c.in-Ok-primitive.id = search rules in
+    let given = subst (λ (r : Result Id PrimFault). Gives l.arena c.primitive.new.arena v r) ok g in
+    record {
+      state = prim_next w fs env t c.args.limit st l.left c.in-Apply.work c.in-Apply.values c.in-Apply.outer l.frames.items l.arena.objects l.memos s c.in-Prim.p c.in-Prim.is c.primitive.new.arena.objects c.in-Ok-primitive.id given.id given.objects c.is_narrow-narrow-in-Ok-primitive.ensures;
+      grown = grown_more v st l.arena.objects c.primitive.new.arena.objects l.invariant.grown given.objects;
+      limit = given.limit ∙ l.invariant.limit;
+    }
+
+pub is_narrow-narrow-requires-in-Value : goal.is_narrow-narrow-requires-in-Value
+is_narrow-narrow-requires-in-Value c =
+    let l = c.loop-focus in
+    let w = c.args.world.now in
+    let fs = c.args.functions.now in
+    let st = c.args.arena.now.objects in
+    let env = env_of st c.args.env.value.items in
+    let t = term_of c.args.term.now in
+    let s = subst (λ (f : program.Focus). State w fs env t c.args.limit st l.left f l.frames.items l.arena.objects l.memos) c.in-Apply.is l.invariant.state in
+    let call = subst (λ (xs : List Id). IsKnown fs l.memos (record { function = c.in-Call.f.number; arguments = xs }) (known.Value c.in-Value.id)) c.as_slice-in-Call.ensures.value (subst (λ (k : Known). IsKnown fs l.memos (record { function = c.in-Call.f.number; arguments = c.as_slice-in-Call.result.now }) k) c.in-Value.is c.in_ok-id-in-Call.ensures) in
+    kept_live w fs env t c.args.limit st l.left c.in-Apply.work c.in-Apply.values c.in-Apply.outer l.frames.items l.arena.objects l.memos s c.in-Call.f c.in-Call.is c.in-Value.id call.0 call.1
+
+pub loop-focus-preserved-in-Value-1 : goal.loop-focus-preserved-in-Value-1
+loop-focus-preserved-in-Value-1 c =
+    let l = c.loop-focus in
+    let w = c.args.world.now in
+    let fs = c.args.functions.now in
+    let st = c.args.arena.now.objects in
+    let env = env_of st c.args.env.value.items in
+    let t = term_of c.args.term.now in
+    let s = subst (λ (f : program.Focus). State w fs env t c.args.limit st l.left f l.frames.items l.arena.objects l.memos) c.in-Apply.is l.invariant.state in
+    let call = subst (λ (xs : List Id). IsKnown fs l.memos (record { function = c.in-Call.f.number; arguments = xs }) (known.Value c.in-Value.id)) c.as_slice-in-Call.ensures.value (subst (λ (k : Known). IsKnown fs l.memos (record { function = c.in-Call.f.number; arguments = c.as_slice-in-Call.result.now }) k) c.in-Value.is c.in_ok-id-in-Call.ensures) in
+    record {
+      state = kept_next w fs env t c.args.limit st l.left c.in-Apply.work c.in-Apply.values c.in-Apply.outer l.frames.items l.arena.objects l.memos s c.in-Call.f c.in-Call.is c.in-Value.id call.0 call.1 c.is_narrow-narrow-in-Value.ensures;
+      grown = l.invariant.grown;
+      limit = l.invariant.limit;
+    }
+
+pub open-requires : goal.open-requires
+open-requires c =
+    let l = c.loop-focus in
+    let w = c.args.world.now in
+    let fs = c.args.functions.now in
+    let st = c.args.arena.now.objects in
+    let env = env_of st c.args.env.value.items in
+    let t = term_of c.args.term.now in
+    let s = subst (λ (f : program.Focus). State w fs env t c.args.limit st l.left f l.frames.items l.arena.objects l.memos) c.in-Apply.is l.invariant.state in
+    call_there w fs env t c.args.limit st l.left c.in-Apply.work c.in-Apply.values c.in-Apply.outer l.frames.items l.arena.objects l.memos s c.in-Call.f c.in-Call.is
+
+pub loop-focus-preserved-in-Opens-1 : goal.loop-focus-preserved-in-Opens-1
+loop-focus-preserved-in-Opens-1 c =
+    let l = c.loop-focus in
+    let w = c.args.world.now in
+    let fs = c.args.functions.now in
+    let st = c.args.arena.now.objects in
+    let env = env_of st c.args.env.value.items in
+    let t = term_of c.args.term.now in
+    let s = subst (λ (f : program.Focus). State w fs env t c.args.limit st l.left f l.frames.items l.arena.objects l.memos) c.in-Apply.is l.invariant.state in
+    let call = subst (λ (xs : List Id). IsKnown fs l.memos (record { function = c.in-Call.f.number; arguments = xs }) (known.Opens c.in-Opens.keep)) c.as_slice-in-Call.ensures.value (subst (λ (k : Known). IsKnown fs l.memos (record { function = c.in-Call.f.number; arguments = c.as_slice-in-Call.result.now }) k) c.in-Opens.is c.in_ok-id-in-Call.ensures) in
+    let d = call_definition w fs env t c.args.limit st l.left c.in-Apply.work c.in-Apply.values c.in-Apply.outer l.frames.items l.arena.objects l.memos s c.in-Call.f c.in-Call.is in
+    record {
+      state = opens_known w fs env t c.args.limit st l.left c.in-Apply.work c.in-Apply.values c.in-Apply.outer l.frames.items l.arena.objects l.memos s c.in-Call.f c.in-Call.is c.count-held-in-Opens.ensures.whole.ids d.0 d.1 c.in-Opens.keep call c.in_ok-focus-in-Opens.focus c.open.new.frames.items (λ all. c.in_ok-focus-in-Opens.ensures.next all d.0 d.1);
+      grown = l.invariant.grown;
+      limit = l.invariant.limit;
+    }
+
+pub loop-focus-smaller-in-Opens-1 : goal.loop-focus-smaller-in-Opens-1
+loop-focus-smaller-in-Opens-1 c =
+    let l = c.loop-focus in
+    let w = c.args.world.now in
+    let fs = c.args.functions.now in
+    let st = c.args.arena.now.objects in
+    let env = env_of st c.args.env.value.items in
+    let t = term_of c.args.term.now in
+    let s = subst (λ (f : program.Focus). State w fs env t c.args.limit st l.left f l.frames.items l.arena.objects l.memos) c.in-Apply.is l.invariant.state in
+    let d = call_definition w fs env t c.args.limit st l.left c.in-Apply.work c.in-Apply.values c.in-Apply.outer l.frames.items l.arena.objects l.memos s c.in-Call.f c.in-Call.is in
+    opens_smaller l.left c.in-Apply.work c.in-Apply.values c.in-Apply.outer l.focus c.in-Apply.is c.in-Opens.keep l.frames.items c.in_ok-focus-in-Opens.focus c.open.new.frames.items d.0.body _ (c.in_ok-focus-in-Opens.ensures.next [] d.0 d.1)
+
+pub loop-focus-preserved-in-Let : goal.loop-focus-preserved-in-Let
+loop-focus-preserved-in-Let c =
+    let l = c.loop-focus in
+    let w = c.args.world.now in
+    let fs = c.args.functions.now in
+    let st = c.args.arena.now.objects in
+    let env = env_of st c.args.env.value.items in
+    let t = term_of c.args.term.now in
+    let s = subst (λ (f : program.Focus). State w fs env t c.args.limit st l.left f l.frames.items l.arena.objects l.memos) c.in-Apply.is l.invariant.state in
+    record {
+      state = let_next w fs env t c.args.limit st l.left c.in-Apply.work c.in-Apply.values c.in-Apply.outer l.frames.items l.arena.objects l.memos s c.in-Let.names c.in-Let.body c.in-Let.is c.in_ok-focus-in-Let.focus c.in_ok-focus-in-Let.ensures.next;
+      grown = l.invariant.grown;
+      limit = l.invariant.limit;
+    }
+
+pub loop-focus-smaller-in-Let : goal.loop-focus-smaller-in-Let
+loop-focus-smaller-in-Let c =
+    let l = c.loop-focus in
+    opens_smaller l.left c.in-Apply.work c.in-Apply.values c.in-Apply.outer l.focus c.in-Apply.is None l.frames.items c.in_ok-focus-in-Let.focus l.frames.items (term_of c.in-Let.body.now) _ (c.in_ok-focus-in-Let.ensures.next [] l.frames.items)
+
+pub returns-in-None-clause-answer : goal.returns-in-None-clause-answer
+returns-in-None-clause-answer c =
+    let l = c.loop-focus in
+    let w = c.args.world.now in
+    let fs = c.args.functions.now in
+    let st = c.args.arena.now.objects in
+    let env = env_of st c.args.env.value.items in
+    let t = term_of c.args.term.now in
+    let s = subst (λ (f : program.Focus). State w fs env t c.args.limit st l.left f l.frames.items l.arena.objects l.memos) c.in-Give.is l.invariant.state in
+    let none : l.frames.items ≡ [] = search rules in
+    (state_done w fs env t c.args.limit st l.left c.in-Give.value l.frames.items l.arena.objects l.memos s none).0
+
+pub returns-in-None-clause-memos : goal.returns-in-None-clause-memos
+returns-in-None-clause-memos c =
+    let l = c.loop-focus in
+    let w = c.args.world.now in
+    let fs = c.args.functions.now in
+    let st = c.args.arena.now.objects in
+    let env = env_of st c.args.env.value.items in
+    let t = term_of c.args.term.now in
+    let s = subst (λ (f : program.Focus). State w fs env t c.args.limit st l.left f l.frames.items l.arena.objects l.memos) c.in-Give.is l.invariant.state in
+    let none : l.frames.items ≡ [] = search rules in
+    (state_done w fs env t c.args.limit st l.left c.in-Give.value l.frames.items l.arena.objects l.memos s none).1
+
+pub hand-requires : goal.hand-requires
+hand-requires c =
+    let l = c.loop-focus in
+    let w = c.args.world.now in
+    let fs = c.args.functions.now in
+    let st = c.args.arena.now.objects in
+    let env = env_of st c.args.env.value.items in
+    let t = term_of c.args.term.now in
+    let s = subst (λ (f : program.Focus). State w fs env t c.args.limit st l.left f l.frames.items l.arena.objects l.memos) c.in-Give.is l.invariant.state in
+    record { live = give_live w fs env t c.args.limit st l.left c.in-Give.value l.frames.items l.arena.objects l.memos s }
+
+pub loop-focus-preserved : goal.loop-focus-preserved
+loop-focus-preserved c =
+    let l = c.loop-focus in
+    let w = c.args.world.now in
+    let fs = c.args.functions.now in
+    let st = c.args.arena.now.objects in
+    let env = env_of st c.args.env.value.items in
+    let t = term_of c.args.term.now in
+    let s = subst (λ (f : program.Focus). State w fs env t c.args.limit st l.left f l.frames.items l.arena.objects l.memos) c.in-Give.is l.invariant.state in
+    let keeps = keeps_on w fs env t c.args.limit st l.left c.in-Give.value l.frames.items l.arena.objects l.memos s c.pop.new.self.items c.in-Some.frame c.in-Some.ensures.items c.hand.new.memos c.in_ok-focus-in-Some.ensures.keeps in
+    record {
+      state = hand_next w fs env t c.args.limit st l.left c.in-Give.value l.frames.items l.arena.objects l.memos s c.pop.new.self.items c.in-Some.frame c.in-Some.ensures.items c.hand.new.memos keeps c.in_ok-focus-in-Some.focus c.hand.new.frames.items c.in_ok-focus-in-Some.ensures.next;
+      grown = l.invariant.grown;
+      limit = l.invariant.limit;
+    }
+
+pub loop-focus-smaller : goal.loop-focus-smaller
+loop-focus-smaller c =
+    let l = c.loop-focus in
+    hand_smaller l.left l.arena.objects c.in-Give.value l.focus c.in-Give.is l.frames.items c.pop.new.self.items c.in-Some.frame c.in-Some.ensures.items c.in_ok-focus-in-Some.focus c.hand.new.frames.items (object_at l.arena.objects c.in-Give.value) (c.in_ok-focus-in-Some.ensures.next [])

@@ -1,0 +1,96 @@
+//! The evaluator.
+
+ghost use Rattle.std.specs.Prelude.{◌≡◌, ◌≤◌, [], All, IfOk, OnErr, OnOk, length, take};
+ghost use Rattle.gl_logic.specs.IsTermOf.{IsTermOf};
+ghost use Rattle.gl_logic.specs.TermOf.{term_of};
+ghost use Rattle.lisp_eval.specs.Answers.{IsValueOf, IsLicensed, FitMemos, HasGrown, IsLiveBinding};
+ghost use Rattle.lisp_eval.specs.Nexts.{Answered};
+ghost use Rattle.lisp_eval.specs.States.{env_of};
+
+use crate::fault::{EvalFault, fault_for};
+use crate::frame::Binding;
+use crate::run::{Cause, run};
+use gl_logic::{NoMemory, Term, World};
+use hons_arena::{HonsArena, Id, Mark};
+use memo_tables::MemoTables;
+use std::alloc::Global;
+use std::rc::Rc;
+
+/// The value of a term in an environment, within so many visits of subterms and the cells of the arena. A variable that
+/// the environment does not name is NIL. A call of one of the functions is opened once for the same arguments: its value
+/// is kept beside those that earlier evaluations kept.
+///
+/// After a refusal the arena stands as before, and nothing is kept. No depth of definitions opened inside one another is
+/// too great: the evaluator has a stack of its own.
+pub fn evaluate(
+    world: &World,
+    term: &Term,
+    env: &[Binding],
+    functions: &[u64],
+    steps: u64,
+    alloc: Global,
+    arena: &mut HonsArena,
+    memos: &mut MemoTables,
+) -> Result<Id, EvalFault>
+    requires term { IsTermOf world.now.definitions (term_of term.now) }
+    requires env { All (IsLiveBinding arena.old.objects) env.now }
+    requires memos { FitMemos world.now.definitions arena.old.objects memos.old }
+    ensures value { IfOk result (IsValueOf world.now (env_of arena.old.objects env.now) (term_of term.now) arena.new.objects) }
+    ensures fault { IsLicensed world.now functions.now (env_of arena.old.objects env.now) (term_of term.now) steps arena.old result }
+    ensures memos { OnOk result (FitMemos world.now.definitions arena.new.objects memos.new) }
+    ensures grown { HasGrown arena.old.objects arena.new.objects }
+    ensures limit { arena.new.limit ≡ arena.old.limit }
+    ensures refused { OnErr result (arena.new.objects ≡ arena.old.objects) }
+    ensures emptied { OnErr result (memos.new ≡ []) }
+{
+    let mark = arena.mark();
+    match started(world, term, env, functions, steps, alloc, arena, memos) {
+        Err(_) => {
+            refuse(arena, memos, mark);
+            Err(EvalFault::Memory)
+        }
+        Ok(answer) => match answer {
+            Ok(id) => Ok(id),
+            Err(cause) => {
+                refuse(arena, memos, mark);
+                Err(fault_for(cause))
+            }
+        },
+    }
+}
+
+/// The run, in an environment of its own.
+fn started(
+    world: &World,
+    term: &Term,
+    env: &[Binding],
+    functions: &[u64],
+    steps: u64,
+    alloc: Global,
+    arena: &mut HonsArena,
+    memos: &mut MemoTables,
+) -> Result<Result<Id, Cause>, NoMemory>
+    requires term { IsTermOf world.now.definitions (term_of term.now) }
+    requires env { All (IsLiveBinding arena.old.objects) env.now }
+    requires memos { FitMemos world.now.definitions arena.old.objects memos.old }
+    ensures answer { IfOk result (Answered world.now functions.now env.now (term_of term.now) steps arena.old arena.new) }
+    ensures memos { IfOk result (λ r. OnOk r (FitMemos world.now.definitions arena.new.objects memos.new)) }
+    ensures grown { HasGrown arena.old.objects arena.new.objects }
+    ensures limit { arena.new.limit ≡ arena.old.limit }
+{
+    let mut own = Vec::new(alloc);
+    own.extend_from_slice(env)?;
+    let env = Rc::new(alloc, own)?;
+    run(world, term, env, functions, steps, alloc, arena, memos)
+}
+
+/// Takes back what an evaluation added.
+fn refuse(arena: &mut HonsArena, memos: &mut MemoTables, mark: Mark)
+    requires { mark.count ≤ length arena.old.objects }
+    ensures objects { arena.new.objects ≡ take mark.count arena.old.objects }
+    ensures limit { arena.new.limit ≡ arena.old.limit }
+    ensures emptied { memos.new ≡ [] }
+{
+    arena.release(mark);
+    memos.clear();
+}
