@@ -1,11 +1,11 @@
 -- Literals among others.
-use Rattle.std.proofs.Common.{◌≡◌, ◌≢◌, ℕ, zero, suc, ℤ, pos, negsuc, ◌+◌, ◌<◌, ◌≤◌, ◌⊎◌, Bool, true, false, not, cond, ◌||◌, ◌&&◌, List, [], ◌∷◌, ◌++◌, map, filter, refl, ap, ◌∙◌, sym, subst, inl, inr, arith, int_eq, neg_ℤ, unsigned_abs}
-use Rattle.std.specs.List.{list_any, list_all, All}
-use Rattle.std.proofs.lemmas.Bool.{cases_Bool, or_cases, or_left, or_right, or_parts, or_from, and_parts, not-true, not-false, both_ways, false_from_ne_true}
+use Rattle.std.proofs.Common.{◌≡◌, ◌≢◌, ℕ, zero, suc, ℤ, pos, negsuc, ◌<◌, Bool, true, false, not, ◌||◌, List, [], ◌∷◌, ◌++◌, refl, ap, ◌∙◌, sym, subst, inl, inr, arith, int_eq, neg_ℤ, unsigned_abs}
+use Rattle.std.specs.List.{list_any}
+use Rattle.std.proofs.lemmas.Bool.{or_cases, or_left, or_right, both_ways, false_from_ne_true}
 use Rattle.std.proofs.lemmas.Bool.Decides.{Decides-int_eq}
 use Rattle.std.proofs.lemmas.List.Elements.{All-head, All-tail}
 use Rattle.cnf_rup.specs.Literals.{holds, IsLiteral, IsClause}
-use Rattle.cnf_rup.specs.Shown.{is_among, negated, left_of}
+use Rattle.cnf_rup.specs.Shown.{is_among, negated}
 
 pub same-literal : (x y : ℤ) → int_eq x y ≡ true → x ≡ y
 same-literal x y e = (Decides-int_eq x y).0 e

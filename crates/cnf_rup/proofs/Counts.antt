@@ -1,9 +1,9 @@
 -- How many clauses a cone has, and which variables.
-use Rattle.std.proofs.Common.{◌≡◌, ◌≢◌, ℕ, zero, suc, ℤ, pos, negsuc, ◌+◌, ◌-◌, ◌*◌, ◌<◌, ◌≤◌, max, Bool, true, false, cond, List, [], ◌∷◌, ◌++◌, map, length, get_or, refl, ap, ◌∙◌, sym, subst, inl, inr, arith, neg_ℤ, unsigned_abs}
-use Rattle.std.specs.List.{All, Contains, flat_map}
-use Rattle.std.proofs.lemmas.Bool.{cases_eq, cases_Bool, both_ways}
-use Rattle.std.proofs.lemmas.List.{map-append, length-append, length-map}
-use Rattle.std.proofs.lemmas.List.Elements.{All-append, All-cons, All-nil, All-head, All-tail, All-push, All-map, All-weaker}
+use Rattle.std.proofs.Common.{◌≡◌, ℕ, zero, suc, ℤ, pos, negsuc, ◌+◌, ◌-◌, ◌*◌, ◌<◌, ◌≤◌, max, Bool, true, false, cond, List, [], ◌∷◌, ◌++◌, map, length, get_or, refl, ap, ◌∙◌, inl, inr, arith, neg_ℤ, unsigned_abs}
+use Rattle.std.specs.List.{All}
+use Rattle.std.proofs.lemmas.Bool.{cases_eq, cases_Bool}
+use Rattle.std.proofs.lemmas.List.{map-append, length-append}
+use Rattle.std.proofs.lemmas.List.Elements.{All-cons, All-nil, All-head, All-tail, All-map, All-weaker}
 use Rattle.bfr_store.specs.declared.edge.Edge.{Edge}
 use Rattle.bfr_store.specs.Edges.{node_of, is_flipped}
 use Rattle.aig_store.specs.declared.node.AigNode.{AigNode}
@@ -12,10 +12,10 @@ use Rattle.aig_store.specs.Nodes.{node_at}
 use Rattle.aig_store.specs.Inside.{IsOrdered}
 use Rattle.aig_store.proofs.Nodes.{gate-at}
 use Rattle.cnf_rup.specs.declared.clause.Entry.{Entry}
-use Rattle.cnf_rup.specs.Literals.{IsLiteral, IsClause, IsUpTo}
+use Rattle.cnf_rup.specs.Literals.{IsLiteral}
 use Rattle.cnf_rup.specs.Books.{clauses_of}
 use Rattle.cnf_rup.specs.Marked.{unset_count}
-use Rattle.cnf_rup.specs.Cones.{IsInCone, at_root, at_first, at_second, IsCone}
+use Rattle.cnf_rup.specs.Cones.{IsInCone, at_root, at_first, at_second}
 use Rattle.cnf_rup.specs.Searches.{IsFound}
 use Rattle.cnf_rup.specs.Cnfs.{literal_at, literal_of, clauses_of_node, clauses_of_cone, entries_of_node, entries_of_cone}
 use Rattle.cnf_rup.proofs.Among.{size-complement}

@@ -1,23 +1,19 @@
 -- The clauses of a cone say what its nodes say.
-use Rattle.std.proofs.Common.{◌≡◌, ◌≢◌, ◌↔◌, ℕ, zero, suc, ℤ, pos, negsuc, ◌+◌, ◌-◌, ◌*◌, ◌/◌, ◌<◌, ◌≤◌, Bool, true, false, not, cond, ◌&&◌, ◌||◌, List, [], ◌∷◌, ◌++◌, map, length, get_or, refl, ap, ◌∙◌, sym, subst, inl, inr, arith, neg_ℤ, unsigned_abs}
-use Rattle.std.specs.List.{All, Contains, flat_map, list_any}
-use Rattle.std.proofs.lemmas.Bool.{cases_Bool, cases_eq, both_ways}
-use Rattle.std.proofs.lemmas.List.{map-append, length_push}
-use Rattle.std.proofs.lemmas.List.Elements.{All-append, All-cons, All-nil, All-head, All-tail, All-push, All-contains, Contains-append_left, Contains-append_right, Contains-push, All-map}
+use Rattle.std.proofs.Common.{◌≡◌, ◌↔◌, ℕ, zero, suc, ℤ, pos, negsuc, ◌<◌, Bool, true, false, not, cond, ◌&&◌, ◌||◌, List, [], ◌∷◌, ◌++◌, length, get_or, refl, ap, ◌∙◌, sym, subst, arith, neg_ℤ}
+use Rattle.std.specs.List.{All, Contains, flat_map}
+use Rattle.std.proofs.lemmas.List.Elements.{All-append, All-cons, All-nil, All-head, All-tail, All-push, All-contains, Contains-append_left, Contains-append_right, Contains-push}
 use Rattle.bfr_store.specs.declared.edge.Edge.{Edge}
 use Rattle.bfr_store.specs.Edges.{node_of, is_flipped, xor}
 use Rattle.aig_store.specs.declared.node.AigNode.{AigNode}
 use Rattle.aig_store.specs.declared.node.AigNode.TheVariants.{Constant, Var, And}
-use Rattle.aig_store.specs.Nodes.{node_at, says, truth_of, edge_at}
+use Rattle.aig_store.specs.Nodes.{node_at, truth_of}
 use Rattle.aig_store.specs.Inside.{IsOrdered}
 use Rattle.aig_store.specs.Walks.{value_of}
-use Rattle.aig_store.proofs.Nodes.{edge-says, gate-at, value-says, node-says}
-use Rattle.cnf_rup.specs.declared.clause.Entry.{Entry}
+use Rattle.aig_store.proofs.Nodes.{gate-at, value-says}
 use Rattle.cnf_rup.proofs.Parts.{all-front}
-use Rattle.cnf_rup.specs.Literals.{holds, Satisfies, SatisfiesAll, IsLiteral, IsClause, IsUpTo}
-use Rattle.cnf_rup.specs.Books.{clauses_of}
-use Rattle.cnf_rup.specs.Cones.{IsInCone, at_root, at_first, at_second, IsCone}
-use Rattle.cnf_rup.specs.Cnfs.{literal_at, literal_of, clauses_of_node, clauses_of_cone, entries_of_node, entries_of_cone, IsCnfOf, IsExtension, Extends}
+use Rattle.cnf_rup.specs.Literals.{holds, Satisfies, SatisfiesAll}
+use Rattle.cnf_rup.specs.Cones.{at_root, at_first, at_second, IsCone}
+use Rattle.cnf_rup.specs.Cnfs.{literal_at, literal_of, clauses_of_node, clauses_of_cone, IsCnfOf, IsExtension, Extends}
 
 -- ---- what an edge's literal says
 pub holds-edge : (b : ℕ → Bool) (e : Edge) → holds b (literal_of e) ≡ xor (is_flipped e) (b (suc (node_of e)))

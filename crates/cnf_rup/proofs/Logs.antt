@@ -1,11 +1,11 @@
 -- Logs of learned clauses.
-use Rattle.std.proofs.Common.{◌≡◌, ℕ, ℤ, Bool, true, false, ◌||◌, ◌<◌, ◌≤◌, ◌+◌, List, [], ◌∷◌, ◌++◌, map, take, drop, length, get_or, refl, ap, ◌∙◌, sym, subst, arith}
+use Rattle.std.proofs.Common.{◌≡◌, ℕ, ℤ, Bool, true, false, ◌||◌, ◌<◌, ◌≤◌, List, [], ◌∷◌, ◌++◌, take, drop, length, refl, ap, ◌∙◌, sym, subst, arith}
 use Rattle.std.specs.List.{All}
 use Rattle.std.proofs.lemmas.List.{append-nil, append_assoc, map-append, take-append-drop, take-append-le, drop-append-le, length_push}
 use Rattle.std.proofs.lemmas.List.Folds.{list_any-append}
 use Rattle.std.proofs.lemmas.List.Elements.{All-head, All-tail, All-push, All-map, All-drop, All-take, All-weaker}
 use Rattle.cnf_rup.specs.declared.clause.Entry.{Entry}
-use Rattle.cnf_rup.specs.Literals.{Satisfies, SatisfiesAll, Follows, IsClause}
+use Rattle.cnf_rup.specs.Literals.{Satisfies, SatisfiesAll, IsClause}
 use Rattle.cnf_rup.specs.Shown.{IsShown}
 use Rattle.cnf_rup.specs.Books.{BookSeen, clauses_of, first_clauses, log_of, IsLogOk, IsBook, AllFollow, holds_empty, is_empty}
 use Rattle.cnf_rup.specs.Marked.{AreWithin}

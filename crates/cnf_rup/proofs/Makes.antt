@@ -12,7 +12,7 @@ use Rattle.cnf_rup.specs.declared.clause.Entry.{Entry}
 use Rattle.cnf_rup.specs.Literals.{IsLiteral, IsClause, IsUpTo}
 use Rattle.cnf_rup.specs.Books.{clauses_of}
 use Rattle.cnf_rup.specs.Cones.{IsCone}
-use Rattle.cnf_rup.specs.Cnfs.{literal_of, clauses_of_cone, entries_of_cone, IsCnfOf, Extends}
+use Rattle.cnf_rup.specs.Cnfs.{literal_of, entries_of_cone, IsCnfOf, Extends}
 use Rattle.cnf_rup.proofs.Counts.{IsInside, inside, IsSized, IsFrom, entries-from, edge-sized, one, few, three-each, clauses-of-cone}
 use Rattle.cnf_rup.proofs.Gates.{extends-clauses}
 

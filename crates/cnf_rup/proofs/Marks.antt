@@ -1,10 +1,9 @@
 -- Marks of literals.
-use Rattle.std.proofs.Common.{◌≡◌, ◌≢◌, ℕ, zero, suc, ℤ, pos, negsuc, ◌+◌, ◌-◌, ◌*◌, ◌<◌, ◌≤◌, Bool, true, false, not, cond, ◌||◌, List, [], ◌∷◌, ◌++◌, length, get_or, set, drop, refl, ap, ◌∙◌, sym, subst, inl, inr, arith, int_eq, neg_ℤ, unsigned_abs, get_or-set_same, get_or-set_other}
-use Rattle.std.specs.List.{list_any, list_all, All}
+use Rattle.std.proofs.Common.{◌≡◌, ◌≢◌, ℕ, zero, suc, ℤ, pos, negsuc, ◌+◌, ◌*◌, ◌<◌, ◌≤◌, Bool, true, false, ◌||◌, List, [], ◌∷◌, ◌++◌, length, get_or, set, drop, refl, ap, ◌∙◌, sym, inl, inr, arith, int_eq, unsigned_abs, get_or-set_same, get_or-set_other}
 use Rattle.std.proofs.lemmas.List.{drop_more, drop_all}
 use Rattle.std.proofs.lemmas.Bool.{cases_Bool, or_cases, or_right, both_ways, false_from_ne_true}
 use Rattle.cnf_rup.specs.Shown.{is_among}
-use Rattle.cnf_rup.specs.Marked.{AreMarked, IsWithin, is_marked, mark_of, unset_count}
+use Rattle.cnf_rup.specs.Marked.{AreMarked, is_marked, mark_of, unset_count}
 use Rattle.cnf_rup.proofs.Among.{among-push, same-literal, literal-same}
 
 -- a literal within the marks has one

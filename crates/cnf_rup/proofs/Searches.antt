@@ -1,9 +1,9 @@
 -- The walk over a cone.
-use Rattle.std.proofs.Common.{◌≡◌, ◌≢◌, ℕ, zero, suc, ◌+◌, ◌<◌, ◌≤◌, Bool, true, false, cond, List, [], ◌∷◌, ◌++◌, length, get_or, set, replicate, refl, ap, ◌∙◌, sym, subst, inl, inr, arith, get_or-set_same, get_or-set_other, length-set}
+use Rattle.std.proofs.Common.{◌≡◌, ℕ, zero, suc, ◌+◌, ◌<◌, ◌≤◌, Bool, true, false, cond, List, [], ◌∷◌, ◌++◌, length, get_or, set, replicate, refl, ap, ◌∙◌, sym, subst, inl, inr, arith, get_or-set_same, get_or-set_other, length-set}
 use Rattle.std.specs.List.{Contains}
-use Rattle.std.proofs.lemmas.List.{length_push, get_or_append_left, get_or_push, get_or_default, length-replicate, get_or-replicate, get_or_past}
+use Rattle.std.proofs.lemmas.List.{length_push, get_or_append_left, get_or_push, get_or_default, length-replicate, get_or_past}
 use Rattle.std.proofs.lemmas.List.Elements.{Contains-append_left, Contains-push, Contains-push_cases}
-use Rattle.std.proofs.lemmas.Bool.{cases_Bool, cases_eq, cases_lt, both_ways}
+use Rattle.std.proofs.lemmas.Bool.{cases_eq, cases_lt, both_ways}
 use Rattle.bfr_store.specs.declared.edge.Edge.{Edge}
 use Rattle.bfr_store.specs.Edges.{node_of}
 use Rattle.aig_store.specs.declared.node.AigNode.{AigNode}
@@ -11,9 +11,9 @@ use Rattle.aig_store.specs.declared.node.AigNode.TheVariants.{Constant, Var, And
 use Rattle.aig_store.specs.Nodes.{node_at}
 use Rattle.aig_store.specs.Inside.{IsOrdered}
 use Rattle.aig_store.proofs.Nodes.{gate-at}
-use Rattle.cnf_rup.specs.Cones.{IsInCone, at_root, at_first, at_second, AreDifferent, IsCone}
+use Rattle.cnf_rup.specs.Cones.{IsInCone, at_root, at_first, at_second, IsCone}
 use Rattle.cnf_rup.specs.Marked.{unset_count}
-use Rattle.cnf_rup.specs.Searches.{IsFound, IsClosed, IsSearch, cone_below, cone_with, seen_below, seen_with}
+use Rattle.cnf_rup.specs.Searches.{IsFound, IsSearch, cone_below, cone_with, seen_below, seen_with}
 use Rattle.cnf_rup.proofs.Marks.{unset-set}
 
 -- ---- a node that the walk comes to

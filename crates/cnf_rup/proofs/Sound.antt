@@ -1,13 +1,13 @@
 -- Unit propagation in the order of hints is sound.
 use Rattle.std.proofs.Common.{◌≡◌, ◌≢◌, ℕ, zero, suc, ℤ, ◌+◌, ◌<◌, ◌≤◌, Bool, true, false, not, cond, ◌||◌, ◌&&◌, List, [], ◌∷◌, ◌++◌, map, filter, Option, Some, None, slice_get, length, get_or, refl, ap, ◌∙◌, sym, subst, inl, inr, arith, int_eq, neg_ℤ}
 use Rattle.std.specs.List.{list_any, list_all, All}
-use Rattle.std.proofs.lemmas.Bool.{cases_Bool, or_cases, or_left, or_right, or_parts, and_parts, not-true, not-false, both_ways}
-use Rattle.std.proofs.lemmas.List.Elements.{All-head, All-tail, All-get_or}
+use Rattle.std.proofs.lemmas.Bool.{cases_Bool, or_cases, and_parts, not-true, not-false, both_ways}
+use Rattle.std.proofs.lemmas.List.Elements.{All-head, All-tail}
 use Rattle.std.proofs.lemmas.Option.{get_or_from_slice_get, slice_get_within}
 use Rattle.cnf_rup.specs.declared.turn.Turn.{Turn}
 use Rattle.cnf_rup.specs.declared.turn.Turn.TheVariants as turn
 use Rattle.cnf_rup.specs.Literals.{holds, Satisfies, SatisfiesAll, Follows, IsLiteral, IsClause}
-use Rattle.cnf_rup.specs.Shown.{is_among, negated, is_tautology, left_of, turn_of_left, turn_of, clause_at, turn_of_named, turn_at, by_turn, stop, first_unshown, IsShown}
+use Rattle.cnf_rup.specs.Shown.{is_among, negated, is_tautology, left_of, turn_of_left, turn_of, turn_of_named, turn_at, by_turn, stop, IsShown}
 use Rattle.cnf_rup.proofs.Among.{same-literal, among-push, any-among, any-weaker, none-at, clause-at, holds-complement, among-negated}
 
 -- all of these literals are true

@@ -1,9 +1,9 @@
 -- What a clause is, by its literals one after another.
-use Rattle.std.proofs.Common.{◌≡◌, ◌≢◌, ℕ, zero, suc, ℤ, ◌+◌, ◌-◌, ◌*◌, ◌<◌, ◌≤◌, Bool, true, false, not, cond, ◌||◌, ◌&&◌, List, [], ◌∷◌, ◌++◌, drop, filter, length, get_or, Option, Some, None, slice_get, refl, ap, ◌∙◌, sym, subst, inl, inr, arith, int_eq, neg_ℤ, unsigned_abs}
-use Rattle.std.specs.List.{list_any, list_all, All}
+use Rattle.std.proofs.Common.{◌≡◌, ◌≢◌, ℕ, zero, suc, ℤ, ◌+◌, ◌-◌, ◌<◌, ◌≤◌, true, false, not, cond, ◌&&◌, List, [], ◌∷◌, drop, length, get_or, Option, Some, None, slice_get, refl, ap, ◌∙◌, sym, subst, arith, int_eq, neg_ℤ}
+use Rattle.std.specs.List.{list_all}
 use Rattle.std.proofs.lemmas.List.{drop_more, drop_all}
 use Rattle.std.proofs.lemmas.List.Elements.{All-head, All-tail}
-use Rattle.std.proofs.lemmas.Bool.{cases_Bool, or_cases, both_ways, false_from_ne_true, and_left}
+use Rattle.std.proofs.lemmas.Bool.{both_ways}
 use Rattle.cnf_rup.specs.declared.turn.Turn.{Turn}
 use Rattle.cnf_rup.specs.declared.turn.Turn.TheVariants as turn
 use Rattle.std.proofs.lemmas.Option.{slice_get-map}
@@ -12,8 +12,8 @@ use Rattle.cnf_rup.specs.declared.clause.Entry.{Entry}
 use Rattle.cnf_rup.specs.Books.{clauses_of}
 use Rattle.cnf_rup.specs.Shown.{is_among, left_of, turn_of_left, turn_of, turn_of_named, turn_at}
 use Rattle.cnf_rup.specs.Marked.{AreWithin, IsWithin, IsOpenUnit}
-use Rattle.cnf_rup.proofs.Among.{same-literal, literal-same, literal-other}
-use Rattle.cnf_rup.proofs.Sound.{IsUnit, unit-left}
+use Rattle.cnf_rup.proofs.Among.{literal-same, literal-other}
+use Rattle.cnf_rup.proofs.Sound.{unit-left}
 
 -- what the clause is, where this literal is free and these are left
 abbrev pub ended : List ℤ → Option ℤ → List ℤ → Turn

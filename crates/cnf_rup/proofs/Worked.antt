@@ -1,6 +1,6 @@
 -- Rows that were worked by hand: hints over the clauses of x and not y, whose nodes are the variables 2, 3 and 4; and the
 -- clauses of that graph.
-use Rattle.std.proofs.Common.{◌≡◌, ℕ, ℤ, pos, negsuc, Bool, true, false, ◌||◌, eqb, List, [], ◌∷◌, Option, Some, None, refl}
+use Rattle.std.proofs.Common.{◌≡◌, ℤ, pos, negsuc, true, false, ◌||◌, eqb, List, [], ◌∷◌, Some, None, refl}
 use Rattle.std.specs.List.{list_any}
 use Rattle.aig_store.specs.declared.node.AigNode.{AigNode}
 use Rattle.aig_store.specs.declared.node.AigNode.TheVariants.{Constant, Var, And}

@@ -1,6 +1,6 @@
 -- Literals and clauses, and what an assignment makes of them. A literal is a whole number: v is variable v, and -v is its
 -- complement. A clause is the list of its literals.
-use Rattle.std.specs.Prelude.{ℕ, ℤ, pos, negsuc, suc, Bool, true, not, ◌≡◌, ◌≤◌, ◌<◌, ◌^◌, ◌-◌, List, All}
+use Rattle.std.specs.Prelude.{ℕ, ℤ, pos, negsuc, suc, Bool, true, not, ◌≡◌, ◌≤◌, ◌<◌, List, All}
 use Rattle.std.specs.Int.RustNames.{unsigned_abs}
 use Rattle.std.specs.List.{list_any}
 

@@ -1,5 +1,5 @@
 -- Marks of literals: what a trail keeps true of them.
-use Rattle.std.specs.Prelude.{ℕ, ℤ, pos, negsuc, Bool, true, false, cond, ◌+◌, ◌*◌, ◌≡◌, ◌≤◌, ◌<◌, List, [], ◌∷◌, length, get_or, All}
+use Rattle.std.specs.Prelude.{ℕ, ℤ, pos, negsuc, Bool, false, cond, ◌+◌, ◌*◌, ◌≡◌, ◌<◌, List, [], ◌∷◌, get_or, All}
 use Rattle.std.specs.Int.RustNames.{unsigned_abs}
 use Rattle.cnf_rup.specs.Shown.{is_among}
 

@@ -1,7 +1,7 @@
 -- When a list of hints shows a clause: the rule of RUP proofs with LRAT's hints. The clause's literals are taken as false.
 -- Each hint in turn names a clause that then has no literal left that is not false, which is a conflict and shows the
 -- clause, or all but one, which has no value yet and is taken as true.
-use Rattle.std.specs.Prelude.{ℕ, zero, suc, ℤ, Bool, true, not, ◌&&◌, cond, ◌≡◌, List, [], ◌∷◌, ◌++◌, map, filter, Option, Some, None, slice_get}
+use Rattle.std.specs.Prelude.{ℕ, zero, suc, ℤ, Bool, not, ◌&&◌, cond, ◌≡◌, List, [], ◌∷◌, ◌++◌, map, filter, Option, Some, None, slice_get}
 use Rattle.std.specs.Prelude.{neg_ℤ}
 use Rattle.std.specs.Ordering.{int_eq}
 use Rattle.std.specs.List.{list_any, list_all}

@@ -1,11 +1,10 @@
-use Rattle.std.proofs.Common.{◌≡◌, ℕ, ℤ, Bool, ◌<◌, ◌≤◌, ◌+◌, ◌*◌, ◌++◌, ◌∷◌, [], ◌↔◌, true, All, sym, subst, ap, length, get_or, arith, rules, FitsSigned, w32, to_z-of_z}
+use Rattle.std.proofs.Common.{◌≡◌, ℕ, Bool, ◌<◌, ◌≤◌, ◌+◌, ◌*◌, ◌++◌, ◌∷◌, [], ◌↔◌, true, All, sym, subst, length, arith, rules, FitsSigned, w32, to_z-of_z}
 use Rattle.std.proofs.lemmas.Result.{IfOk-weaker}
 use Rattle.bfr_store.specs.Edges.{node_of}
 use Rattle.aig_store.specs.Nodes.{count_of, truth_of}
-use Rattle.cnf_rup.specs.declared.clause.Entry.{Entry}
 use Rattle.cnf_rup.specs.Literals.{IsUpTo}
 use Rattle.cnf_rup.specs.Books.{BookSeen, clauses_of}
-use Rattle.cnf_rup.specs.Cnfs.{literal_of, entries_of_cone, IsCnfOf, Extends}
+use Rattle.cnf_rup.specs.Cnfs.{IsCnfOf, Extends}
 use Rattle.cnf_rup.proofs.Makes.{made-by, all-inside-at, are-clauses, are-within, are-bare, are-few, are-small, are-up-to, made-cnf, made-extends}
 use Rattle.cnf_rup.proofs.cnf.cnf_of.Goals as goal
 

@@ -1,5 +1,4 @@
-use Rattle.std.proofs.Common.{arith, get_or, ◌<◌}
-use Rattle.bfr_store.specs.Edges.{node_of}
+use Rattle.std.proofs.Common.{arith}
 use Rattle.cnf_rup.proofs.cnf.push_cone.Goals as goal
 
 pub push_node-requires-clause-below : goal.push_node-requires-clause-below

@@ -1,5 +1,4 @@
-use Rattle.std.proofs.Common.{◌≡◌, ◌++◌, ◌∷◌, [], ◌∙◌, ap, rules, FitsSigned, w32, to_z-of_z, neg_ℤ, List}
-use Rattle.cnf_rup.specs.declared.clause.Entry.{Entry}
+use Rattle.std.proofs.Common.{◌≡◌, ◌++◌, ◌∷◌, [], ◌∙◌, rules, FitsSigned, w32, to_z-of_z, neg_ℤ}
 use Rattle.cnf_rup.proofs.Parts.{three_pushed}
 use Rattle.cnf_rup.proofs.cnf.push_gate.Goals as goal
 

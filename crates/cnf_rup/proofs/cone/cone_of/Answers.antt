@@ -1,4 +1,4 @@
-use Rattle.std.proofs.Common.{◌≡◌, ◌<◌, ◌+◌, ◌≤◌, ◌∙◌, ap, refl, false, replicate, arith, rules, length, get_or}
+use Rattle.std.proofs.Common.{◌≡◌, ◌+◌, ◌∙◌, ap, refl, false, replicate, arith, rules, length, get_or}
 use Rattle.std.proofs.lemmas.List.{get_or_read_under}
 use Rattle.cnf_rup.specs.Searches.{cone_with}
 use Rattle.cnf_rup.proofs.Counts.{cone-count}

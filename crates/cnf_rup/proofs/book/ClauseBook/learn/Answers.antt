@@ -1,6 +1,4 @@
-use Rattle.std.proofs.Common.{◌≡◌, ◌<◌, ◌∙◌, ◌||◌, ap, sym, subst, arith, rules, length}
-use Rattle.std.proofs.lemmas.Grind.{common_steps}
-use Rattle.cnf_rup.specs.declared.clause.Entry.{Entry}
+use Rattle.std.proofs.Common.{◌<◌, ◌∙◌, ◌||◌, ap, sym, subst, arith, rules, length}
 use Rattle.cnf_rup.specs.Books.{BookSeen, clauses_of}
 use Rattle.cnf_rup.specs.Shown.{IsShown}
 use Rattle.cnf_rup.specs.Marked.{AreWithin}
