@@ -18,9 +18,9 @@ use std::alloc::Global;
 /// conclusion and that the hypothesis does not keep within its shape; none where each is covered.
 ///
 /// An integer of n indices is covered by a conjunct `(unsigned-byte-p 'm v)` of the hypothesis with
-/// 0 <= m < n, or `(signed-byte-p 'm v)` with 1 <= m <= n. A Boolean, an integer or a constant is covered
-/// by `(equal v 'x)`, in either order, where it has the object x; a choice where one of its parts is. The
-/// conjuncts of `(if a b nil)` are those of a and of b.
+/// 0 <= m < n, or `(signed-byte-p 'm v)` with 1 <= m <= n. An integer, a Boolean and a constant are covered
+/// by `(equal v 'x)` or `(equal 'x v)`, where x is an object of the shape, and a choice where one of its
+/// parts is. A cons is not covered so far. The conjuncts of `(if a b nil)` are those of a and of b.
 pub fn covers(
     alloc: Global,
     hyp: &Term,
