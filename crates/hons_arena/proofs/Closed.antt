@@ -8,7 +8,7 @@ use Rattle.hons_arena.specs.declared.cell.Cell.TheVariants as cell
 use Rattle.hons_arena.specs.declared.id.Id.{Id}
 use Rattle.hons_arena.specs.declared.id.IdKind.{IdKind}
 use Rattle.hons_arena.specs.declared.id.IdKind.TheVariants as kind
-use Rattle.hons_arena.specs.Cells.{cell_object, objects_of, cell_at, PartsBelow, IsInterned}
+use Rattle.hons_arena.specs.Cells.{cell_object, objects_of, cell_at, FitsBelow, IsInterned}
 use Rattle.hons_arena.specs.Ids.{object_at, object_numbered, IsNumberBelow, IsBelow}
 use Rattle.hons_arena.specs.Parts.{AreHeld}
 use Rattle.hons_arena.proofs.CellsIn.{IsPart, cell_of, of_cell}
@@ -30,7 +30,7 @@ module _ (cells : List Cell) (interned : IsInterned cells) where
 
   -- the parts of a cons with a live number
   parts_held : (a d : Object) → ((j : Id) → IsBelow n j → object_at objects j ≡ a → AreHeld objects a) → ((j : Id) → IsBelow n j → object_at objects j ≡ d → AreHeld objects d)
-      → (c : Cell) → PartsBelow n c → cell_object objects c ≡ Cons a d → AreHeld objects a × AreHeld objects d
+      → (c : Cell) → FitsBelow n c → cell_object objects c ≡ Cons a d → AreHeld objects a × AreHeld objects d
   parts_held a d f g (cell.Int z) p e = absurd cc
   parts_held a d f g (cell.Character z) p e = absurd cc
   parts_held a d f g (cell.Cons s t i j) p e = (f (record { kind = s; number = i }) p.0 (ap car e), g (record { kind = t; number = j }) p.1 (ap cdr e))

@@ -6,14 +6,14 @@ use Rattle.gl_logic.specs.Object.{Object, nil}
 use Rattle.hons_arena.specs.declared.cell.Cell.{Cell}
 use Rattle.hons_arena.specs.declared.id.Id.{Id}
 use Rattle.hons_arena.specs.declared.id.IdKind.TheVariants as kind
-use Rattle.hons_arena.specs.Cells.{cell_object, objects_of, PartsBelow, IsInterned}
+use Rattle.hons_arena.specs.Cells.{cell_object, objects_of, FitsBelow, IsInterned}
 use Rattle.hons_arena.specs.Held.{Held, Enters, HasNoCell, IsWhole}
 use Rattle.hons_arena.specs.Ids.{object_at, IsBelow, IsIdOf}
 use Rattle.hons_arena.specs.Probe.{IsAbsent, IsFoundAt}
 use Rattle.hons_arena.specs.Sound.{IsSound}
 use Rattle.hons_arena.specs.Table.{empty, most_slots, IsTable, IsFreeFor}
 use Rattle.hons_arena.proofs.Closed.{all_held}
-use Rattle.hons_arena.proofs.Interned.{objects_count, each_once, same_ids, absent_held, found_held, found_contains, interned_push}
+use Rattle.hons_arena.proofs.Interned.{objects_count, each_once, same_ids, narrow_ids, absent_held, found_held, found_contains, interned_push}
 use Rattle.hons_arena.proofs.Objects.{objects-push}
 use Rattle.hons_arena.proofs.Tables.{table-push}
 
@@ -32,11 +32,12 @@ whole_from limit cells held interned few is = subst IsWhole is (record {
   different = each_once cells interned;
   ids = same_ids cells interned;
   parts = λ id h. all_held cells interned (object_at (objects_of cells) id) id (subst (λ (m : ℕ). IsBelow m id) (objects_count cells interned) h) refl;
+  narrow = narrow_ids cells interned;
 })
 
 module _ (limit : ℕ) (cells : List Cell) (c : Cell) (interned : IsInterned cells) where
-  parts_here : (held : Held) → seen limit cells ≡ held → PartsBelow (length held.objects) c → PartsBelow (length cells) c
-  parts_here held is parts = subst (λ (m : ℕ). PartsBelow m c) (sym (count_is limit cells held interned is)) parts
+  parts_here : (held : Held) → seen limit cells ≡ held → FitsBelow (length held.objects) c → FitsBelow (length cells) c
+  parts_here held is parts = subst (λ (m : ℕ). FitsBelow m c) (sym (count_is limit cells held interned is)) parts
 
   -- a cell that was found
   pub record Has (held : Held) (id : Id) : Type 0 where
@@ -44,9 +45,9 @@ module _ (limit : ℕ) (cells : List Cell) (c : Cell) (interned : IsInterned cel
     pub enters : Enters held.objects held.objects (cell_object held.objects c)
     pub never_full : HasNoCell held (cell_object held.objects c) → ⊥
 
-  pub found : (held : Held) (k : ℕ) (id : Id) → seen limit cells ≡ held → PartsBelow (length held.objects) c → IsFoundAt cells c k → id ≡ cell_numbered k → Has held id
+  pub found : (held : Held) (k : ℕ) (id : Id) → seen limit cells ≡ held → FitsBelow (length held.objects) c → IsFoundAt cells c k → id ≡ cell_numbered k → Has held id
   found held k id is parts at e =
-      let p : PartsBelow (length cells) c = parts_here held is parts in
+      let p : FitsBelow (length cells) c = parts_here held is parts in
       let contains : Contains (objects_of cells) (cell_object (objects_of cells) c) = found_contains cells interned c p k at.held at.keeps in
       subst (λ (i : Id). Has held i) (sym e) (subst (λ (h : Held). Has h (cell_numbered k)) is (record {
         id_of = (subst (λ (m : ℕ). k < m) (sym (objects_count cells interned)) at.held, found_held cells interned c p k at.held at.keeps);
@@ -54,7 +55,7 @@ module _ (limit : ℕ) (cells : List Cell) (c : Cell) (interned : IsInterned cel
         never_full = λ h. h.absent contains;
       }))
 
-  pub no_cell : (held : Held) → seen limit cells ≡ held → PartsBelow (length held.objects) c → IsAbsent cells c → length cells ≡ limit → HasNoCell held (cell_object held.objects c)
+  pub no_cell : (held : Held) → seen limit cells ≡ held → FitsBelow (length held.objects) c → IsAbsent cells c → length cells ≡ limit → HasNoCell held (cell_object held.objects c)
   no_cell held is parts absent full =
       subst (λ (h : Held). HasNoCell h (cell_object h.objects c)) is (record {
         absent = absent_held cells interned c (parts_here held is parts) absent;
@@ -68,10 +69,10 @@ module _ (limit : ℕ) (cells : List Cell) (c : Cell) (interned : IsInterned cel
     pub not_full : HasNoCell held (cell_object held.objects c) → ⊥
     pub whole : IsWhole new
 
-  pub added : (held : Held) (new : List Cell) (k : ℕ) (id : Id) → length cells ≤ limit → seen limit cells ≡ held → PartsBelow (length held.objects) c → IsAbsent cells c → length cells ≡ k → k ≢ limit → new ≡ cells ++ c ∷ [] → id ≡ cell_numbered k
+  pub added : (held : Held) (new : List Cell) (k : ℕ) (id : Id) → length cells ≤ limit → seen limit cells ≡ held → FitsBelow (length held.objects) c → IsAbsent cells c → length cells ≡ k → k ≢ limit → new ≡ cells ++ c ∷ [] → id ≡ cell_numbered k
       → Gets held (seen limit new) id
   added held new k id few is parts absent many room e f =
-      let p : PartsBelow (length cells) c = parts_here held is parts in
+      let p : FitsBelow (length cells) c = parts_here held is parts in
       let x : Object = cell_object (objects_of cells) c in
       let grown : objects_of new ≡ objects_of cells ++ x ∷ [] = ap objects_of e ∙ objects-push [] cells c in
       let count : length (objects_of cells) ≡ k = objects_count cells interned ∙ many in
@@ -83,7 +84,7 @@ module _ (limit : ℕ) (cells : List Cell) (c : Cell) (interned : IsInterned cel
         whole = whole_from limit new (seen limit new) now (omega (arith, few, many, room, ap length e, length_push cells c)) refl;
       }))
 
-pub sound_push : (limit : ℕ) (cells : List Cell) (capacity : ℕ) (slots : List ℕ) (places : ℕ) (c : Cell) (new : List Cell) (more : ℕ) (grown : List ℕ) (reserved : ℕ) → IsSound limit cells capacity slots places → PartsBelow (length cells) c → IsAbsent cells c
+pub sound_push : (limit : ℕ) (cells : List Cell) (capacity : ℕ) (slots : List ℕ) (places : ℕ) (c : Cell) (new : List Cell) (more : ℕ) (grown : List ℕ) (reserved : ℕ) → IsSound limit cells capacity slots places → FitsBelow (length cells) c → IsAbsent cells c
     → length cells ≢ limit → new ≡ cells ++ c ∷ [] → limit ≤ more → IsTable new grown → length new < length grown → length grown ≤ most_slots limit → places ≤ reserved → IsSound limit new more grown reserved
 sound_push limit cells capacity slots places c new more grown reserved s parts absent room e l table free size kept = record {
   few = omega (arith, ap length e, length_push cells c, room, s.few);

@@ -6,7 +6,7 @@ use Rattle.hons_arena.specs.declared.cell.Cell.{Cell}
 use Rattle.hons_arena.specs.declared.cell.Cell.TheVariants as cell
 use Rattle.hons_arena.specs.declared.id.IdKind.{IdKind}
 use Rattle.hons_arena.specs.declared.id.IdKind.TheVariants as kind
-use Rattle.hons_arena.specs.Cells.{cell_object, objects_from, objects_of, cell_at, PartsBelow}
+use Rattle.hons_arena.specs.Cells.{cell_object, objects_from, objects_of, cell_at, FitsBelow}
 use Rattle.hons_arena.specs.Ids.{object_numbered, IsNumberBelow}
 
 pub objects-length : (before : List Object) (cs : List Cell) → length (objects_from before cs) ≡ length before + length cs
@@ -47,12 +47,12 @@ object_kept xs ys k same kind.Symbol n h = refl
 object_kept xs ys k same kind.Text n h = refl
 object_kept xs ys k same kind.Cell n h = same n h
 
-pub cell_object_kept : (xs ys : List Object) (k : ℕ) → ((i : ℕ) → i < k → get_or ys i nil ≡ get_or xs i nil) → (c : Cell) → PartsBelow k c → cell_object ys c ≡ cell_object xs c
+pub cell_object_kept : (xs ys : List Object) (k : ℕ) → ((i : ℕ) → i < k → get_or ys i nil ≡ get_or xs i nil) → (c : Cell) → FitsBelow k c → cell_object ys c ≡ cell_object xs c
 cell_object_kept xs ys k same (cell.Int z) h = refl
 cell_object_kept xs ys k same (cell.Character n) h = refl
 cell_object_kept xs ys k same (cell.Cons s t m n) h = ap₂ Cons (object_kept xs ys k same s m h.0) (object_kept xs ys k same t n h.1)
 
-objects-at_from : (before : List Object) (cs : List Cell) (k : ℕ) → k < length cs → PartsBelow (length before + k) (cell_at cs k)
+objects-at_from : (before : List Object) (cs : List Cell) (k : ℕ) → k < length cs → FitsBelow (length before + k) (cell_at cs k)
     → get_or (objects_from before cs) (length before + k) nil ≡ cell_object (objects_from before cs) (cell_at cs k)
 objects-at_from before [] k h p = absurd (omega (arith, h))
 objects-at_from before (c ∷ cs) zero h p =
@@ -63,13 +63,13 @@ objects-at_from before (c ∷ cs) zero h p =
     ap (λ m. get_or end m nil) (omega arith)
     ∙ (objects-front more cs (length before) nil (omega (arith, grown))
     ∙ (get_or_at before (cell_object before c) [] nil (length before) refl
-    ∙ sym (cell_object_kept before end (length before) same c (subst (λ (m : ℕ). PartsBelow m c) (omega arith) p))))
+    ∙ sym (cell_object_kept before end (length before) same c (subst (λ (m : ℕ). FitsBelow m c) (omega arith) p))))
 objects-at_from before (c ∷ cs) (suc k) h p =
     let more : List Object = before ++ cell_object before c ∷ [] in
     let on : length more + k ≡ length before + suc k = omega (arith, length_push before (cell_object before c)) in
     ap (λ m. get_or (objects_from more cs) m nil) (sym on)
-    ∙ objects-at_from more cs k (omega (arith, h)) (subst (λ (m : ℕ). PartsBelow m (cell_at cs k)) (sym on) p)
+    ∙ objects-at_from more cs k (omega (arith, h)) (subst (λ (m : ℕ). FitsBelow m (cell_at cs k)) (sym on) p)
 
 -- the object of cell k
-pub objects-at : (cells : List Cell) (k : ℕ) → k < length cells → PartsBelow k (cell_at cells k) → get_or (objects_of cells) k nil ≡ cell_object (objects_of cells) (cell_at cells k)
-objects-at cells k h p = ap (λ m. get_or (objects_of cells) m nil) (omega arith) ∙ objects-at_from [] cells k h (subst (λ (m : ℕ). PartsBelow m (cell_at cells k)) (omega arith) p)
+pub objects-at : (cells : List Cell) (k : ℕ) → k < length cells → FitsBelow k (cell_at cells k) → get_or (objects_of cells) k nil ≡ cell_object (objects_of cells) (cell_at cells k)
+objects-at cells k h p = ap (λ m. get_or (objects_of cells) m nil) (omega arith) ∙ objects-at_from [] cells k h (subst (λ (m : ℕ). FitsBelow m (cell_at cells k)) (omega arith) p)

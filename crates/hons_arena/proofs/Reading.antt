@@ -7,7 +7,7 @@ use Rattle.hons_arena.specs.declared.cell.Cell.TheVariants as cell
 use Rattle.hons_arena.specs.declared.id.Id.{Id}
 use Rattle.hons_arena.specs.declared.id.IdKind.{IdKind}
 use Rattle.hons_arena.specs.declared.id.IdKind.TheVariants as kind
-use Rattle.hons_arena.specs.Cells.{cell_object, objects_of, cell_at, PartsBelow, IsInterned, IsAtomCell, cons_cell}
+use Rattle.hons_arena.specs.Cells.{cell_object, objects_of, cell_at, FitsBelow, IsInterned, IsAtomCell, cons_cell}
 use Rattle.hons_arena.specs.Held.{Held}
 use Rattle.hons_arena.specs.Ids.{object_at, object_numbered, IsNumberBelow, IsBelow, IsLive, IsIdOf, HasNoParts, ArePartsOf}
 use Rattle.hons_arena.specs.Sound.{IsSound}
@@ -23,9 +23,9 @@ module _ (limit : ℕ) (cells : List Cell) (held : Held) (interned : IsInterned 
       let l : k < length cells = omega (arith, h, count_is limit cells held interned is) in
       subst (λ (s : Held). cell_object s.objects (cell_at cells k) ≡ get_or s.objects k nil) is (sym (object_is cells interned k l))
 
-  pub parts_read : (k : ℕ) → k < length held.objects → PartsBelow (length held.objects) (cell_at cells k)
+  pub parts_read : (k : ℕ) → k < length held.objects → FitsBelow (length held.objects) (cell_at cells k)
   parts_read k h =
-      subst (λ (m : ℕ). PartsBelow m (cell_at cells k)) (count_is limit cells held interned is) (parts_live cells interned k (omega (arith, h, count_is limit cells held interned is)))
+      subst (λ (m : ℕ). FitsBelow m (cell_at cells k)) (count_is limit cells held interned is) (parts_live cells interned k (omega (arith, h, count_is limit cells held interned is)))
 
 -- the number of an id of a cell
 pub number_live : (objects : List Object) (id : Id) → id.kind ≡ kind.Cell → IsLive objects id → id.number < length objects
@@ -39,11 +39,11 @@ atom_no_parts objects (cell.Int z) h = (tt, refl, refl)
 atom_no_parts objects (cell.Character n) h = (tt, refl, refl)
 atom_no_parts objects (cell.Cons s t m n) h = absurd h
 
-pub parts_of_read : (objects : List Object) (x : Object) (c : Cell) (o : Option (Id × Id)) → PartsBelow (length objects) c → cell_object objects c ≡ x → MatchOption o (IsAtomCell c) (λ p. c ≡ cons_cell p.0 p.1)
+pub parts_of_read : (objects : List Object) (x : Object) (c : Cell) (o : Option (Id × Id)) → FitsBelow (length objects) c → cell_object objects c ≡ x → MatchOption o (IsAtomCell c) (λ p. c ≡ cons_cell p.0 p.1)
     → MatchOption o (HasNoParts x) (λ p. ArePartsOf objects x p.0 p.1)
 parts_of_read objects x c None below is h = subst HasNoParts is (atom_no_parts objects c h)
 parts_of_read objects x c (Some p) below is h =
-    let parts : PartsBelow (length objects) (cons_cell p.0 p.1) = subst (λ (e : Cell). PartsBelow (length objects) e) h below in
+    let parts : FitsBelow (length objects) (cons_cell p.0 p.1) = subst (λ (e : Cell). FitsBelow (length objects) e) h below in
     let cons : cell_object objects (cons_cell p.0 p.1) ≡ x = ap (cell_object objects) (sym h) ∙ is in
     record { first = (parts.0, ap car cons); rest = (parts.1, ap cdr cons); whole = sym cons ∙ ap (λ y. Cons (car y) (cdr y)) cons }
 

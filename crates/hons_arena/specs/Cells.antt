@@ -1,6 +1,7 @@
 -- The objects that cells stand for, and what cells keep.
 use Rattle.std.specs.Prelude.{◌≡◌, ℕ, pos, ◌<◌, List, [], ◌∷◌, ◌++◌, length, get_or}
 use Rattle.gl_logic.specs.Object.{Object, Int, Character, Cons}
+use Rattle.gl_logic.specs.Width.{Fits}
 use Rattle.hons_arena.specs.declared.cell.Cell.{Cell}
 use Rattle.hons_arena.specs.declared.cell.Cell.TheVariants as cell
 use Rattle.hons_arena.specs.declared.id.Id.{Id}
@@ -20,18 +21,18 @@ objects_from before (c ∷ cs) = objects_from (before ++ cell_object before c �
 abbrev pub objects_of : List Cell → List Object
 objects_of cells = objects_from [] cells
 
--- the parts' cells are among the first k
-abbrev pub PartsBelow : ℕ → Cell → Type 0
-PartsBelow k (cell.Int z) = Unit {0}
-PartsBelow k (cell.Character n) = Unit {0}
-PartsBelow k (cell.Cons s t m n) = IsNumberBelow k s m × IsNumberBelow k t n
+-- an integer is within 128 bits, and the parts' cells are among the first k
+abbrev pub FitsBelow : ℕ → Cell → Type 0
+FitsBelow k (cell.Int z) = Fits z
+FitsBelow k (cell.Character n) = Unit {0}
+FitsBelow k (cell.Cons s t m n) = IsNumberBelow k s m × IsNumberBelow k t n
 
 abbrev pub cell_at : List Cell → ℕ → Cell
 cell_at cells k = get_or cells k (cell.Int (pos 0))
 
 -- different cells, each behind its parts
 pub record IsInterned (cells : List Cell) : Type 0 where
-  pub behind : (k : ℕ) → k < length cells → PartsBelow k (cell_at cells k)
+  pub behind : (k : ℕ) → k < length cells → FitsBelow k (cell_at cells k)
   pub different : (i j : ℕ) → i < length cells → j < length cells → cell_at cells i ≡ cell_at cells j → i ≡ j
 
 abbrev pub IsAtomCell : Cell → Type 0

@@ -3,6 +3,7 @@ use Rattle.std.specs.Prelude.{◌≡◌, ◌≢◌, ℕ, ◌+◌, ◌<◌, ◌�
 use Rattle.std.specs.Coded.{Coded, code_by, coded×, coded_ℕ, coded_list}
 use Rattle.std.proofs.Common.{◌⊎◌}
 use Rattle.gl_logic.specs.Object.{Object, coded_object}
+use Rattle.gl_logic.specs.Wide.{IsWideObject}
 use Rattle.hons_arena.specs.declared.id.Full.{Full}
 use Rattle.hons_arena.specs.declared.id.Id.{Id}
 use Rattle.hons_arena.specs.Ids.{object_at, IsLive, IsIdOf}
@@ -30,13 +31,14 @@ pub record HasNoCell (held : Held) (x : Object) : Type 0 where
   pub absent : ¬ Contains held.objects x
   pub full : length held.objects ≡ held.limit
 
--- what is true of every arena: each object is held once and has one id, and each cell of an object that an id stands
--- for is held
+-- what is true of every arena: each object is held once and has one id, each cell of an object that an id stands for is
+-- held, and no id stands for an integer outside 128 bits
 pub record IsWhole (held : Held) : Type 0 where
   pub within : length held.objects ≤ held.limit
   pub different : IsEachOnce held.objects
   pub ids : (a b : Id) → IsLive held.objects a → IsLive held.objects b → object_at held.objects a ≡ object_at held.objects b → a ≡ b
   pub parts : (id : Id) → IsLive held.objects id → AreHeld held.objects (object_at held.objects id)
+  pub narrow : (id : Id) → IsLive held.objects id → ¬ IsWideObject (object_at held.objects id)
 
 -- an object that takes a cell is asked for: the answer is its id, and it is held from then on; Full exactly where it is
 -- not held and there is no cell left, and then nothing has changed

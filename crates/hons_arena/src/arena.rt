@@ -3,7 +3,7 @@
 ghost use Rattle.std.specs.Prelude.{◌≡◌, ◌-◌, ◌<◌, ◌≤◌, ◌↔◌, List, [], take, length, IfOk, OnOk, OnErr, IsErr, IsTrue, MatchOption, slice_index_or};
 ghost use Rattle.gl_logic.specs.Object.{Object, nil, Int, Character, Symbol, Text, Cons, car, cdr};
 ghost use Rattle.hons_arena.specs.Ids.{object_at, IsBelow, IsLive, IsIdOf, kind_of, HasNoParts, ArePartsOf};
-ghost use Rattle.hons_arena.specs.Cells.{cell_object, PartsBelow};
+ghost use Rattle.hons_arena.specs.Cells.{cell_object, FitsBelow};
 ghost use Rattle.hons_arena.specs.Held.{Interns, IsWhole};
 
 use crate::cell::{Cell, of_parts, parts_of_cell, same_id};
@@ -79,7 +79,7 @@ impl HonsArena {
     /// The id of what a cell keeps, in a cell that has it already or in a new one.
     #[inline(always)]
     fn enter(&mut self, cell: Cell) -> Result<Id, Full>
-        requires { PartsBelow (length self.old.objects) cell }
+        requires { FitsBelow (length self.old.objects) cell }
         ensures { Interns self.old self.new (cell_object self.old.objects cell) result }
     {
         match end_of_walk(self.cells.as_slice(), self.slots.as_slice(), cell) {
@@ -156,7 +156,7 @@ impl HonsArena {
     fn cell(&self, number: u64) -> Cell
         requires { number < length self.now.objects }
         ensures object { cell_object self.now.objects result ≡ slice_index_or self.now.objects number nil }
-        ensures parts { PartsBelow (length self.now.objects) result }
+        ensures parts { FitsBelow (length self.now.objects) result }
     {
         self.cells[number as usize]
     }
@@ -220,7 +220,8 @@ impl HonsArena {
 
     /// The count of cells now.
     pub fn mark(&self) -> Mark
-        ensures { result.count ≡ length self.now.objects }
+        ensures count { result.count ≡ length self.now.objects }
+        ensures whole { IsWhole self.now }
     {
         Mark {
             count: self.count(),

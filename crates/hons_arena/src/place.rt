@@ -2,7 +2,7 @@
 
 ghost use Rattle.std.specs.Prelude.{◌↔◌, IsErr};
 ghost use Rattle.gl_logic.specs.Lists.{conses, IsAtom};
-ghost use Rattle.hons_arena.specs.Held.{Places, HasNoRoomFor};
+ghost use Rattle.hons_arena.specs.Held.{Places, HasNoRoomFor, IsWhole};
 ghost use Rattle.hons_arena.specs.Ids.{object_at, IsLive};
 
 use crate::arena::HonsArena;
@@ -16,6 +16,7 @@ impl HonsArena {
     pub fn place(&mut self, tree: &Tree) -> Result<Id, Full>
         ensures places { Places self.old self.new tree.now result }
         ensures full { IsErr result ↔ HasNoRoomFor self.old tree.now }
+        ensures whole { IsWhole self.new }
     {
         let placed = self.put(tree);
         let is_full = self.is_full();

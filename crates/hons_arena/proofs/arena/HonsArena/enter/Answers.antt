@@ -1,7 +1,7 @@
 use Rattle.std.proofs.Common.{rules, arith, ◌≡◌, ◌≢◌, ◌≤◌, ◌++◌, ◌∷◌, [], length, sym, ◌∙◌, ap, subst, ℕ, List, refl}
 use Rattle.std.specs.Vec.{vec_capacity}
 use Rattle.hons_arena.specs.declared.cell.Cell.{Cell}
-use Rattle.hons_arena.specs.Cells.{PartsBelow, cell_object}
+use Rattle.hons_arena.specs.Cells.{FitsBelow, cell_object}
 use Rattle.hons_arena.specs.Held.{Held, HasNoCell}
 use Rattle.hons_arena.specs.Probe.{IsFoundAt}
 use Rattle.hons_arena.specs.Table.{IsTable}
@@ -43,7 +43,7 @@ invariant_of-self c =
     let apart : c.len-number.result ≢ inside.limit = search rules in
     let grown : c.push.new.self.items ≡ inside.cells.items ++ c.args.cell ∷ [] = search rules in
     let value : c.as_slice-in-Empty.result.now ≡ c.push.new.self.items = c.as_slice-in-Empty.ensures.value in
-    let parts : PartsBelow (length inside.cells.items) c.args.cell = subst (λ (m : ℕ). PartsBelow m c.args.cell) (sym (count_is inside.limit inside.cells.items c.args.self.now s.interned c.self.view_is)) c.requires in
+    let parts : FitsBelow (length inside.cells.items) c.args.cell = subst (λ (m : ℕ). FitsBelow m c.args.cell) (sym (count_is inside.limit inside.cells.items c.args.self.now s.interned c.self.view_is)) c.requires in
     let room : inside.limit ≤ vec_capacity c.push.new.self = search rules in
     let table : IsTable c.push.new.self.items c.make_room.new.slots.items = subst (λ (cs : List Cell). IsTable cs c.make_room.new.slots.items) value c.make_room.ensures.table in
     sound_push inside.limit inside.cells.items (vec_capacity inside.cells) inside.slots.items (vec_capacity inside.slots) c.args.cell c.push.new.self.items (vec_capacity c.push.new.self) c.make_room.new.slots.items (vec_capacity c.make_room.new.slots) s parts end.absent (λ e. apart (sym many ∙ e)) grown room
