@@ -12,8 +12,9 @@ use Rattle.shape_spec.specs.ShapeSeen.{ShapeSeen, Boolean, Integer, Choice, Cons
 use Rattle.shape_spec.specs.Indices.{indices_in, indices_of, rank_in, IsNotIn, AreApart}
 use Rattle.shape_spec.specs.InputMeant.{object_meant, truth_of}
 use Rattle.shape_spec.proofs.Members.{IsIn, in_left, in_right, same_rank, same_object}
-use Rattle.coverage.specs.Covered.{is_integer_of, fits}
-use Rattle.coverage.proofs.Says.{bool_cases, never, or_either, IsByte, signed_of}
+use Rattle.coverage.specs.Rows.{is_boolean, is_integer_of}
+use Rattle.coverage.proofs.Logic.{bool_cases, never, or_either}
+use Rattle.coverage.proofs.Bytes.{IsByte, signed_of}
 
 -- ---- numbers that stand apart
 not_same : (x i : ℕ) (xs : List ℕ) → IsNotIn x xs → IsIn i xs → x ≡ i → ⊥
@@ -28,11 +29,11 @@ not_in_right : (x : ℕ) (xs ys : List ℕ) → IsNotIn x (xs ++ ys) → IsNotIn
 not_in_right x [] ys h = h
 not_in_right x (y ∷ xs) ys h = not_in_right x xs ys h.1
 
-apart_left : (xs ys : List ℕ) → AreApart (xs ++ ys) → AreApart xs
+pub apart_left : (xs ys : List ℕ) → AreApart (xs ++ ys) → AreApart xs
 apart_left [] ys h = tt
 apart_left (x ∷ xs) ys h = (not_in_left x xs ys h.0, apart_left xs ys h.1)
 
-apart_right : (xs ys : List ℕ) → AreApart (xs ++ ys) → AreApart ys
+pub apart_right : (xs ys : List ℕ) → AreApart (xs ++ ys) → AreApart ys
 apart_right [] ys h = h
 apart_right (x ∷ xs) ys h = apart_right xs ys h.1
 
@@ -108,22 +109,29 @@ byte_has is x h byte =
           ∙ ((λ k. Int (integer_of (bits_of (byte.bits k) byte.number))) ∙ (ap Int (from_bits_of byte.beside_sign byte.number byte.within) ∙ sym byte.is)),
     )
 
-integer_has : (is : List ℕ) (x : Object) → AreApart is → is_integer_of (length is) x ≡ true → Has (Integer is) x
+pub integer_has : (is : List ℕ) (x : Object) → AreApart is → is_integer_of (length is) x ≡ true → Has (Integer is) x
 integer_has is (Int z) h f = byte_has is (Int z) h (signed_of (length is) (length is) z (omega arith) f)
 integer_has is (Character k) h f = never f
 integer_has is (Symbol k) h f = never f
 integer_has is (Text k) h f = never f
 integer_has is (Cons a d) h f = never f
 
-pub fit_has : (s : ShapeSeen) (x : Object) → AreApart (indices_in s) → fits s x ≡ true → Has s x
-fit_has (Boolean i) x h f = elim (or_either (object_eq true_object x) (object_eq nil x) f) [
+pub boolean_has : (i : ℕ) (x : Object) → is_boolean x ≡ true → Has (Boolean i) x
+boolean_has i x h = elim (or_either (object_eq true_object x) (object_eq nil x) h) [
   | inl t ↦ ((λ j. true), equal_from true_object x t)
   | inr t ↦ ((λ j. false), equal_from nil x t)
 ]
-fit_has (Integer is) x h f = integer_has is x h f
-fit_has (Constant c) x h f = ((λ j. false), equal_from c x f)
-fit_has (Choice i a b) x h f = never f
-fit_has (Pair a b) x h f = never f
+
+pub constant_has : (c x : Object) → object_eq c x ≡ true → Has (Constant c) x
+constant_has c x h = ((λ j. false), equal_from c x h)
+
+-- a cons has the conses of its parts' objects
+pub pair_has : (a d : ShapeSeen) (p q : Object) → AreApart (indices_in (Pair a d)) → Has a p → Has d q → Has (Pair a d) (Cons p q)
+pair_has a d p q h k l =
+    let f = either_by (indices_in a) k.0 l.0 in
+    let first : object_meant f a ≡ p = same_object f k.0 a (λ j m. by_first (indices_in a) k.0 l.0 j m) ∙ k.1 in
+    let second : object_meant f d ≡ q = same_object f l.0 d (λ j m. by_second (indices_in a) k.0 l.0 j (apart_between (indices_in a) (indices_in d) j h m)) ∙ l.1 in
+    (f, λ i. Cons (first i) (second i))
 
 -- a choice has the objects of its parts
 apart_from : (i : ℕ) (is : List ℕ) (j : ℕ) → IsNotIn i is → IsIn j is → IsNotIn j (i ∷ [])

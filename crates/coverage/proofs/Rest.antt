@@ -1,5 +1,5 @@
 -- The rest of a list from a place on.
-use Rattle.std.proofs.Common.{◌≡◌, ◌∙◌, ap, sym, ℕ, ◌+◌, ◌<◌, List, ◌∷◌, length, get_or, drop, Some, Option, Bool, true, false, eqb, eq-eqb, arith, if◌then◌else◌}
+use Rattle.std.proofs.Common.{◌≡◌, ◌∙◌, ap, sym, ℕ, ◌+◌, ◌<◌, List, ◌∷◌, length, get_or, drop, Some, Option, Bool, true, false, not, ◌&&◌, ◌||◌, refl, eqb, eq-eqb, arith, if◌then◌else◌}
 use Rattle.std.specs.List.{list_any}
 use Rattle.std.specs.Prelude.{slice_get}
 use Rattle.std.specs.Option.{option_map}
@@ -9,7 +9,7 @@ use Rattle.gl_logic.specs.Exp.{Exp}
 use Rattle.gl_logic.specs.Object.{nil}
 use Rattle.shape_spec.specs.ShapeSeen.{ShapeSeen, Constant}
 use Rattle.shape_spec.specs.Indices.{variables_of, shapes_of}
-use Rattle.coverage.specs.Covered.{lacks_cover, first_uncovered}
+use Rattle.coverage.specs.Covered.{is_covered, lacks_cover, first_uncovered}
 
 some_same : {A : Type 0} (x y : A) → Some x ≡ Some y → x ≡ y
 some_same x y e = cc
@@ -54,3 +54,24 @@ name_miss v xs i x whole e w h =
     let d : list_any (λ u. eqb u v) (x ∷ drop (i + 1) xs) ≡ whole = sym (ap (list_any (λ u. eqb u v)) (drop_get xs i x e)) ∙ w in
     let t = eqb_apart x v h in
     grind (arith, d, t)
+
+-- ---- a variable that is covered, and that is not
+and_not : (f : Bool) → false ≡ (f && not true)
+and_not true = refl
+and_not false = refl
+
+and_true : (b : Bool) → b ≡ ((false || b) && not false)
+and_true true = refl
+and_true false = refl
+
+pub lacks_none : (f c o : Bool) → o ≡ c → o ≡ true → false ≡ (f && not c)
+lacks_none f c o e t = and_not f ∙ ap (λ b. f && not b) (sym t ∙ e)
+
+pub lacks_first : (a b c o r : Bool) → o ≡ c → o ≡ false → r ≡ a → r ≡ true → r ≡ ((a || b) && not c)
+lacks_first a b c o r e t f h = h ∙ (λ i. ((sym h ∙ f) i || b) && not ((sym t ∙ e) i))
+
+pub lacks_second : (a b c o q r : Bool) → o ≡ c → o ≡ false → q ≡ a → q ≡ false → r ≡ b → r ≡ ((a || b) && not c)
+lacks_second a b c o q r e t f h k = k ∙ (and_true b ∙ (λ i. ((sym h ∙ f) i || b) && not ((sym t ∙ e) i)))
+
+pub covered_by : (said conj : List Exp) (S : Exp → Bool) (s : ShapeSeen) (o : Bool) → said ≡ conj → o ≡ is_covered said S s → o ≡ is_covered conj S s
+covered_by said conj S s o e h = h ∙ ap (λ us. is_covered us S s) e

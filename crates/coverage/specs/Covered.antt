@@ -1,99 +1,75 @@
--- When a hypothesis keeps a variable within the objects of its shape.
-use Rattle.std.specs.Prelude.{ℕ, ◌+◌, Bool, true, false, not, ◌&&◌, ◌||◌, if◌then◌else◌, eqb, ltb, leb, List, [], ◌∷◌, length, Option, None, Some, pos}
+-- When a hypothesis keeps a variable within the objects of its shape: a judgement over its conjuncts, in which nothing is run.
+use Rattle.std.specs.Prelude.{ℕ, zero, suc, Bool, false, not, ◌&&◌, ◌||◌, if◌then◌else◌, List, [], ◌∷◌, ◌++◌, length, Option, None, Some, pos}
 use Rattle.std.specs.List.{list_any}
-use Rattle.gl_logic.specs.Object.{Object, Int, nil, true_object}
-use Rattle.gl_logic.specs.ObjectEq.{object_eq}
-use Rattle.gl_logic.specs.Bytes.{is_signed_byte}
-use Rattle.gl_logic.specs.Exp.{Exp, Exps, Var, Const, Prim, Last, More}
+use Rattle.std.specs.Ordering.{int_eq}
+use Rattle.gl_logic.specs.ObjectEq.{object_eq, is_nil}
+use Rattle.gl_logic.specs.Exp.{Exp, If}
+use Rattle.gl_logic.specs.RecursiveCalls.{exp_eq}
 use Rattle.gl_logic.specs.FreeVariables.{is_free_in}
-use Rattle.gl_logic.specs.declared.prim.Primitive.{Primitive}
-use Rattle.gl_logic.specs.declared.prim.Primitive.TheVariants.{UnsignedByteP, SignedByteP, Equal}
-use Rattle.shape_spec.specs.ShapeSeen.{ShapeSeen, Boolean, Integer, Choice, Constant}
+use Rattle.shape_spec.specs.ShapeSeen.{ShapeSeen, Boolean, Integer, Choice, Constant, Pair}
 use Rattle.coverage.specs.Conjuncts.{conjuncts}
+use Rattle.coverage.specs.Forms.{is_int}
+use Rattle.coverage.specs.Subjects.{is_variable, car_of, cdr_of, len_of, element_of}
+use Rattle.coverage.specs.Rows.{is_consp, is_booleanp, is_true_listp, is_number, equals, is_member, is_unsigned_row, is_signed_row, is_lower, is_upper, is_boolean, is_integer_of, is_from, is_to}
 
--- ---- subjects: a set of terms, as the test whether a term is one of them
--- at first the variable alone
-abbrev pub is_variable : ℕ → Exp → Bool
-is_variable v (Var u) = eqb u v
-is_variable v _ = false
+-- ---- integers, by one conjunct, or by a kind and two bounds
+abbrev pub is_integer_row : ℕ → (Exp → Bool) → Exp → Bool
+is_integer_row n subject t = is_unsigned_row n subject t || (is_signed_row n subject t || (equals (is_integer_of n) subject t || is_member (is_integer_of n) subject t))
 
--- ---- the objects that an atom of a shape has, as a test
--- an integer of so many bits, the sign among them
-abbrev pub is_integer_of : ℕ → Object → Bool
-is_integer_of n (Int z) = is_signed_byte (pos n) z
-is_integer_of n _ = false
+abbrev pub is_integer_covered : List Exp → (Exp → Bool) → ℕ → Bool
+is_integer_covered said subject n =
+    list_any (is_integer_row n subject) said
+    || (list_any (is_number subject) said && (list_any (is_lower (is_from n) subject) said && list_any (is_upper (is_to n) subject) said))
 
-abbrev pub fits : ShapeSeen → Object → Bool
-fits (Boolean i) x = object_eq true_object x || object_eq nil x
-fits (Integer is) x = is_integer_of (length is) x
-fits (Constant c) x = object_eq c x
-fits s x = false
+-- ---- Booleans, by one conjunct
+abbrev pub is_boolean_row : (Exp → Bool) → Exp → Bool
+is_boolean_row subject t = is_booleanp subject t || (equals is_boolean subject t || is_member is_boolean subject t)
 
--- ---- rows: what one conjunct says of a subject
--- a literal that passes a test
-abbrev pub is_literal : (Object → Bool) → Exp → Bool
-is_literal test (Const x) = test x
-is_literal test _ = false
+-- ---- lists
+-- how many conses stand behind one another
+abbrev pub conses_in : ShapeSeen → ℕ
+conses_in (Pair a d) = suc (conses_in d)
+conses_in s = zero
 
--- one of n natural numbers from the least on
-abbrev pub is_width_in : ℕ → ℕ → Object → Bool
-is_width_in least n (Int (pos m)) = leb least m && ltb m (n + least)
-is_width_in least n _ = false
-
--- the arguments 'm and s, with s of the subject
-abbrev pub bound_by : (Object → Bool) → (Exp → Bool) → Exps → Bool
-bound_by width subject (More m (More s Last)) = is_literal width m && subject s
-bound_by width subject _ = false
-
-abbrev pub is_unsigned_byte_p : Primitive → Bool
-is_unsigned_byte_p UnsignedByteP = true
-is_unsigned_byte_p _ = false
-
--- (unsigned-byte-p 'm s) with 0 <= m < n
-abbrev pub is_unsigned_row : ℕ → (Exp → Bool) → Exp → Bool
-is_unsigned_row n subject (Prim p ts) = is_unsigned_byte_p p && bound_by (is_width_in 0 n) subject ts
-is_unsigned_row n subject _ = false
-
-abbrev pub is_signed_byte_p : Primitive → Bool
-is_signed_byte_p SignedByteP = true
-is_signed_byte_p _ = false
-
--- (signed-byte-p 'm s) with 1 <= m <= n
-abbrev pub is_signed_row : ℕ → (Exp → Bool) → Exp → Bool
-is_signed_row n subject (Prim p ts) = is_signed_byte_p p && bound_by (is_width_in 1 n) subject ts
-is_signed_row n subject _ = false
-
-abbrev pub is_equal : Primitive → Bool
-is_equal Equal = true
-is_equal _ = false
-
--- one of two terms is of the subject, and the other is a literal that passes the test
-abbrev pub pairs_with : (Object → Bool) → (Exp → Bool) → Exps → Bool
-pairs_with test subject (More a (More b Last)) = (subject a && is_literal test b) || (subject b && is_literal test a)
-pairs_with test subject _ = false
-
--- (equal s 'x) or (equal 'x s)
-abbrev pub is_equality_row : (Object → Bool) → (Exp → Bool) → Exp → Bool
-is_equality_row test subject (Prim p ts) = is_equal p && pairs_with test subject ts
-is_equality_row test subject _ = false
-
-abbrev pub is_byte_row : ShapeSeen → (Exp → Bool) → Exp → Bool
-is_byte_row (Integer is) subject t = is_unsigned_row (length is) subject t || is_signed_row (length is) subject t
-is_byte_row s subject t = false
-
-abbrev pub is_row : ShapeSeen → (Exp → Bool) → Exp → Bool
-is_row s subject t = is_byte_row s subject t || is_equality_row (fits s) subject t
+-- (true-listp s), and equality of (len s) with the literal k
+abbrev pub has_length : List Exp → (Exp → Bool) → ℕ → Bool
+has_length said subject k = list_any (is_true_listp subject) said && list_any (equals (is_int (int_eq (pos k))) (len_of subject)) said
 
 -- ---- shapes
--- an atom of a shape is covered by one conjunct, and a choice where one of its parts is; a cons is not covered so far
-abbrev pub is_covered : List Exp → (Exp → Bool) → ShapeSeen → Bool
-is_covered said subject (Choice i x y) = is_covered said subject x || is_covered said subject y
-is_covered said subject s = list_any (is_row s subject) said
+-- a choice by cases: a conjunct (if p p q), where what is asked holds with p and with q
+abbrev pub by_cases : (Exp → Bool) → Exp → Bool
+by_cases holds_with (If p r q) = exp_eq p r && (holds_with p && holds_with q)
+by_cases holds_with t = false
 
+abbrev mutual
+  pub is_covered : List Exp → (Exp → Bool) → ShapeSeen → Bool
+  is_covered said subject (Integer is) = is_integer_covered said subject (length is)
+  is_covered said subject (Boolean i) = list_any (is_boolean_row subject) said
+  is_covered said subject (Constant c) = list_any (equals (object_eq c) subject) said
+  -- part by part, or as a list of a stated length
+  is_covered said subject (Pair a d) =
+      (list_any (is_consp subject) said && (is_covered said (car_of subject) a && is_covered said (cdr_of subject) d))
+      || (has_length said subject (suc (conses_in d)) && (is_covered said (element_of 0 subject) a && are_covered said subject 1 d))
+  -- by either part, or by cases
+  is_covered said subject (Choice i a b) =
+      (is_covered said subject a || is_covered said subject b)
+      || list_any (by_cases (λ p. is_covered (said ++ conjuncts p) subject a || is_covered (said ++ conjuncts p) subject b)) said
+
+  -- the elements from place i on, up to the NIL that ends them
+  pub are_covered : List Exp → (Exp → Bool) → ℕ → ShapeSeen → Bool
+  are_covered said subject i (Pair a d) = is_covered said (element_of i subject) a && are_covered said subject (suc i) d
+  are_covered said subject i (Constant c) = is_nil c
+  are_covered said subject i s = false
+
+-- either part of a choice, with the conjuncts of one more term
+abbrev pub is_either_with : List Exp → (Exp → Bool) → ShapeSeen → ShapeSeen → Exp → Bool
+is_either_with said subject a b p = is_covered (said ++ conjuncts p) subject a || is_covered (said ++ conjuncts p) subject b
+
+-- ---- theorems
 abbrev pub is_free_in_either : Exp → Exp → ℕ → Bool
 is_free_in_either hyp concl v = is_free_in hyp v || is_free_in concl v
 
--- a bound variable that is free in the hypothesis or in the conclusion, and that no conjunct of the hypothesis covers
+-- a bound variable that is free in the hypothesis or in the conclusion, and that the conjuncts of the hypothesis don't cover
 abbrev pub lacks_cover : Exp → Exp → ℕ → ShapeSeen → Bool
 lacks_cover hyp concl v s = is_free_in_either hyp concl v && not (is_covered (conjuncts hyp) (is_variable v) s)
 

@@ -1,3 +1,11 @@
 pub mod Conjuncts
+pub mod Forms
+pub mod Subjects
+pub mod Rows
 pub mod Covered
 pub mod Sound
+pub mod Heads
+pub mod Spines
+pub mod Parts
+pub mod Places
+pub mod Dealt

@@ -6,13 +6,17 @@
 #![tactic(auto)]
 
 mod conjuncts;
+mod forms;
 mod free;
 mod judgement;
+mod literal;
+mod parts;
 mod rows;
+mod same;
+mod shapes;
 pub mod soundness;
+mod spine;
+mod subject;
 
 pub use free::is_free;
 pub use judgement::covers;
-
-#[cfg(test)]
-mod tests;

@@ -1,229 +1,210 @@
-//! What one conjunct says of a variable.
+//! What one conjunct says of a subject.
 
-ghost use Rattle.std.specs.Prelude.{◌≡◌, ◌<◌, ◌&&◌, ◌||◌, ◌^◌, map, pos};
+ghost use Rattle.std.specs.Prelude.{◌≡◌, map};
 ghost use Rattle.std.specs.List.{list_any};
-ghost use Rattle.gl_logic.specs.Bytes.{is_signed_byte};
-ghost use Rattle.gl_logic.specs.Object.{nil, true_object};
-ghost use Rattle.gl_logic.specs.ObjectEq.{object_eq};
-ghost use Rattle.gl_logic.specs.TermOf.{term_of, terms_of};
-ghost use Rattle.shape_spec.specs.ShapeOf.{shape_of};
-ghost use Rattle.coverage.specs.Covered.{is_variable, is_integer_of, fits, is_literal, is_width_in, bound_by, is_unsigned_row, is_signed_row, pairs_with, is_equality_row, is_byte_row, is_row, is_covered};
+ghost use Rattle.gl_logic.specs.TermOf.{term_of};
+ghost use Rattle.gl_logic.specs.declared.prim.Primitive.TheVariants.{Less, Not};
+ghost use Rattle.coverage.specs.Forms.{is_int, is_literal, one, two, either_order, is_prim, is_call};
+ghost use Rattle.coverage.specs.Rows.{is_number, equals, is_lower, is_upper, is_from, is_to};
+ghost use Rattle.coverage.specs.Covered.{is_integer_row, is_boolean_row};
+ghost use Rattle.coverage.specs.Heads.{is_headed, subject_of, wanted_of, row_of};
 
-use gl_logic::{Prim, Term, TextId, Tree, TreeKind};
-use shape_spec::Shape;
+use super::forms::{
+    BOOLEANP, EQ, EQL, Head, MEMBER_EQUAL, NATP, POSP, SAME, TRUE_LISTP, argument, two_arguments,
+};
+use super::literal::{Wanted, is_literal};
+use super::subject::{Subject, is_in};
+use gl_logic::{Prim, Term, Tree};
 
-/// Whether the conjuncts keep the variable within the objects of the shape.
-#[cycle(covered)]
-pub fn covered(said: &[&Term], variable: TextId, shape: &Shape) -> bool
-    ensures { result ≡ is_covered (map (λ t. term_of t.now) said.now) (is_variable variable.number) (shape_of shape.now) }
-{
-    match shape {
-        Shape::Choice(_, first, second) => {
-            covered(said, variable, first) || covered(said, variable, second)
-        }
-        Shape::List(elements, tail) => {
-            if elements.is_empty() {
-                covered(said, variable, tail)
-            } else {
-                says(said, variable, shape)
-            }
-        }
-        Shape::Boolean(_) => says(said, variable, shape),
-        Shape::Integer(_) => says(said, variable, shape),
-        Shape::Constant(_) => says(said, variable, shape),
-    }
+/// What a conjunct is to say of a subject.
+#[derive(Drop)]
+pub(crate) enum Row<'a> {
+    /// `(consp s)`
+    Consp,
+    /// `(true-listp s)`
+    TrueListp,
+    /// `(integerp s)`, `(natp s)` or `(posp s)`.
+    Number,
+    /// That it is T or NIL.
+    BooleanRow,
+    /// That it is an integer of so many bits.
+    IntegerRow(usize),
+    /// That it is at least the least integer of so many bits.
+    Lower(usize),
+    /// That it is at most the greatest integer of so many bits.
+    Upper(usize),
+    /// That it is this object.
+    Same(&'a Tree),
+    /// That it is this number.
+    Length(u64),
 }
 
-/// Whether some conjunct is a row of the shape.
-fn says(said: &[&Term], variable: TextId, shape: &Shape) -> bool
-    ensures { result ≡ list_any (is_row (shape_of shape.now) (is_variable variable.number)) (map (λ t. term_of t.now) said.now) }
+/// Whether some conjunct says it.
+pub(crate) fn says(row: &Row, said: &[&Term], subject: &Subject) -> bool
+    ensures { result ≡ list_any (row_of row.now (subject_of subject.now)) (map (λ t. term_of t.now) said.now) }
 {
     for term in said {
-        if is_row(term, variable, shape) {
+        if is_row(row, subject, term) {
             return true;
         }
     }
     false
 }
 
-fn is_row(term: &Term, variable: TextId, shape: &Shape) -> bool
-    ensures { result ≡ is_row (shape_of shape.now) (is_variable variable.number) (term_of term.now) }
+fn is_row(row: &Row, subject: &Subject, term: &Term) -> bool
+    ensures { result ≡ row_of row.now (subject_of subject.now) (term_of term.now) }
 {
-    is_byte_row(term, variable, shape) || is_equality(term, variable, shape)
+    match row {
+        Row::Consp => is_one(Head::Primitive(Prim::Consp), subject, term),
+        Row::TrueListp => is_one(Head::Ground(TRUE_LISTP), subject, term),
+        Row::Number => is_number(subject, term),
+        Row::BooleanRow => is_boolean_row(subject, term),
+        Row::IntegerRow(count) => is_integer_row(*count, subject, term),
+        Row::Lower(count) => is_lower(*count, subject, term),
+        Row::Upper(count) => is_upper(*count, subject, term),
+        Row::Same(object) => equals(&Wanted::Same(object), subject, term),
+        Row::Length(number) => equals(&Wanted::Number(*number), subject, term),
+    }
 }
 
-fn is_byte_row(term: &Term, variable: TextId, shape: &Shape) -> bool
-    ensures { result ≡ is_byte_row (shape_of shape.now) (is_variable variable.number) (term_of term.now) }
+/// `(f s)`
+fn is_one(head: Head, subject: &Subject, term: &Term) -> bool
+    ensures { result ≡ is_headed head (one (subject_of subject.now)) (term_of term.now) }
 {
-    match shape.as_integer() {
-        Some(indices) => {
-            is_unsigned(term, variable, indices.len()) || is_signed(term, variable, indices.len())
-        }
+    match argument(head, term) {
+        Some(first) => is_in(subject, first),
         None => false,
     }
 }
 
-/// `(unsigned-byte-p 'm v)` with m from 0 to below `width`.
-fn is_unsigned(term: &Term, variable: TextId, width: usize) -> bool
-    ensures { result ≡ is_unsigned_row width (is_variable variable.number) (term_of term.now) }
+/// `(f s 'x)`
+fn is_subject_first(head: Head, subject: &Subject, wanted: &Wanted, term: &Term) -> bool
+    ensures { result ≡ is_headed head (two (subject_of subject.now) (is_literal (wanted_of wanted.now))) (term_of term.now) }
 {
-    match term {
-        Term::Prim(Prim::UnsignedByteP, terms) => are_bound(terms.as_slice(), variable, 0, width),
-        _ => false,
+    match two_arguments(head, term) {
+        Some((first, second)) => is_literal(wanted, second) && is_in(subject, first),
+        None => false,
     }
 }
 
-/// `(signed-byte-p 'm v)` with m from 1 to `width`.
-fn is_signed(term: &Term, variable: TextId, width: usize) -> bool
-    ensures { result ≡ is_signed_row width (is_variable variable.number) (term_of term.now) }
+/// `(f 'x s)`
+fn is_literal_first(head: Head, wanted: &Wanted, subject: &Subject, term: &Term) -> bool
+    ensures { result ≡ is_headed head (two (is_literal (wanted_of wanted.now)) (subject_of subject.now)) (term_of term.now) }
 {
-    match term {
-        Term::Prim(Prim::SignedByteP, terms) => { are_bound(terms.as_slice(), variable, 1, width) }
-        _ => false,
+    match two_arguments(head, term) {
+        Some((first, second)) => is_literal(wanted, first) && is_in(subject, second),
+        None => false,
     }
 }
 
-/// Whether the arguments are one of `width` literals from `least` on, and the variable.
-fn are_bound(terms: &[Term], variable: TextId, least: usize, width: usize) -> bool
-    ensures { result ≡ bound_by (is_width_in least width) (is_variable variable.number) (terms_of terms.now) }
+/// `(f s 'x)` or `(f 'x s)`
+fn is_either_first(head: Head, subject: &Subject, wanted: &Wanted, term: &Term) -> bool
+    ensures { result ≡ is_headed head (either_order (subject_of subject.now) (is_literal (wanted_of wanted.now))) (term_of term.now) }
 {
-    if terms.len() != 2 {
-        return false;
-    }
-    let width_first = is_literal_in(&terms[0], least, width);
-    let name_second = is_name(&terms[1], variable);
-    width_first && name_second
+    is_subject_first(head, subject, wanted, term) || is_literal_first(head, wanted, subject, term)
 }
 
-fn is_literal_in(term: &Term, least: usize, width: usize) -> bool
-    ensures { result ≡ is_literal (is_width_in least width) (term_of term.now) }
+fn equals(wanted: &Wanted, subject: &Subject, term: &Term) -> bool
+    ensures { result ≡ equals (wanted_of wanted.now) (subject_of subject.now) (term_of term.now) }
 {
-    match term {
-        Term::Const(tree) => is_in(tree, least, width),
-        _ => false,
-    }
+    is_either_first(Head::Primitive(Prim::Equal), subject, wanted, term)
+        || is_either_first(Head::Ground(EQ), subject, wanted, term)
+        || is_either_first(Head::Ground(EQL), subject, wanted, term)
+        || is_either_first(Head::Ground(SAME), subject, wanted, term)
 }
 
-/// Whether an object is one of `width` integers from `least` on.
-fn is_in(object: &Tree, least: usize, width: usize) -> bool
-    ensures { result ≡ is_width_in least width object.now }
+/// `(member-equal s 'l)` with a literal that is wanted.
+fn is_member(wanted: &Wanted, subject: &Subject, term: &Term) -> bool
+    ensures { result ≡ is_call 31 (two (subject_of subject.now) (is_literal (wanted_of wanted.now))) (term_of term.now) }
 {
-    match object.kind() {
-        TreeKind::Int(i) => least as i128 <= i && i < width as i128 + least as i128,
-        _ => false,
-    }
+    is_subject_first(Head::Ground(MEMBER_EQUAL), subject, wanted, term)
 }
 
-fn is_name(term: &Term, variable: TextId) -> bool
-    ensures { result ≡ is_variable variable.number (term_of term.now) }
+fn is_number(subject: &Subject, term: &Term) -> bool
+    ensures { result ≡ is_number (subject_of subject.now) (term_of term.now) }
 {
-    match term {
-        Term::Var(name) => name.number == variable.number,
-        _ => false,
-    }
+    is_one(Head::Primitive(Prim::Integerp), subject, term)
+        || is_one(Head::Ground(NATP), subject, term)
+        || is_one(Head::Ground(POSP), subject, term)
 }
 
-/// `(equal v 'x)` or `(equal 'x v)` with x an object of the shape, which is an atom.
-fn is_equality(term: &Term, variable: TextId, shape: &Shape) -> bool
-    ensures { result ≡ is_equality_row (fits (shape_of shape.now)) (is_variable variable.number) (term_of term.now) }
+fn is_boolean_row(subject: &Subject, term: &Term) -> bool
+    ensures { result ≡ is_boolean_row (subject_of subject.now) (term_of term.now) }
 {
-    match term {
-        Term::Prim(Prim::Equal, terms) => are_equal(terms.as_slice(), variable, shape),
-        _ => false,
-    }
+    is_one(Head::Ground(BOOLEANP), subject, term)
+        || equals(&Wanted::Boolean, subject, term)
+        || is_member(&Wanted::Booleans, subject, term)
 }
 
-/// The same of the arguments of `equal`.
-fn are_equal(terms: &[Term], variable: TextId, shape: &Shape) -> bool
-    ensures { result ≡ pairs_with (fits (shape_of shape.now)) (is_variable variable.number) (terms_of terms.now) }
+fn is_integer_row(count: usize, subject: &Subject, term: &Term) -> bool
+    ensures { result ≡ is_integer_row count (subject_of subject.now) (term_of term.now) }
 {
-    if terms.len() != 2 {
-        return false;
-    }
-    let in_order = is_pair(&terms[0], &terms[1], variable, shape);
-    let turned = is_pair(&terms[1], &terms[0], variable, shape);
-    in_order || turned
+    is_literal_first(
+        Head::Primitive(Prim::UnsignedByteP),
+        &Wanted::Width(0, count),
+        subject,
+        term,
+    ) || is_literal_first(
+        Head::Primitive(Prim::SignedByteP),
+        &Wanted::Width(1, count),
+        subject,
+        term,
+    ) || equals(&Wanted::Integer(count), subject, term)
+        || is_member(&Wanted::Integers(count), subject, term)
 }
 
-/// Whether the first term is the variable, and the second a literal of the shape.
-fn is_pair(first: &Term, second: &Term, variable: TextId, shape: &Shape) -> bool
-    ensures { result ≡ (is_variable variable.number (term_of first.now) && is_literal (fits (shape_of shape.now)) (term_of second.now)) }
+fn is_lower(count: usize, subject: &Subject, term: &Term) -> bool
+    ensures { result ≡ is_lower (is_from count) (subject_of subject.now) (term_of term.now) }
 {
-    is_name(first, variable) && is_literal_of(second, shape)
+    // the lower bounds 0 and 1 are those of every width
+    is_one(Head::Ground(NATP), subject, term)
+        || is_one(Head::Ground(POSP), subject, term)
+        || is_literal_first(
+            Head::Primitive(Prim::Less),
+            &Wanted::Above(count),
+            subject,
+            term,
+        )
+        || is_not_below(count, subject, term)
 }
 
-fn is_literal_of(term: &Term, shape: &Shape) -> bool
-    ensures { result ≡ is_literal (fits (shape_of shape.now)) (term_of term.now) }
+/// `(not (< s 'k))` with k at least the least integer of so many bits.
+fn is_not_below(count: usize, subject: &Subject, term: &Term) -> bool
+    ensures { result ≡ is_prim Not (one (is_prim Less (two (subject_of subject.now) (is_literal (is_int (is_from count)))))) (term_of term.now) }
 {
-    match term {
-        Term::Const(object) => fits(shape, object),
-        _ => false,
-    }
-}
-
-/// Whether a shape that is an atom has an object.
-#[cycle(fits)]
-fn fits(shape: &Shape, object: &Tree) -> bool
-    ensures { result ≡ fits (shape_of shape.now) object.now }
-{
-    match shape {
-        Shape::Boolean(_) => is_boolean(object),
-        Shape::Integer(indices) => is_integer_of(indices.len(), object),
-        Shape::Constant(constant) => are_same(constant, object),
-        Shape::Choice(_, _, _) => false,
-        Shape::List(elements, tail) => {
-            if elements.is_empty() {
-                fits(tail, object)
-            } else {
-                false
-            }
-        }
+    match argument(Head::Primitive(Prim::Not), term) {
+        Some(inner) => is_subject_first(
+            Head::Primitive(Prim::Less),
+            subject,
+            &Wanted::From(count),
+            inner,
+        ),
+        None => false,
     }
 }
 
-/// T or NIL.
-fn is_boolean(object: &Tree) -> bool
-    ensures { result ≡ (object_eq true_object object.now || object_eq nil object.now) }
+fn is_upper(count: usize, subject: &Subject, term: &Term) -> bool
+    ensures { result ≡ is_upper (is_to count) (subject_of subject.now) (term_of term.now) }
 {
-    match object.kind() {
-        TreeKind::Symbol(name) => name.number == 1 || name.number == 0,
-        _ => false,
+    is_subject_first(
+        Head::Primitive(Prim::Less),
+        subject,
+        &Wanted::Below(count),
+        term,
+    ) || is_not_above(count, subject, term)
+}
+
+/// `(not (< 'k s))` with k at most the greatest integer of so many bits.
+fn is_not_above(count: usize, subject: &Subject, term: &Term) -> bool
+    ensures { result ≡ is_prim Not (one (is_prim Less (two (is_literal (is_int (is_to count))) (subject_of subject.now)))) (term_of term.now) }
+{
+    match argument(Head::Primitive(Prim::Not), term) {
+        Some(inner) => is_literal_first(
+            Head::Primitive(Prim::Less),
+            &Wanted::To(count),
+            subject,
+            inner,
+        ),
+        None => false,
     }
-}
-
-fn are_same(first: &Tree, second: &Tree) -> bool
-    ensures { result ≡ object_eq first.now second.now }
-{
-    first.same(second)
-}
-
-/// Whether an object is an integer of so many bits, the sign among them.
-fn is_integer_of(count: usize, object: &Tree) -> bool
-    ensures { result ≡ is_integer_of count object.now }
-{
-    match object.kind() {
-        TreeKind::Int(i) => has_bits(count, i),
-        _ => false,
-    }
-}
-
-fn has_bits(count: usize, i: i128) -> bool
-    ensures { result ≡ is_signed_byte (pos count) i }
-{
-    if count == 0 {
-        false
-    } else if count >= 128 {
-        true
-    } else {
-        let bound = power((count - 1) as u32);
-        -bound <= i && i < bound
-    }
-}
-
-/// 2 ^ places
-fn power(places: u32) -> i128
-    requires { places < 127 }
-    ensures { result ≡ pos (2 ^ places) }
-{
-    1i128 << places
 }

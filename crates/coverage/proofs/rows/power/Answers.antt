@@ -1,5 +1,0 @@
-use Rattle.coverage.proofs.Widths.{shifted_one}
-use Rattle.coverage.proofs.rows.power.Goals as goal
-
-pub returns : goal.returns
-returns c = shifted_one c.args.places c.requires
