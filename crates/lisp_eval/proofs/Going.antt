@@ -7,6 +7,7 @@ use Rattle.gl_logic.specs.ObjectEq.{object_eq}
 use Rattle.gl_logic.specs.Definition.{Definition}
 use Rattle.gl_logic.specs.Every.{Every}
 use Rattle.gl_logic.specs.Exp.{Exp}
+use Rattle.gl_logic.specs.IsGround.{AreGround}
 use Rattle.gl_logic.specs.Walk.{Walk, CallMade, then, walk, body_walk}
 use Rattle.gl_logic.specs.Evaluate.{evaluate, HasValue}
 use Rattle.gl_logic.specs.Counts.{seen, seen_in}
@@ -16,38 +17,39 @@ use Rattle.gl_logic.specs.Wide.{IsWide, IsWideObject, SomeWide}
 use Rattle.gl_logic.specs.WorldSeen.{WorldSeen}
 use Rattle.gl_logic.proofs.Optional.{none_some, some_same}
 use Rattle.gl_logic.proofs.Walks.{walk_of_value, walk_unique}
-use Rattle.hons_arena.specs.Held.{Held, AddsCellsOf, IsEachOnce, LacksCell}
+use Rattle.hons_arena.specs.Held.{Held, AddsCellsOf, IsEachOnce, LacksCell, HasNoRoomFor}
 use Rattle.lisp_eval.specs.Answers.{IsDear, IsCrowded}
 use Rattle.lisp_eval.specs.Frames.{Frame, Focus, Visit, Give, rest_of}
+use Rattle.lisp_eval.specs.MachineCalls.{HoldsSeen}
 use Rattle.lisp_eval.specs.Threads.{Thread}
 use Rattle.lisp_eval.specs.Within.{IsIn, IsSeenCell, AreWithin, CoverCells}
-use Rattle.lisp_eval.proofs.Cover.{AnswersAreFine, IsFineCall}
+use Rattle.lisp_eval.specs.Narrow.{IsNarrow}
+use Rattle.lisp_eval.specs.Tables.{answered_in}
+use Rattle.lisp_eval.proofs.Cover.{IsFineCall}
 use Rattle.lisp_eval.proofs.Goes.{Goes}
 use Rattle.lisp_eval.proofs.Running.{Running, there, begins, runs_on, too_many, done}
+use Rattle.lisp_eval.proofs.TableAnswers.{deep_narrow, answers_in}
 use Rattle.lisp_eval.proofs.Seen.{every_in}
-use Rattle.lisp_eval.proofs.Within.{full}
+use Rattle.lisp_eval.proofs.Within.{full, full_of_room}
 
 abbrev pub Narrow : Object → Type 0
-Narrow x = IsWideObject x → ⊥
-
-pub no_answers : (ds : List Definition) → AnswersAreFine ds [] Narrow
-no_answers ds f xs h = absurd cc
+Narrow = IsNarrow
 
 in_behind : (xs ys : List Object) (x : Object) → IsIn ys x → IsIn (xs ++ ys) x
 in_behind [] ys x h = h
 in_behind (y ∷ xs) ys x h = let k = in_behind xs ys x h in (suc k.0, k.1)
 
-in_cells : (xs : List Object) (v y : Object) (k : ℕ) → slice_get xs k ≡ Some v → Contains (cells_in v) y → Contains (flat_map cells_in xs) y
+pub in_cells : (xs : List Object) (v y : Object) (k : ℕ) → slice_get xs k ≡ Some v → Contains (cells_in v) y → Contains (flat_map cells_in xs) y
 in_cells [] v y k e c = none_some v e
 in_cells (x ∷ xs) v y zero e c = Contains-append_left (cells_in x) (flat_map cells_in xs) y (subst (λ (z : Object). Contains (cells_in z) y) (sym (some_same x v e)) c)
 in_cells (x ∷ xs) v y (suc k) e c = Contains-append_right (cells_in x) (flat_map cells_in xs) y (in_cells xs v y k e c)
 
-module _ (w : WorldSeen) (functions : List ℕ) (env : List (ℕ × Object)) (t : Exp) (limit : ℕ) (start : List Object) where
+module _ (w : WorldSeen) (ground : AreGround w.definitions) (functions : List ℕ) (env : List (ℕ × Object)) (t : Exp) (limit : ℕ) (start : List Object) where
   abbrev ds : List Definition
   ds = w.definitions
 
   abbrev pub run_of : (depth : ℕ) (r : Walk) → walk ds depth env t ≡ Some r → List CallMade → Thread
-  run_of depth r walks first = (there (IsIn r.seen) Narrow ds [] functions (no_answers ds) depth env t r walks (every_in r.seen) first).run
+  run_of depth r walks first = (there (IsIn r.seen) Narrow ds (answered_in ds) functions (answers_in ds ground) depth env t r walks (every_in r.seen) first).run
 
   pub record Going (left : ℕ) (focus : Focus) (frames : List Frame) (kept : List CallMade) (objects : List Object) : Type 0 where
     pub depth : ℕ
@@ -57,7 +59,7 @@ module _ (w : WorldSeen) (functions : List ℕ) (env : List (ℕ × Object)) (t 
     pub first_fine : Every (IsFineCall ds Narrow) first
     pub spent : ℕ
     pub balance : spent + left ≡ limit
-    pub running : Running (IsIn walked.seen) Narrow ds [] functions depth (run_of depth walked walks first) spent focus frames kept
+    pub running : Running (IsIn walked.seen) Narrow ds (answered_in ds) functions depth (run_of depth walked walks first) spent focus frames kept
     pub within : AreWithin start walked.seen objects
 
   pub going_start : (n : ℕ) (x : Object) (first : List CallMade) → evaluate ds n env t ≡ Some x → Every (IsFineCall ds Narrow) first → Going limit (Visit t env) [] first start
@@ -71,7 +73,7 @@ module _ (w : WorldSeen) (functions : List ℕ) (env : List (ℕ × Object)) (t 
         first_fine = f;
         spent = 0;
         balance = omega arith;
-        running = begins (IsIn r.0.seen) Narrow ds [] functions (no_answers ds) n env t r.0 r.1.0 (every_in r.0.seen) first;
+        running = begins (IsIn r.0.seen) Narrow ds (answered_in ds) functions (answers_in ds ground) n env t r.0 r.1.0 (every_in r.0.seen) first;
         within = λ y c. Rattle.std.proofs.Common.inl c;
       }
 
@@ -82,9 +84,9 @@ module _ (w : WorldSeen) (functions : List ℕ) (env : List (ℕ × Object)) (t 
       pub goes_on : Every Narrow met → (objects' : List Object) → AreWithin start i.walked.seen objects' → Going left' focus' frames' kept' objects'
 
     pub going_step : (left' more : ℕ) (met : List Object) (focus' : Focus) (frames' : List Frame) (kept' : List CallMade) → more + left' ≡ left
-        → Goes (IsIn i.walked.seen) Narrow more met (rest_of ds [] functions i.depth focus frames kept) (rest_of ds [] functions i.depth focus' frames' kept') → StepOn met left' focus' frames' kept'
+        → Goes (IsIn i.walked.seen) Narrow more met (rest_of ds (answered_in ds) functions i.depth focus frames kept) (rest_of ds (answered_in ds) functions i.depth focus' frames' kept') → StepOn met left' focus' frames' kept'
     going_step left' more met focus' frames' kept' b g =
-        let s = runs_on (IsIn i.walked.seen) Narrow ds [] functions i.depth (run_of i.depth i.walked i.walks i.first) i.spent more met focus focus' frames frames' kept kept' i.running g in
+        let s = runs_on (IsIn i.walked.seen) Narrow ds (answered_in ds) functions i.depth (run_of i.depth i.walked i.walks i.first) i.spent more met focus focus' frames frames' kept kept' i.running g in
         record {
           met_seen = s.within;
           goes_on = λ narrow objects' within. record {
@@ -121,9 +123,12 @@ module _ (w : WorldSeen) (functions : List ℕ) (env : List (ℕ × Object)) (t 
     pub going_crowded : (held : Held) (x : Object) → IsIn i.walked.seen x → LacksCell held x → IsEachOnce held.objects → AreWithin start i.walked.seen held.objects → IsCrowded w env t start held.limit
     going_crowded held x k lack once within = record { depth = i.depth; value = i.walked.value; has = value; more = full start i.walked.seen (start ++ cells w i.depth env t) held x k lack once within covers }
 
+    pub going_no_room : (held : Held) (x : Object) → IsIn i.walked.seen x → HasNoRoomFor held x → IsEachOnce held.objects → AreWithin start i.walked.seen held.objects → IsCrowded w env t start held.limit
+    going_no_room held x k room once within = record { depth = i.depth; value = i.walked.value; has = value; more = full_of_room start i.walked.seen (start ++ cells w i.depth env t) held x k room once within covers }
+
   pub going_dear : (left : ℕ) (u : Exp) (uenv : List (ℕ × Object)) (frames : List Frame) (kept : List CallMade) (objects : List Object) → Going left (Visit u uenv) frames kept objects → left ≡ 0 → IsDear w functions env t limit
   going_dear left u uenv frames kept objects i z =
-      let more = too_many (IsIn i.walked.seen) Narrow ds [] functions (no_answers ds) i.depth env t i.walked i.walks (every_in i.walked.seen) i.first i.spent u uenv frames kept i.running in
+      let more = too_many (IsIn i.walked.seen) Narrow ds (answered_in ds) functions (answers_in ds ground) i.depth env t i.walked i.walks (every_in i.walked.seen) i.first i.spent u uenv frames kept i.running in
       record { depth = i.depth; value = i.walked.value; has = ap (λ o. then o (λ r. Some r.value)) i.walks; more = omega (arith, more, i.balance, z) }
 
   every_at_get : (xs : List Object) (k : ℕ) (x : Object) → Every Narrow xs → slice_get xs k ≡ Some x → Narrow x
@@ -133,16 +138,25 @@ module _ (w : WorldSeen) (functions : List ℕ) (env : List (ℕ × Object)) (t 
 
   none_wide_at : (n m : ℕ) (r : Walk) (o : Option Walk) → walk ds m env t ≡ Some r → Every Narrow r.seen → walk ds n env t ≡ o → SomeWide (seen_in o) → ⊥
   none_wide_at n m r None e h q k = none_some k.1.0 k.1.1.0
-  none_wide_at n m r (Some s) e h q k = every_at_get s.seen k.0 k.1.0 (subst (λ (z : Walk). Every Narrow z.seen) (walk_unique ds m n env t r s e q) h) k.1.1.0 k.1.1.1
+  none_wide_at n m r (Some s) e h q k = deep_narrow k.1.0 (every_at_get s.seen k.0 k.1.0 (subst (λ (z : Walk). Every Narrow z.seen) (walk_unique ds m n env t r s e q) h) k.1.1.0) k.1.1.1
 
   pub record GoneTo (v : Object) (kept : List CallMade) : Type 0 where
     pub value : HasValue ds env t v
     pub narrow : IsWide ds env t → ⊥
     pub calls : Every (IsFineCall ds Narrow) kept
 
+  -- what is held then is of values that were seen
+  pub going_holds : (left : ℕ) (focus : Focus) (frames : List Frame) (kept : List CallMade) (objects : List Object) → Going left focus frames kept objects → HoldsSeen w env t start objects
+  going_holds left focus frames kept objects i = record {
+    depth = i.depth;
+    value = i.walked.value;
+    has = ap (λ o. then o (λ r. Some r.value)) i.walks;
+    cells = subst (λ (xs : List Object). AreWithin start xs objects) (sym (ap seen_in i.walks)) i.within;
+  }
+
   pub going_done : (left : ℕ) (v : Object) (kept : List CallMade) (objects : List Object) → Going left (Give v) [] kept objects → GoneTo v kept
   going_done left v kept objects i =
-      let d = done (IsIn i.walked.seen) Narrow ds [] functions (no_answers ds) i.depth env t i.walked i.walks (every_in i.walked.seen) i.first i.spent v kept i.running i.first_fine in
+      let d = done (IsIn i.walked.seen) Narrow ds (answered_in ds) functions (answers_in ds ground) i.depth env t i.walked i.walks (every_in i.walked.seen) i.first i.spent v kept i.running i.first_fine in
       record {
         value = (i.depth, ap (λ o. then o (λ r. Some r.value)) i.walks ∙ ap (λ (x : Object). Some x) (sym d.value));
         narrow = λ h. none_wide_at h.0 i.depth i.walked (walk ds h.0 env t) i.walks d.seen_fine refl h.1;

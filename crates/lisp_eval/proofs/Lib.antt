@@ -12,7 +12,9 @@ pub mod Grown
 pub mod Law
 pub mod Levels
 pub mod More
+pub mod Machines
 pub mod MovesGo
+pub mod PlacedConstants
 pub mod Places
 pub mod PrimValues
 pub mod Running
@@ -22,8 +24,11 @@ pub mod State
 pub mod StateApplies
 pub mod StateGives
 pub mod Structural
+pub mod TableAnswers
+pub mod TableValues
 pub mod TermForms
 pub mod Turns
 pub mod Values
+pub mod WholeNarrow
 pub mod Within
 pub mod Worked

@@ -94,10 +94,10 @@ same_ids objects one (i ∷ ids) (j ∷ js) h g e =
     let b : ids ≡ js = same_ids objects one ids js h.1 g.1 (ap rest_of_list e) in λ k. a k ∷ b k
 
 -- ---- a call of an evaluation that goes on is of a definition
-module _ (ds : List Definition) (functions : List ℕ) where
+module _ (ds : List Definition) (answered functions : List ℕ) where
   shut_there : (n f : ℕ) (xs : List Object) (b : Bool) (kept : List CallMade) (y : Thread) → elim b as (λ _. Option Thread) [
     | true ↦ then (plain_call ds (suc n) f xs) (λ r. skipped kept r.value)
-    | false ↦ then (slice_get ds f) (λ d. then (thread_by (threaded ds [] functions n) d.body (extended d.formals xs []) kept) (finished functions f xs))
+    | false ↦ then (slice_get ds f) (λ d. then (thread_by (threaded ds answered functions n) d.body (extended d.formals xs []) kept) (finished functions f xs))
   ] ≡ Some y → (d : Definition) × (slice_get ds f ≡ Some d)
   shut_there n f xs true kept y e =
       let i = then_inverted (plain_call ds (suc n) f xs) (λ r. skipped kept r.value) y e in
@@ -105,11 +105,11 @@ module _ (ds : List Definition) (functions : List ℕ) where
       let k = then_inverted (slice_get ds f) _ j.0 j.1.0 in (k.0, k.1.0)
   shut_there n f xs false kept y e = let k = then_inverted (slice_get ds f) _ y e in (k.0, k.1.0)
 
-  threaded_there : (n f : ℕ) (xs : List Object) (kept : List CallMade) (y : Thread) → threaded ds [] functions n f xs kept ≡ Some y → (d : Definition) × (slice_get ds f ≡ Some d)
+  threaded_there : (n f : ℕ) (xs : List Object) (kept : List CallMade) (y : Thread) → threaded ds answered functions n f xs kept ≡ Some y → (d : Definition) × (slice_get ds f ≡ Some d)
   threaded_there zero f xs kept y e = none_some y e
-  threaded_there (suc n) f xs kept y e = shut_there n f xs (stays_shut [] functions f xs kept) kept y e
+  threaded_there (suc n) f xs kept y e = shut_there n f xs (stays_shut answered functions f xs kept) kept y e
 
-  pub call_is_there : (depth f : ℕ) (xs : List Object) (frames : List Frame) (kept : List CallMade) (rest : Rest) → rest_of ds [] functions depth (Apply (ToCall f) xs) frames kept ≡ Some rest → (d : Definition) × (slice_get ds f ≡ Some d)
+  pub call_is_there : (depth f : ℕ) (xs : List Object) (frames : List Frame) (kept : List CallMade) (rest : Rest) → rest_of ds answered functions depth (Apply (ToCall f) xs) frames kept ≡ Some rest → (d : Definition) × (slice_get ds f ≡ Some d)
   call_is_there depth f xs frames kept rest e =
-      let i = then_inverted (focused ds [] functions depth (Apply (ToCall f) xs) kept) _ rest e in
-      let j = then_inverted (threaded ds [] functions depth f xs kept) call_of i.0 i.1.0 in threaded_there depth f xs kept j.0 j.1.0
+      let i = then_inverted (focused ds answered functions depth (Apply (ToCall f) xs) kept) _ rest e in
+      let j = then_inverted (threaded ds answered functions depth f xs kept) call_of i.0 i.1.0 in threaded_there depth f xs kept j.0 j.1.0

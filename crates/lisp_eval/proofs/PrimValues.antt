@@ -44,6 +44,7 @@ gives_cell old new v id cell i = record {
   full = λ e. absurd cc;
   cell = λ e. cell;
   unchanged = tt;
+  whole = λ w. i.whole;
 }
 
 pub gives_ok : (old new : Held) (v w : Object) (id : Id) → v ≡ w → is_cell w ≡ true → Interns old new w (Ok id) → Gives old new v (Ok id)
@@ -68,6 +69,7 @@ gives_full old new v cell (Err u) answer e f i = subst (λ (a : Result Id PrimFa
   full = λ g. i.full.0 refl;
   cell = λ g. cell;
   unchanged = i.unchanged;
+  whole = λ w. i.whole;
 })
 
 pub gives_err : (old new : Held) (v w : Object) → is_cell w ≡ true → (r : Result Id Full) (answer : Result Id PrimFault) → v ≡ w → IsErr r → answer ≡ Err fault.Full → Interns old new w r → Gives old new v answer

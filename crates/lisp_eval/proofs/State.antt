@@ -6,6 +6,7 @@ use Rattle.gl_logic.specs.Definition.{Definition}
 use Rattle.gl_logic.specs.Environment.{look, extended}
 use Rattle.gl_logic.specs.Every.{Every}
 use Rattle.gl_logic.specs.Exp.{Exp, Var, Const}
+use Rattle.gl_logic.specs.IsGround.{AreGround}
 use Rattle.gl_logic.specs.PrimValue.{prim_of, prim_value}
 use Rattle.gl_logic.specs.TermOf.{term_of}
 use Rattle.gl_logic.specs.Walk.{CallMade}
@@ -24,6 +25,7 @@ use Rattle.lisp_eval.specs.Kept.{entries_of}
 use Rattle.lisp_eval.specs.Moves.{Next, on, entered, entered_met}
 use Rattle.lisp_eval.specs.States.{env_of, values_of, work_of, frame_of, frames_of, focus_of, IsNext}
 use Rattle.lisp_eval.specs.Threads.{is_kept}
+use Rattle.lisp_eval.specs.Tables.{answered_in}
 use Rattle.lisp_eval.specs.Within.{IsIn, AreWithin}
 use Rattle.lisp_eval.specs.declared.frame.Focus as program
 use Rattle.lisp_eval.specs.declared.frame.Focus.TheVariants as focus
@@ -50,7 +52,8 @@ module _ (w : WorldSeen) (functions : List ℕ) (env : List (ℕ × Object)) (t 
     pub stack : List Frame
     pub kept : List CallMade
     pub calls : List (CallMade × Object)
-    pub going : Going w functions env t limit start left focus stack kept objects
+    pub ground : AreGround w.definitions
+    pub going : Going w ground functions env t limit start left focus stack kept objects
     pub focus_is : (more : List Object) → focus_of (objects ++ more) now ≡ focus
     pub frames_are : (more : List Object) → frames_of (objects ++ more) frames ≡ stack
     pub entries_are : (more : List Object) → entries_of (objects ++ more) entries ≡ calls
@@ -65,16 +68,16 @@ module _ (w : WorldSeen) (functions : List ℕ) (env : List (ℕ × Object)) (t 
     env_stands : (more : List Object) → env_of (objects ++ more) uenv.value.items ≡ visit_env
     env_stands more = ap env_in (s.focus_is more ∙ sym (s.focus_is []))
 
-    at_visit : Going w functions env t limit start left (Visit (term_of u.now) visit_env) s.stack s.kept objects
-    at_visit = subst (λ (g : Focus). Going w functions env t limit start left g s.stack s.kept objects) (sym (s.focus_is [])) s.going
+    at_visit : Going w s.ground functions env t limit start left (Visit (term_of u.now) visit_env) s.stack s.kept objects
+    at_visit = subst (λ (g : Focus). Going w s.ground functions env t limit start left g s.stack s.kept objects) (sym (s.focus_is [])) s.going
 
     pub visit_dear : left ≡ 0 → IsDear w functions env t limit
-    visit_dear z = going_dear w functions env t limit start left (term_of u.now) visit_env s.stack s.kept objects at_visit z
+    visit_dear z = going_dear w s.ground functions env t limit start left (term_of u.now) visit_env s.stack s.kept objects at_visit z
 
-    entered_step : (x : Exp) → (i : Going w functions env t limit start left (Visit x visit_env) s.stack s.kept objects) → (left ≡ 0 → ⊥)
-        → StepOn w functions env t limit start left (Visit x visit_env) s.stack s.kept objects i (entered_met x visit_env) (left - 1) (entered x visit_env).focus (s.stack ++ (entered x visit_env).pushed) s.kept
-    entered_step x i h = going_step w functions env t limit start left (Visit x visit_env) s.stack s.kept objects i (left - 1) 1 (entered_met x visit_env) (entered x visit_env).focus (s.stack ++ (entered x visit_env).pushed) s.kept (omega (arith, h))
-        (entered_goes (IsIn i.walked.seen) Narrow w.definitions [] functions i.depth x visit_env s.stack s.kept)
+    entered_step : (x : Exp) → (i : Going w s.ground functions env t limit start left (Visit x visit_env) s.stack s.kept objects) → (left ≡ 0 → ⊥)
+        → StepOn w s.ground functions env t limit start left (Visit x visit_env) s.stack s.kept objects i (entered_met x visit_env) (left - 1) (entered x visit_env).focus (s.stack ++ (entered x visit_env).pushed) s.kept
+    entered_step x i h = going_step w s.ground functions env t limit start left (Visit x visit_env) s.stack s.kept objects i (left - 1) 1 (entered_met x visit_env) (entered x visit_env).focus (s.stack ++ (entered x visit_env).pushed) s.kept (omega (arith, h))
+        (entered_goes (IsIn i.walked.seen) Narrow w.definitions (answered_in w.definitions) functions i.depth x visit_env s.stack s.kept)
 
     pub visit_next : (left ≡ 0 → ⊥) → IsCompound (term_of u.now) → (f : program.Focus) (frames' : List held.Frame) → ((all : List Object) → IsNext all (entered (term_of u.now) (env_of all uenv.value.items)) frames f frames') → State (left - 1) f frames' objects entries
     visit_next h c f frames' n =
@@ -84,6 +87,7 @@ module _ (w : WorldSeen) (functions : List ℕ) (env : List (ℕ × Object)) (t 
         record {
           focus = (entered (term_of u.now) visit_env).focus;
           stack = s.stack ++ (entered (term_of u.now) visit_env).pushed;
+          ground = s.ground;
           kept = s.kept;
           calls = s.calls;
           going = step.goes_on narrow objects at_visit.within;
@@ -96,13 +100,13 @@ module _ (w : WorldSeen) (functions : List ℕ) (env : List (ℕ × Object)) (t 
 
     -- a visit whose value is there at once
     gives : (x : Exp) (v : Object) → entered x visit_env ≡ on (Give v) → entered_met x visit_env ≡ v ∷ [] → term_of u.now ≡ x → (left ≡ 0 → ⊥)
-        → (i : Going w functions env t limit start left (Visit x visit_env) s.stack s.kept objects) × StepOn w functions env t limit start left (Visit x visit_env) s.stack s.kept objects i (v ∷ []) (left - 1) (Give v) s.stack s.kept
+        → (i : Going w s.ground functions env t limit start left (Visit x visit_env) s.stack s.kept objects) × StepOn w s.ground functions env t limit start left (Visit x visit_env) s.stack s.kept objects i (v ∷ []) (left - 1) (Give v) s.stack s.kept
     gives x v e m q h =
-        let i : Going w functions env t limit start left (Visit x visit_env) s.stack s.kept objects = subst (λ (y : Exp). Going w functions env t limit start left (Visit y visit_env) s.stack s.kept objects) q at_visit in
+        let i : Going w s.ground functions env t limit start left (Visit x visit_env) s.stack s.kept objects = subst (λ (y : Exp). Going w s.ground functions env t limit start left (Visit y visit_env) s.stack s.kept objects) q at_visit in
         let a = entered_step x i h in
-        let b = subst (λ (k : Next). StepOn w functions env t limit start left (Visit x visit_env) s.stack s.kept objects i (entered_met x visit_env) (left - 1) k.focus (s.stack ++ k.pushed) s.kept) e a in
-        let d = subst (λ (zs : List Object). StepOn w functions env t limit start left (Visit x visit_env) s.stack s.kept objects i zs (left - 1) (Give v) (s.stack ++ []) s.kept) m b in
-        (i, subst (λ (zs : List Frame). StepOn w functions env t limit start left (Visit x visit_env) s.stack s.kept objects i (v ∷ []) (left - 1) (Give v) zs s.kept) (append_none s.stack) d)
+        let b = subst (λ (k : Next). StepOn w s.ground functions env t limit start left (Visit x visit_env) s.stack s.kept objects i (entered_met x visit_env) (left - 1) k.focus (s.stack ++ k.pushed) s.kept) e a in
+        let d = subst (λ (zs : List Object). StepOn w s.ground functions env t limit start left (Visit x visit_env) s.stack s.kept objects i zs (left - 1) (Give v) (s.stack ++ []) s.kept) m b in
+        (i, subst (λ (zs : List Frame). StepOn w s.ground functions env t limit start left (Visit x visit_env) s.stack s.kept objects i (v ∷ []) (left - 1) (Give v) zs s.kept) (append_none s.stack) d)
 
     -- a variable
     module _ (v : ℕ) (id : Id) (is_var : term_of u.now ≡ Var v) (is_id : id ≡ id_in uenv.value.items v) where
@@ -119,6 +123,7 @@ module _ (w : WorldSeen) (functions : List ℕ) (env : List (ℕ × Object)) (t 
           record {
             focus = Give (look visit_env v);
             stack = s.stack;
+            ground = s.ground;
             kept = s.kept;
             calls = s.calls;
             going = g.1.goes_on (narrow, tt) objects g.0.within;
@@ -131,7 +136,7 @@ module _ (w : WorldSeen) (functions : List ℕ) (env : List (ℕ × Object)) (t 
 
     -- a constant
     module _ (x : Object) (is_const : term_of u.now ≡ Const x) (h : left ≡ 0 → ⊥) (new : List Object) (adds : AddsCellsOf x objects new) where
-      const_gives : (i : Going w functions env t limit start left (Visit (Const x) visit_env) s.stack s.kept objects) × StepOn w functions env t limit start left (Visit (Const x) visit_env) s.stack s.kept objects i (x ∷ []) (left - 1) (Give x) s.stack s.kept
+      const_gives : (i : Going w s.ground functions env t limit start left (Visit (Const x) visit_env) s.stack s.kept objects) × StepOn w s.ground functions env t limit start left (Visit (Const x) visit_env) s.stack s.kept objects i (x ∷ []) (left - 1) (Give x) s.stack s.kept
       const_gives = gives (Const x) x refl refl is_const h
 
       const_within : AreWithin start const_gives.0.walked.seen new
@@ -141,6 +146,7 @@ module _ (w : WorldSeen) (functions : List ℕ) (env : List (ℕ × Object)) (t 
       const_next id is n = record {
         focus = Give x;
         stack = s.stack;
+        ground = s.ground;
         kept = s.kept;
         calls = s.calls;
         going = const_gives.1.goes_on (n, tt) new const_within;
@@ -152,5 +158,5 @@ module _ (w : WorldSeen) (functions : List ℕ) (env : List (ℕ × Object)) (t 
       }
 
       pub const_crowded : (held : Held) → held.objects ≡ new → LacksCell held x → IsEachOnce held.objects → IsCrowded w env t start held.limit
-      const_crowded held e lack once = going_crowded w functions env t limit start left (Visit (Const x) visit_env) s.stack s.kept objects const_gives.0 held x const_gives.1.met_seen.0 lack once
+      const_crowded held e lack once = going_crowded w s.ground functions env t limit start left (Visit (Const x) visit_env) s.stack s.kept objects const_gives.0 held x const_gives.1.met_seen.0 lack once
           (subst (λ (zs : List Object). AreWithin start const_gives.0.walked.seen zs) (sym e) const_within)

@@ -9,6 +9,7 @@ use Rattle.gl_logic.specs.Every.{Every}
 use Rattle.gl_logic.specs.Exp.{Exp}
 use Rattle.gl_logic.specs.Evaluate.{evaluate, HasValue}
 use Rattle.gl_logic.specs.Counts.{call_eq}
+use Rattle.gl_logic.specs.IsGround.{AreGround}
 use Rattle.gl_logic.specs.TermOf.{term_of}
 use Rattle.gl_logic.specs.Walk.{CallMade, Walk, then, body_walk}
 use Rattle.gl_logic.specs.Wide.{IsWide}
@@ -22,9 +23,11 @@ use Rattle.lisp_eval.specs.Answers.{IsValueOf, FitMemos, IsRightEntry, IsNarrowC
 use Rattle.lisp_eval.specs.CallValue.{IsCallValue}
 use Rattle.lisp_eval.specs.Frames.{Frame, Branch, Arguments, Keep, Focus, Visit, Give}
 use Rattle.lisp_eval.specs.Kept.{KeepsCall, entry_of, entries_of}
+use Rattle.lisp_eval.specs.MachineCalls.{HoldsSeen}
 use Rattle.lisp_eval.specs.Moves.{Next, handed, handed_kept}
 use Rattle.lisp_eval.specs.States.{env_of, values_of, frame_of, frames_of, focus_of, IsNext}
 use Rattle.lisp_eval.specs.Threads.{is_kept}
+use Rattle.lisp_eval.specs.Tables.{answered_in}
 use Rattle.lisp_eval.specs.Within.{IsIn}
 use Rattle.lisp_eval.specs.declared.frame.Focus as program
 use Rattle.lisp_eval.specs.declared.frame.Focus.TheVariants as focus
@@ -33,7 +36,7 @@ use Rattle.lisp_eval.specs.declared.frame.Frame.TheVariants as frame
 use Rattle.lisp_eval.proofs.CallsMade.{every_at, call_equal_from}
 use Rattle.lisp_eval.proofs.Cover.{IsFineCall}
 use Rattle.lisp_eval.proofs.Environments.{frames_push}
-use Rattle.lisp_eval.proofs.Going.{Narrow, Going, StepOn, going_step, going_start, going_done}
+use Rattle.lisp_eval.proofs.Going.{Narrow, Going, StepOn, going_step, going_start, going_done, going_holds}
 use Rattle.lisp_eval.proofs.MovesGo.{handed_goes}
 use Rattle.lisp_eval.proofs.Places.{At, place_of, map_at, map_back, kept_at}
 use Rattle.lisp_eval.proofs.Running.{keeps_value}
@@ -72,14 +75,15 @@ module _ (w : WorldSeen) (functions : List ℕ) (env : List (ℕ × Object)) (t 
   firsts_right [] h = tt
   firsts_right (e ∷ es) h = (h.0.value, firsts_right es h.1)
 
-  pub state_start : (now : program.Focus) (frames : List held.Frame) (entries : List (Call × Id)) → FitMemos w.definitions start entries → frames ≡ [] → (n : ℕ) (x : Object) → evaluate w.definitions n env t ≡ Some x
+  pub state_start : AreGround w.definitions → (now : program.Focus) (frames : List held.Frame) (entries : List (Call × Id)) → FitMemos w.definitions start entries → frames ≡ [] → (n : ℕ) (x : Object) → evaluate w.definitions n env t ≡ Some x
       → ((more : List Object) → focus_of (start ++ more) now ≡ Visit t env) → State w functions env t limit start limit now frames start entries
-  state_start now frames entries fit none n x e stands = record {
+  state_start ground now frames entries fit none n x e stands = record {
+    ground = ground;
     focus = Visit t env;
     stack = [];
     kept = map (λ k. k.0) fit.calls;
     calls = fit.calls;
-    going = going_start w functions env t limit start n x (map (λ k. k.0) fit.calls) e (firsts_fine fit.calls fit.right);
+    going = going_start w ground functions env t limit start n x (map (λ k. k.0) fit.calls) e (firsts_fine fit.calls fit.right);
     focus_is = stands;
     frames_are = λ more. ap (frames_of (start ++ more)) none;
     entries_are = fit.stand;
@@ -98,8 +102,8 @@ module _ (w : WorldSeen) (functions : List ℕ) (env : List (ℕ × Object)) (t 
     pub give_live : IsLive objects id
     give_live = stable_live objects id given id_stands_now
 
-    at_give : Going w functions env t limit start left (Give given) s.stack s.kept objects
-    at_give = subst (λ (g : Focus). Going w functions env t limit start left g s.stack s.kept objects) (sym (s.focus_is [])) s.going
+    at_give : Going w s.ground functions env t limit start left (Give given) s.stack s.kept objects
+    at_give = subst (λ (g : Focus). Going w s.ground functions env t limit start left g s.stack s.kept objects) (sym (s.focus_is [])) s.going
 
     -- the end
     fits : (es : List (CallMade × Object)) → Every (λ e. IsCallValue w.definitions e.0.0 e.0.1 e.1) es → ((c : CallMade) → is_kept (map (λ e. e.0) es) c ≡ true → IsFineCall w.definitions Narrow c) → Every (IsRightEntry w.definitions) es
@@ -109,13 +113,16 @@ module _ (w : WorldSeen) (functions : List ℕ) (env : List (ℕ × Object)) (t 
       or_after true b k = refl
       or_after false b k = k
 
-    pub state_done : frames ≡ [] → IsValueOf w env t objects id × FitMemos w.definitions objects entries
+    pub state_done : frames ≡ [] → IsValueOf w env t objects id × (FitMemos w.definitions objects entries × HoldsSeen w env t start objects)
     state_done none =
         let empty : s.stack ≡ [] = sym (s.frames_are []) ∙ ap (frames_of (objects ++ [])) none in
-        let at_end : Going w functions env t limit start left (Give given) [] s.kept objects = subst (λ (fs : List Frame). Going w functions env t limit start left (Give given) fs s.kept objects) empty at_give in
-        let d = going_done w functions env t limit start left given s.kept objects at_end in (
+        let at_end : Going w s.ground functions env t limit start left (Give given) [] s.kept objects = subst (λ (fs : List Frame). Going w s.ground functions env t limit start left (Give given) fs s.kept objects) empty at_give in
+        let d = going_done w s.ground functions env t limit start left given s.kept objects at_end in (
           record { live = give_live; value = subst (HasValue w.definitions env t) (sym (at_once (λ all. object_at all id) given objects id_stands_now)) d.value; narrow = d.narrow },
-          record { calls = s.calls; stand = s.entries_are; right = fits s.calls s.right (λ c k. every_at (IsFineCall w.definitions Narrow) s.kept c d.calls (s.same c ∙ k)) },
+          (
+            record { calls = s.calls; stand = s.entries_are; right = fits s.calls s.right (λ c k. every_at (IsFineCall w.definitions Narrow) s.kept c d.calls (s.same c ∙ k)) },
+            going_holds w s.ground functions env t limit start left (Give given) [] s.kept objects at_end,
+          ),
         )
 
     -- a frame takes the value
@@ -132,12 +139,12 @@ module _ (w : WorldSeen) (functions : List ℕ) (env : List (ℕ × Object)) (t 
       both_stand : (more : List Object) → (frames_of (objects ++ more) rest ≡ below) × (frame_of (objects ++ more) g ≡ last)
       both_stand more = last_same (frames_of (objects ++ more) rest) below (frame_of (objects ++ more) g) last (sym (pushed_are more) ∙ (s.frames_are more ∙ (sym (s.frames_are []) ∙ pushed_are [])))
 
-      at_frame : Going w functions env t limit start left (Give given) (below ++ last ∷ []) s.kept objects
-      at_frame = subst (λ (fs : List Frame). Going w functions env t limit start left (Give given) fs s.kept objects) (sym (s.frames_are []) ∙ pushed_are []) at_give
+      at_frame : Going w s.ground functions env t limit start left (Give given) (below ++ last ∷ []) s.kept objects
+      at_frame = subst (λ (fs : List Frame). Going w s.ground functions env t limit start left (Give given) fs s.kept objects) (sym (s.frames_are []) ∙ pushed_are []) at_give
 
-      step : StepOn w functions env t limit start left (Give given) (below ++ last ∷ []) s.kept objects at_frame [] left (handed last given).focus (below ++ (handed last given).pushed) (handed_kept last s.kept)
-      step = going_step w functions env t limit start left (Give given) (below ++ last ∷ []) s.kept objects at_frame left 0 [] (handed last given).focus (below ++ (handed last given).pushed) (handed_kept last s.kept) (omega arith)
-          (handed_goes (IsIn at_frame.walked.seen) Narrow w.definitions [] functions at_frame.depth last given below s.kept)
+      step : StepOn w s.ground functions env t limit start left (Give given) (below ++ last ∷ []) s.kept objects at_frame [] left (handed last given).focus (below ++ (handed last given).pushed) (handed_kept last s.kept)
+      step = going_step w s.ground functions env t limit start left (Give given) (below ++ last ∷ []) s.kept objects at_frame left 0 [] (handed last given).focus (below ++ (handed last given).pushed) (handed_kept last s.kept) (omega arith)
+          (handed_goes (IsIn at_frame.walked.seen) Narrow w.definitions (answered_in w.definitions) functions at_frame.depth last given below s.kept)
 
       -- what is kept then
       pub record KeepsOn (entries' : List (Call × Id)) : Type 0 where
@@ -156,6 +163,7 @@ module _ (w : WorldSeen) (functions : List ℕ) (env : List (ℕ × Object)) (t 
           record {
             focus = (handed last given).focus;
             stack = below ++ (handed last given).pushed;
+            ground = s.ground;
             kept = handed_kept last s.kept;
             calls = k.calls;
             going = step.goes_on tt objects at_frame.within;
@@ -180,7 +188,7 @@ module _ (w : WorldSeen) (functions : List ℕ) (env : List (ℕ × Object)) (t 
       is_value : IsCallValue w.definitions c.function (values_of (objects ++ []) c.arguments) given
       is_value =
           let i = at_frame rest (frame.Keep c) popped in
-          keeps_value (IsIn i.walked.seen) Narrow w.definitions [] functions i.depth (Rattle.lisp_eval.proofs.Going.run_of w functions env t limit start i.depth i.walked i.walks i.first) i.spent c.function (values_of (objects ++ []) c.arguments) given (below rest (frame.Keep c) popped) s.kept i.running
+          keeps_value (IsIn i.walked.seen) Narrow w.definitions (answered_in w.definitions) functions i.depth (Rattle.lisp_eval.proofs.Going.run_of w s.ground functions env t limit start i.depth i.walked i.walks i.first) i.spent c.function (values_of (objects ++ []) c.arguments) given (below rest (frame.Keep c) popped) s.kept i.running
 
       keeps_more : (entries' : List (Call × Id)) → entries' ≡ entries ++ (c, id) ∷ [] → KeepsOn rest (frame.Keep c) popped entries'
       keeps_more entries' e = record {

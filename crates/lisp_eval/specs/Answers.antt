@@ -9,7 +9,7 @@ use Rattle.gl_logic.specs.Exp.{Exp}
 use Rattle.gl_logic.specs.Evaluate.{evaluate, HasValue}
 use Rattle.gl_logic.specs.Counts.{memoized_cost}
 use Rattle.gl_logic.specs.CellCounts.{cells}
-use Rattle.gl_logic.specs.Wide.{IsWide, IsWideObject}
+use Rattle.gl_logic.specs.Wide.{IsWide}
 use Rattle.gl_logic.specs.WorldSeen.{WorldSeen}
 use Rattle.gl_logic.specs.Walk.{Walk, CallMade, body_walk}
 use Rattle.hons_arena.specs.declared.id.Id.{Id}
@@ -18,6 +18,7 @@ use Rattle.hons_arena.specs.Ids.{object_at, IsLive, IsIdOf}
 use Rattle.memo_tables.specs.Calls.{Call}
 use Rattle.lisp_eval.specs.CallValue.{IsCallValue}
 use Rattle.lisp_eval.specs.Kept.{entries_of}
+use Rattle.lisp_eval.specs.Narrow.{IsNarrow}
 use Rattle.lisp_eval.specs.States.{env_of}
 use Rattle.lisp_eval.specs.declared.frame.Binding.{Binding}
 use Rattle.lisp_eval.specs.declared.run.Cause.{Cause}
@@ -52,11 +53,11 @@ IsCauseOf w functions env t limit start room cause.Steps = IsDear w functions en
 IsCauseOf w functions env t limit start room cause.Cells = IsCrowded w env t start room
 
 -- ---- kept calls
--- no value of the plain evaluation of the call's body is wide
+-- no value of the plain evaluation of the call's body has a part that is wide
 abbrev pub IsNarrowCall : List Definition → CallMade → Type 0
-IsNarrowCall definitions c = (n : ℕ) (r : Walk) → body_walk definitions n c.0 c.1 ≡ Some r → Every (λ x. ¬ IsWideObject x) r.seen
+IsNarrowCall definitions c = (n : ℕ) (r : Walk) → body_walk definitions n c.0 c.1 ≡ Some r → Every IsNarrow r.seen
 
--- each kept result is the value of its call, and no value of that call's plain evaluation is wide
+-- each kept result is the value of its call, and no value of that call's plain evaluation has a part that is wide
 pub record IsRightEntry (definitions : List Definition) (e : CallMade × Object) : Type 0 where
   pub value : IsCallValue definitions e.0.0 e.0.1 e.1
   pub narrow : IsNarrowCall definitions e.0

@@ -6,7 +6,7 @@ use Rattle.gl_logic.specs.Wide.{IsWideObject}
 use Rattle.gl_logic.specs.declared.prim.Primitive.{Primitive}
 use Rattle.gl_logic.specs.declared.prim.Primitive.TheVariants as prim
 use Rattle.hons_arena.specs.declared.id.Id.{Id}
-use Rattle.hons_arena.specs.Held.{Held, HasNoCell, AddsCellsOf}
+use Rattle.hons_arena.specs.Held.{Held, HasNoCell, AddsCellsOf, IsWhole}
 use Rattle.hons_arena.specs.Ids.{IsIdOf}
 use Rattle.lisp_eval.specs.declared.primitives.PrimFault.{PrimFault}
 use Rattle.lisp_eval.specs.declared.primitives.PrimFault.TheVariants as fault
@@ -40,3 +40,4 @@ pub record Gives (old new : Held) (value : Object) (answer : Result Id PrimFault
   pub full : IsErrOf answer fault.Full → HasNoCell old value
   pub cell : IsErrOf answer fault.Full → is_cell value ≡ true
   pub unchanged : OnErr answer (new ≡ old)
+  pub whole : IsWhole old → IsWhole new

@@ -7,8 +7,13 @@ pub mod Costs
 pub mod Frames
 pub mod Gives
 pub mod Kept
+pub mod Lending
+pub mod MachineCalls
+pub mod Machines
 pub mod Moves
+pub mod Narrow
 pub mod Nexts
 pub mod States
+pub mod Tables
 pub mod Threads
 pub mod Within

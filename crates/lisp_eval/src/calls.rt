@@ -5,6 +5,7 @@ ghost use Rattle.gl_logic.specs.Counts.{is_among};
 ghost use Rattle.gl_logic.specs.TermOf.{term_of};
 ghost use Rattle.lisp_eval.specs.Kept.{IsKnown};
 ghost use Rattle.lisp_eval.specs.Nexts.{Opens, Binds};
+ghost use Rattle.lisp_eval.specs.Tables.{answered_in};
 
 use crate::bindings::bind;
 use crate::frame::{Binding, Focus, Frame};
@@ -32,6 +33,21 @@ fn is_memoized(functions: &[u64], f: FnId) -> bool
         if f.number == *g {
             return true;
         }
+    }
+    false
+}
+
+/// The functions that tables of lists answer: hons-acons, make-fast-alist, fast-alist-free, hons-assoc-equal, hons-get and
+/// fast-alist-fork.
+const TABLE_FUNCTIONS: [u64; 6] = [37, 38, 39, 40, 41, 42];
+
+/// Whether tables answer a function of a world: in one that has all of the ground definitions.
+#[tactic(auto, using(crate::proofs::Amongs::answered_there, crate::proofs::Amongs::answered_nowhere))]
+pub fn is_answered(world: &World, f: FnId) -> bool
+    ensures { result ≡ is_among (answered_in world.now.definitions) f.number }
+{
+    if world.count() > 42 {
+        return is_memoized(&TABLE_FUNCTIONS, f);
     }
     false
 }

@@ -3,13 +3,17 @@
 ghost use Rattle.std.specs.Prelude.{◌≡◌, ◌≤◌, [], All, IfOk, OnErr, OnOk, length, take};
 ghost use Rattle.gl_logic.specs.IsTermOf.{IsTermOf};
 ghost use Rattle.gl_logic.specs.TermOf.{term_of};
+ghost use Rattle.fast_alists.specs.Tables.{Agree};
+ghost use Rattle.hons_arena.specs.Held.{IsWhole};
 ghost use Rattle.lisp_eval.specs.Answers.{IsValueOf, IsLicensed, FitMemos, HasGrown, IsLiveBinding};
+ghost use Rattle.lisp_eval.specs.MachineCalls.{HoldsSeen};
 ghost use Rattle.lisp_eval.specs.Nexts.{Answered};
 ghost use Rattle.lisp_eval.specs.States.{env_of};
 
 use crate::fault::{EvalFault, fault_for};
 use crate::frame::Binding;
 use crate::run::{Cause, run};
+use fast_alists::FastAlists;
 use gl_logic::{NoMemory, Term, World};
 use hons_arena::{HonsArena, Id, Mark};
 use memo_tables::MemoTables;
@@ -30,29 +34,35 @@ pub fn evaluate(
     steps: u64,
     alloc: Global,
     arena: &mut HonsArena,
+    alists: &mut FastAlists,
     memos: &mut MemoTables,
 ) -> Result<Id, EvalFault>
     requires term { IsTermOf world.now.definitions (term_of term.now) }
     requires env { All (IsLiveBinding arena.old.objects) env.now }
+    requires alists { Agree arena.old.objects alists.old }
     requires memos { FitMemos world.now.definitions arena.old.objects memos.old }
     ensures value { IfOk result (IsValueOf world.now (env_of arena.old.objects env.now) (term_of term.now) arena.new.objects) }
     ensures fault { IsLicensed world.now functions.now (env_of arena.old.objects env.now) (term_of term.now) steps arena.old result }
     ensures memos { OnOk result (FitMemos world.now.definitions arena.new.objects memos.new) }
+    ensures cells { OnOk result (HoldsSeen world.now (env_of arena.old.objects env.now) (term_of term.now) arena.old.objects arena.new.objects) }
+    ensures alists { Agree arena.new.objects alists.new }
     ensures grown { HasGrown arena.old.objects arena.new.objects }
     ensures limit { arena.new.limit ≡ arena.old.limit }
     ensures refused { OnErr result (arena.new.objects ≡ arena.old.objects) }
     ensures emptied { OnErr result (memos.new ≡ []) }
 {
     let mark = arena.mark();
-    match started(world, term, env, functions, steps, alloc, arena, memos) {
+    match started(
+        world, term, env, functions, steps, alloc, arena, alists, memos,
+    ) {
         Err(_) => {
-            refuse(arena, memos, mark);
+            refuse(arena, alists, memos, mark);
             Err(EvalFault::Memory)
         }
         Ok(answer) => match answer {
             Ok(id) => Ok(id),
             Err(cause) => {
-                refuse(arena, memos, mark);
+                refuse(arena, alists, memos, mark);
                 Err(fault_for(cause))
             }
         },
@@ -68,29 +78,38 @@ fn started(
     steps: u64,
     alloc: Global,
     arena: &mut HonsArena,
+    alists: &mut FastAlists,
     memos: &mut MemoTables,
 ) -> Result<Result<Id, Cause>, NoMemory>
     requires term { IsTermOf world.now.definitions (term_of term.now) }
     requires env { All (IsLiveBinding arena.old.objects) env.now }
+    requires whole { IsWhole arena.old }
+    requires alists { Agree arena.old.objects alists.old }
     requires memos { FitMemos world.now.definitions arena.old.objects memos.old }
     ensures answer { IfOk result (Answered world.now functions.now env.now (term_of term.now) steps arena.old arena.new) }
     ensures memos { IfOk result (λ r. OnOk r (FitMemos world.now.definitions arena.new.objects memos.new)) }
+    ensures cells { IfOk result (λ r. OnOk r (HoldsSeen world.now (env_of arena.old.objects env.now) (term_of term.now) arena.old.objects arena.new.objects)) }
+    ensures alists { IfOk result (λ r. OnOk r (Agree arena.new.objects alists.new)) }
     ensures grown { HasGrown arena.old.objects arena.new.objects }
     ensures limit { arena.new.limit ≡ arena.old.limit }
 {
     let mut own = Vec::new(alloc);
     own.extend_from_slice(env)?;
     let env = Rc::new(alloc, own)?;
-    run(world, term, env, functions, steps, alloc, arena, memos)
+    run(
+        world, term, env, functions, steps, alloc, arena, alists, memos,
+    )
 }
 
 /// Takes back what an evaluation added.
-fn refuse(arena: &mut HonsArena, memos: &mut MemoTables, mark: Mark)
+fn refuse(arena: &mut HonsArena, alists: &mut FastAlists, memos: &mut MemoTables, mark: Mark)
     requires { mark.count ≤ length arena.old.objects }
     ensures objects { arena.new.objects ≡ take mark.count arena.old.objects }
     ensures limit { arena.new.limit ≡ arena.old.limit }
     ensures emptied { memos.new ≡ [] }
+    ensures alists { Agree arena.new.objects alists.new }
 {
     arena.release(mark);
+    alists.clear();
     memos.clear();
 }

@@ -2,8 +2,12 @@
 
 ghost use Rattle.std.specs.Prelude.{◌≡◌};
 ghost use Rattle.lisp_eval.specs.Answers.{fault_of};
+ghost use Rattle.lisp_eval.specs.declared.fault.EvalFault.TheVariants as fault;
 
 use crate::run::Cause;
+use gl_logic::NoMemory;
+use hons_arena::Full;
+use std::alloc::AllocFailed;
 
 /// Why a term has no value here.
 #[derive(Clone, Copy, Debug, PartialEq, Eq)]
@@ -16,6 +20,30 @@ pub enum EvalFault {
     Cells,
     /// Memory was refused.
     Memory,
+}
+
+impl From<NoMemory> for EvalFault {
+    ghost from_gives = { λ _ e. e ≡ fault.Memory };
+
+    fn from(_error: NoMemory) -> EvalFault {
+        EvalFault::Memory
+    }
+}
+
+impl<T: Drop> From<AllocFailed<T>> for EvalFault {
+    ghost from_gives = { λ _ e. e ≡ fault.Memory };
+
+    fn from(_error: AllocFailed<T>) -> EvalFault {
+        EvalFault::Memory
+    }
+}
+
+impl From<Full> for EvalFault {
+    ghost from_gives = { λ _ e. e ≡ fault.Cells };
+
+    fn from(_full: Full) -> EvalFault {
+        EvalFault::Cells
+    }
 }
 
 /// A cause as a fault.

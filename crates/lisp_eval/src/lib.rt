@@ -1,25 +1,31 @@
 //! The evaluator: terms on interned objects, with memo tables.
 //!
-//! [`evaluate`] runs a term on a stack of frames of its own, so that no depth of definitions is too great for it. Each value
-//! is the id of an object in an arena. It counts a visit to a subterm when it makes it, and keeps the calls of some
-//! functions: such a call is opened once for the same arguments. Its refusals tell the truth: Steps only where the
-//! memoized cost exceeds the limit, Cells only where the cells that were held and those of the values computed are more
-//! different objects than the arena has cells, Width only where some value leaves 128 bits.
+//! A [`Machine`] begins with a world and the functions whose finished calls it keeps, takes inputs, and evaluates terms. It
+//! runs on a stack of frames of its own, so that no depth of definitions is too great for it. Each value is the id of an
+//! object in its arena. It counts a visit to a subterm when it makes it, and opens a call of a memoized function once for
+//! the same arguments. Its refusals tell the truth: Steps only where the memoized cost exceeds the limit, Cells only where
+//! the cells that were held and those of the values computed are more different objects than the arena has cells, Width
+//! only where some value leaves 128 bits.
 #![tactic(auto)]
 
 mod bindings;
 mod calls;
+mod constants;
+mod env;
 mod eval;
 mod fault;
 mod frame;
 pub mod laws;
+mod machine;
 mod primitives;
 mod run;
 mod steps;
+mod tables;
 
-pub use eval::evaluate;
+pub use env::Env;
 pub use fault::EvalFault;
 pub use frame::Binding;
+pub use machine::Machine;
 pub use primitives::{PrimFault, primitive};
 
 #[cfg(test)]

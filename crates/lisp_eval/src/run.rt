@@ -3,18 +3,22 @@
 ghost use Rattle.std.specs.Prelude.{◌≡◌, IfOk, OnOk};
 ghost use Rattle.gl_logic.specs.IsTermOf.{IsTermOf};
 ghost use Rattle.gl_logic.specs.TermOf.{term_of};
-ghost use Rattle.gl_logic.specs.Wide.{IsWideObject};
-ghost use Rattle.hons_arena.specs.Ids.{object_at, IsLive};
+ghost use Rattle.fast_alists.specs.Tables.{Agree};
+ghost use Rattle.hons_arena.specs.Held.{IsWhole};
 ghost use Rattle.lisp_eval.specs.Answers.{FitMemos, HasGrown};
+ghost use Rattle.lisp_eval.specs.MachineCalls.{HoldsSeen};
 ghost use Rattle.lisp_eval.specs.Nexts.{Answered, Stand};
+ghost use Rattle.lisp_eval.specs.States.{env_of};
 
 use crate::bindings::{id_at, look};
-use crate::calls::{Known, bound, look_up, open};
+use crate::calls::{Known, bound, is_answered, look_up, open};
 use crate::frame::{Binding, Focus, Work};
 use crate::primitives::{PrimFault, primitive};
 use crate::steps::{hand, visit};
+use crate::tables::answer;
+use fast_alists::{AlistFault, FastAlists};
 use gl_logic::{NoMemory, Term, World};
-use hons_arena::{HonsArena, Id, Kind};
+use hons_arena::{HonsArena, Id};
 use memo_tables::MemoTables;
 use std::alloc::Global;
 use std::rc::Rc;
@@ -30,17 +34,6 @@ pub enum Cause {
     Cells,
 }
 
-/// Whether an object is no integer outside 128 bits, which an arena never holds.
-fn is_narrow(arena: &HonsArena, id: Id) -> bool
-    requires { IsLive arena.now.objects id }
-    ensures { ¬ IsWideObject (object_at arena.now.objects id) }
-{
-    match arena.kind(id) {
-        Kind::Int(i) => i >= i128::MIN,
-        _ => true,
-    }
-}
-
 /// The value of a term, or why there is none. A call of a memoized function that is kept is not opened again.
 pub fn run<'a>(
     world: &'a World,
@@ -50,13 +43,18 @@ pub fn run<'a>(
     limit: u64,
     alloc: Global,
     arena: &mut HonsArena,
+    alists: &mut FastAlists,
     memos: &mut MemoTables,
 ) -> Result<Result<Id, Cause>, NoMemory>
     requires term { IsTermOf world.now.definitions (term_of term.now) }
     requires env { Stand arena.old.objects env.value.items }
+    requires whole { IsWhole arena.old }
+    requires alists { Agree arena.old.objects alists.old }
     requires memos { FitMemos world.now.definitions arena.old.objects memos.old }
     ensures answer { IfOk result (Answered world.now functions.now env.value.items (term_of term.now) limit arena.old arena.new) }
     ensures memos { IfOk result (λ r. OnOk r (FitMemos world.now.definitions arena.new.objects memos.new)) }
+    ensures cells { IfOk result (λ r. OnOk r (HoldsSeen world.now (env_of arena.old.objects env.value.items) (term_of term.now) arena.old.objects arena.new.objects)) }
+    ensures alists { IfOk result (λ r. OnOk r (Agree arena.new.objects alists.new)) }
     ensures grown { HasGrown arena.old.objects arena.new.objects }
     ensures limit { arena.new.limit ≡ arena.old.limit }
 {
@@ -73,19 +71,11 @@ pub fn run<'a>(
                 left -= 1;
                 match t {
                     Term::Var(name) => {
-                        let id = look(inner.as_ref().as_slice(), *name);
-                        let _narrow = is_narrow(arena, id);
-                        focus = Focus::Give(id);
+                        focus = Focus::Give(look(inner.as_ref().as_slice(), *name));
                     }
                     Term::Const(tree) => match arena.place(tree) {
-                        Ok(id) => {
-                            let _narrow = is_narrow(arena, id);
-                            focus = Focus::Give(id);
-                        }
-                        Err(_) => {
-                            let _held = arena.count();
-                            return Ok(Err(Cause::Cells));
-                        }
+                        Ok(id) => focus = Focus::Give(id),
+                        Err(_) => return Ok(Err(Cause::Cells)),
                     },
                     _ => focus = visit(t, inner, alloc, &mut frames)?,
                 }
@@ -95,27 +85,27 @@ pub fn run<'a>(
                     let x = id_at(values.as_slice(), 0);
                     let y = id_at(values.as_slice(), 1);
                     match primitive(arena, p, x, y) {
-                        Ok(id) => {
-                            let _narrow = is_narrow(arena, id);
-                            focus = Focus::Give(id);
-                        }
+                        Ok(id) => focus = Focus::Give(id),
                         Err(PrimFault::Wide) => return Ok(Err(Cause::Width)),
-                        Err(PrimFault::Full) => {
-                            let _held = arena.count();
-                            return Ok(Err(Cause::Cells));
+                        Err(PrimFault::Full) => return Ok(Err(Cause::Cells)),
+                    }
+                }
+                Work::Call(f) => {
+                    if is_answered(world, f) {
+                        match answer(arena, alists, f, values.as_slice()) {
+                            Ok(id) => focus = Focus::Give(id),
+                            Err(AlistFault::Full) => return Ok(Err(Cause::Cells)),
+                            Err(AlistFault::Memory) => return Err(NoMemory),
+                        }
+                    } else {
+                        match look_up(alloc, memos, functions, f, values.as_slice())? {
+                            Known::Value(id) => focus = Focus::Give(id),
+                            Known::Opens(keep) => {
+                                focus = open(f, values, keep, world, alloc, &mut frames)?;
+                            }
                         }
                     }
                 }
-                Work::Call(f) => match look_up(alloc, memos, functions, f, values.as_slice())? {
-                    Known::Value(id) => {
-                        let _narrow = is_narrow(arena, id);
-                        focus = Focus::Give(id);
-                    }
-                    Known::Opens(keep) => {
-                        let _held = arena.count();
-                        focus = open(f, values, keep, world, alloc, &mut frames)?;
-                    }
-                },
                 Work::Let(names, body) => {
                     focus = bound(names, body, values, outer, alloc)?;
                 }

@@ -1,6 +1,8 @@
-use Rattle.std.proofs.Common.{rules, refl, ◌≡◌, ap, true, Ok, Err, IsErr}
+use Rattle.std.proofs.Common.{rules, refl, ◌≡◌, ap, subst, true, Result, Ok, Err, IsErr}
 use Rattle.gl_logic.specs.Object.{Int, Cons}
 use Rattle.gl_logic.specs.PrimValue.{prim_of, prim_value}
+use Rattle.hons_arena.specs.declared.id.Full.{Full}
+use Rattle.hons_arena.specs.declared.id.Id.{Id}
 use Rattle.hons_arena.specs.Held.{Interns}
 use Rattle.hons_arena.specs.Ids.{object_at}
 use Rattle.int_prims.specs.Integers.{is_operation, integers_for}
@@ -27,7 +29,9 @@ returns-in_ok-int-in-Ok c =
     let operation : is_operation c.args.prim ≡ true = search rules in
     let given : prim_value c.args.prim (integers_for c.args.prim c.integer-a.result c.integer-b.result) ≡ Int c.in-Ok.i = search rules in
     let value : prim_of c.args.prim x y ≡ Int c.in-Ok.i = value_of_integers c.args.prim x y c.integer-a.result c.integer-b.result c.in-Ok.i operation c.integer-a.ensures c.integer-b.ensures given in
-    let interns : Interns c.args.arena.now c.int.new.self (Int c.in-Ok.i) (Ok c.in_ok-int-in-Ok.field-0) = search rules in
+    let given_back : Interns c.args.arena.now c.int.new.self (Int c.in-Ok.i) c.int.result = search rules in
+    let ok : c.int.result ≡ Ok c.in_ok-int-in-Ok.field-0 = search rules in
+    let interns : Interns c.args.arena.now c.int.new.self (Int c.in-Ok.i) (Ok c.in_ok-int-in-Ok.field-0) = subst (λ (r : Result Id Full). Interns c.args.arena.now c.int.new.self (Int c.in-Ok.i) r) ok given_back in
     gives_ok c.args.arena.now c.int.new.self (prim_of c.args.prim x y) (Int c.in-Ok.i) c.in_ok-int-in-Ok.field-0 value refl interns
 
 pub returns-in_ok-cons-in-Cons : goal.returns-in_ok-cons-in-Cons

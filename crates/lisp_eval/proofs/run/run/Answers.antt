@@ -1,11 +1,12 @@
-use Rattle.std.proofs.Common.{rules, ◌≡◌, ◌∙◌, ap, sym, refl, subst, ℕ, ◌<◌, ◌++◌, [], List, Result, Ok, Err, Some, None}
+use Rattle.std.proofs.Common.{rules, true, false, ◌≡◌, ◌∙◌, ap, sym, refl, subst, ℕ, ◌<◌, ◌++◌, [], List, Result, Ok, Err, Some, None}
 use Rattle.gl_logic.specs.Exp.{Var, Const}
 use Rattle.gl_logic.specs.Object.{Object}
 use Rattle.gl_logic.specs.PrimValue.{prim_of}
 use Rattle.gl_logic.specs.TermOf.{term_of}
-use Rattle.hons_arena.specs.Held.{Held, IsWhole, LacksCell}
+use Rattle.hons_arena.specs.Held.{Held, LacksCell}
 use Rattle.hons_arena.specs.Ids.{object_at, IsLive}
 use Rattle.hons_arena.specs.declared.id.Id.{Id}
+use Rattle.fast_alists.proofs.Agreeing.{tables_stay}
 use Rattle.hons_arena.proofs.CellsIn.{cell_of}
 use Rattle.hons_arena.proofs.Placing.{part_self}
 use Rattle.lisp_eval.specs.Answers.{IsCrowded}
@@ -14,7 +15,13 @@ use Rattle.lisp_eval.specs.Compound.{IsCompound}
 use Rattle.lisp_eval.specs.Frames.{Visit}
 use Rattle.lisp_eval.specs.Gives.{Gives}
 use Rattle.lisp_eval.specs.Kept.{IsKnown}
+use Rattle.lisp_eval.specs.Narrow.{IsNarrow}
 use Rattle.lisp_eval.specs.States.{env_of}
+use Rattle.lisp_eval.specs.Tables.{answered_in, answer_object}
+use Rattle.fast_alists.specs.Makes.{Makes}
+use Rattle.fast_alists.specs.declared.fault.AlistFault.{AlistFault}
+use Rattle.fast_alists.specs.declared.fault.AlistFault.TheVariants as alist_fault
+use Rattle.gl_logic.specs.Counts.{is_among}
 use Rattle.lisp_eval.specs.declared.frame.Focus as program
 use Rattle.lisp_eval.specs.declared.frame.Focus.TheVariants as focus
 use Rattle.lisp_eval.specs.declared.frame.Work.TheVariants as work
@@ -23,9 +30,11 @@ use Rattle.lisp_eval.specs.declared.calls.Known.TheVariants as known
 use Rattle.lisp_eval.specs.declared.primitives.PrimFault.{PrimFault}
 use Rattle.lisp_eval.specs.declared.primitives.PrimFault.TheVariants as fault
 use Rattle.lisp_eval.proofs.Environments.{append_none}
+use Rattle.gl_logic.proofs.Worlds.{world_ground}
+use Rattle.lisp_eval.proofs.WholeNarrow.{whole_narrow}
 use Rattle.lisp_eval.proofs.Grown.{grown_more, crowded_at, lacks_itself}
 use Rattle.lisp_eval.proofs.State.{State, visit_dear, visit_next, var_live, var_next, const_next, const_crowded}
-use Rattle.lisp_eval.proofs.StateApplies.{arg_live, prim_next, prim_wide, prim_crowded, let_next, kept_live, kept_next, call_there, call_definition, opens_known}
+use Rattle.lisp_eval.proofs.StateApplies.{answered_crowded, answered_next, arg_live, prim_next, prim_wide, prim_crowded, let_next, kept_live, kept_next, call_there, call_definition, opens_known}
 use Rattle.lisp_eval.proofs.StateGives.{state_start, state_done, give_live, hand_next, keeps_on}
 use Rattle.lisp_eval.proofs.Turns.{opens_smaller, hand_smaller}
 use Rattle.lisp_eval.proofs.TermForms.{var_term, const_term}
@@ -38,8 +47,10 @@ loop-focus-init c =
     let t = term_of c.args.term.now in
     let has = c.count-count.ensures.total env t c.requires.term in
     record {
-      state = state_start c.args.world.now c.args.functions.now env t c.args.limit st (focus.Visit c.args.term c.args.env) c.new-frames.result.items c.args.memos.now c.requires.memos c.new-frames.ensures.items has.1.0 has.0 has.1.1 (λ more. ap (Visit t) (c.requires.env more));
+      state = state_start c.args.world.now c.args.functions.now env t c.args.limit st (world_ground c.args.world.now.definitions c.args.world.now.cliques c.count-count.ensures.world) (focus.Visit c.args.term c.args.env) c.new-frames.result.items c.args.memos.now c.requires.memos c.new-frames.ensures.items has.1.0 has.0 has.1.1 (λ more. ap (Visit t) (c.requires.env more));
       grown = ([], sym (append_none st));
+      whole = c.requires.whole;
+      alists = c.requires.alists;
       limit = refl;
     }
 
@@ -54,20 +65,6 @@ returns-then-left-eq0-clause-answer c =
     let s = subst (λ (f : program.Focus). State w fs env t c.args.limit st l.left f l.frames.items l.arena.objects l.memos) c.in-Visit.is l.invariant.state in
     visit_dear w fs env t c.args.limit st l.left c.in-Visit.t c.in-Visit.inner l.frames.items l.arena.objects l.memos s c.if-left-eq0.true
 
-pub is_narrow-narrow-requires : goal.is_narrow-narrow-requires
-is_narrow-narrow-requires c =
-    let l = c.loop-focus in
-    let w = c.args.world.now in
-    let fs = c.args.functions.now in
-    let st = c.args.arena.now.objects in
-    let env = env_of st c.args.env.value.items in
-    let t = term_of c.args.term.now in
-    let s = subst (λ (f : program.Focus). State w fs env t c.args.limit st l.left f l.frames.items l.arena.objects l.memos) c.in-Visit.is l.invariant.state in
-    let v = c.in-Var.name.number in
-    let is_var : term_of c.in-Visit.t.now ≡ Var v = ap term_of c.in-Var.is ∙ var_term c.in-Var.name in
-    let is_id : c.look-id.result ≡ id_in c.in-Visit.inner.value.items v = c.look-id.ensures ∙ ap (λ bs. id_in bs v) (c.as_slice.ensures.value ∙ ap (λ z. z.items) c.as_ref.ensures) in
-    var_live w fs env t c.args.limit st l.left c.in-Visit.t c.in-Visit.inner l.frames.items l.arena.objects l.memos s v c.look-id.result is_var is_id
-
 pub loop-focus-preserved-in-Var-1 : goal.loop-focus-preserved-in-Var-1
 loop-focus-preserved-in-Var-1 c =
     let l = c.loop-focus in
@@ -79,10 +76,13 @@ loop-focus-preserved-in-Var-1 c =
     let s = subst (λ (f : program.Focus). State w fs env t c.args.limit st l.left f l.frames.items l.arena.objects l.memos) c.in-Visit.is l.invariant.state in
     let v = c.in-Var.name.number in
     let is_var : term_of c.in-Visit.t.now ≡ Var v = ap term_of c.in-Var.is ∙ var_term c.in-Var.name in
-    let is_id : c.look-id.result ≡ id_in c.in-Visit.inner.value.items v = c.look-id.ensures ∙ ap (λ bs. id_in bs v) (c.as_slice.ensures.value ∙ ap (λ z. z.items) c.as_ref.ensures) in
+    let is_id : c.look.result ≡ id_in c.in-Visit.inner.value.items v = c.look.ensures ∙ ap (λ bs. id_in bs v) (c.as_slice.ensures.value ∙ ap (λ z. z.items) c.as_ref.ensures) in
     record {
-      state = var_next w fs env t c.args.limit st l.left c.in-Visit.t c.in-Visit.inner l.frames.items l.arena.objects l.memos s v c.look-id.result is_var is_id c.if-left-eq0.false c.is_narrow-narrow.ensures;
+      state = var_next w fs env t c.args.limit st l.left c.in-Visit.t c.in-Visit.inner l.frames.items l.arena.objects l.memos s v c.look.result is_var is_id c.if-left-eq0.false
+          (whole_narrow l.arena l.invariant.whole c.look.result (var_live w fs env t c.args.limit st l.left c.in-Visit.t c.in-Visit.inner l.frames.items l.arena.objects l.memos s v c.look.result is_var is_id));
       grown = l.invariant.grown;
+      whole = l.invariant.whole;
+      alists = l.invariant.alists;
       limit = l.invariant.limit;
     }
 
@@ -98,7 +98,7 @@ returns-in-Err-clause-answer c =
     let x = c.in-Const.tree in
     let is_const : term_of c.in-Visit.t.now ≡ Const x = ap term_of c.in-Const.is ∙ const_term x in
     crowded_at w env t st c.place.new.self.limit c.args.arena.now.limit (c.place.ensures.places.limit ∙ l.invariant.limit)
-    (const_crowded w fs env t c.args.limit st l.left c.in-Visit.t c.in-Visit.inner l.frames.items l.arena.objects l.memos s x is_const c.if-left-eq0.false c.place.new.self.objects c.place.ensures.places.objects c.place.new.self refl c.in-Err.ensures.places.lacks c.count-held.ensures.whole.different)
+    (const_crowded w fs env t c.args.limit st l.left c.in-Visit.t c.in-Visit.inner l.frames.items l.arena.objects l.memos s x is_const c.if-left-eq0.false c.place.new.self.objects c.place.ensures.places.objects c.place.new.self refl c.in-Err.ensures.places.lacks c.place.ensures.whole.different)
 
 pub loop-focus-preserved-in-Const-1 : goal.loop-focus-preserved-in-Const-1
 loop-focus-preserved-in-Const-1 c =
@@ -114,8 +114,10 @@ loop-focus-preserved-in-Const-1 c =
     let id = c.in-Ok.ensures.places.id in
     record {
       state = const_next w fs env t c.args.limit st l.left c.in-Visit.t c.in-Visit.inner l.frames.items l.arena.objects l.memos s x is_const c.if-left-eq0.false c.place.new.self.objects c.place.ensures.places.objects c.in-Ok.id id
-          (subst (λ (y : Object). Rattle.gl_logic.specs.Wide.IsWideObject y → ⊥) id.1 c.is_narrow-narrow-in-Ok.ensures);
+          (subst IsNarrow id.1 (whole_narrow c.place.new.self c.place.ensures.whole c.in-Ok.id id.0));
       grown = grown_more x st l.arena.objects c.place.new.self.objects l.invariant.grown c.place.ensures.places.objects;
+      whole = c.place.ensures.whole;
+      alists = tables_stay x l.arena.objects c.place.new.self.objects c.place.ensures.places.objects l.alists l.invariant.alists;
       limit = c.place.ensures.places.limit ∙ l.invariant.limit;
     }
 
@@ -132,6 +134,8 @@ loop-focus-preserved-in_default c =
     record {
       state = visit_next w fs env t c.args.limit st l.left c.in-Visit.t c.in-Visit.inner l.frames.items l.arena.objects l.memos s c.if-left-eq0.false compound c.in_ok-focus-in_default.focus c.visit.new.frames.items c.in_ok-focus-in_default.ensures.next;
       grown = l.invariant.grown;
+      whole = l.invariant.whole;
+      alists = l.invariant.alists;
       limit = l.invariant.limit;
     }
 
@@ -187,11 +191,9 @@ returns-in-Err-Full-clause-answer c =
     let y : c.id_at-y.result ≡ id_or_nil c.in-Apply.values.items 1 = c.id_at-y.ensures ∙ ap (λ xs. id_or_nil xs 1) c.as_slice-in-Prim-2.ensures.value in
     let g = subst (λ (v : Object). Gives l.arena c.primitive.new.arena v c.primitive.result) (λ j. prim_of c.in-Prim.p (object_at l.arena.objects (x j)) (object_at l.arena.objects (y j))) c.primitive.ensures in
     let full : c.primitive.result ≡ Err fault.Full = search rules in
-    let same : c.primitive.new.arena ≡ l.arena = search rules in
-    let whole : IsWhole l.arena = subst IsWhole same c.count-held-in-Err-Full.ensures.whole in
     let v = prim_of c.in-Prim.p (object_at l.arena.objects (id_or_nil c.in-Apply.values.items 0)) (object_at l.arena.objects (id_or_nil c.in-Apply.values.items 1)) in
     crowded_at w env t st l.arena.limit c.args.arena.now.limit l.invariant.limit
-    (prim_crowded w fs env t c.args.limit st l.left c.in-Apply.work c.in-Apply.values c.in-Apply.outer l.frames.items l.arena.objects l.memos s c.in-Prim.p c.in-Prim.is l.arena refl (lacks_itself l.arena v (g.cell full) (g.full full)) whole.different)
+    (prim_crowded w fs env t c.args.limit st l.left c.in-Apply.work c.in-Apply.values c.in-Apply.outer l.frames.items l.arena.objects l.memos s c.in-Prim.p c.in-Prim.is l.arena refl (lacks_itself l.arena v (g.cell full) (g.full full)) l.invariant.whole.different)
 
 pub loop-focus-preserved-in-Apply : goal.loop-focus-preserved-in-Apply
 loop-focus-preserved-in-Apply c =
@@ -209,13 +211,15 @@ loop-focus-preserved-in-Apply c =
     let ok : c.primitive.result ≡ Ok c.in-Ok-primitive.id = search rules in
     let given = subst (λ (r : Result Id PrimFault). Gives l.arena c.primitive.new.arena v r) ok g in
     record {
-      state = prim_next w fs env t c.args.limit st l.left c.in-Apply.work c.in-Apply.values c.in-Apply.outer l.frames.items l.arena.objects l.memos s c.in-Prim.p c.in-Prim.is c.primitive.new.arena.objects c.in-Ok-primitive.id given.id given.objects c.is_narrow-narrow-in-Ok-primitive.ensures;
+      state = prim_next w fs env t c.args.limit st l.left c.in-Apply.work c.in-Apply.values c.in-Apply.outer l.frames.items l.arena.objects l.memos s c.in-Prim.p c.in-Prim.is c.primitive.new.arena.objects c.in-Ok-primitive.id given.id given.objects (whole_narrow c.primitive.new.arena (given.whole l.invariant.whole) c.in-Ok-primitive.id given.id.0);
       grown = grown_more v st l.arena.objects c.primitive.new.arena.objects l.invariant.grown given.objects;
+      whole = given.whole l.invariant.whole;
+      alists = tables_stay v l.arena.objects c.primitive.new.arena.objects given.objects l.alists l.invariant.alists;
       limit = given.limit ∙ l.invariant.limit;
     }
 
-pub is_narrow-narrow-requires-in-Value : goal.is_narrow-narrow-requires-in-Value
-is_narrow-narrow-requires-in-Value c =
+pub answer-requires-clause-x : goal.answer-requires-clause-x
+answer-requires-clause-x c =
     let l = c.loop-focus in
     let w = c.args.world.now in
     let fs = c.args.functions.now in
@@ -223,8 +227,67 @@ is_narrow-narrow-requires-in-Value c =
     let env = env_of st c.args.env.value.items in
     let t = term_of c.args.term.now in
     let s = subst (λ (f : program.Focus). State w fs env t c.args.limit st l.left f l.frames.items l.arena.objects l.memos) c.in-Apply.is l.invariant.state in
-    let call = subst (λ (xs : List Id). IsKnown fs l.memos (record { function = c.in-Call.f.number; arguments = xs }) (known.Value c.in-Value.id)) c.as_slice-in-Call.ensures.value (subst (λ (k : Known). IsKnown fs l.memos (record { function = c.in-Call.f.number; arguments = c.as_slice-in-Call.result.now }) k) c.in-Value.is c.in_ok-id-in-Call.ensures) in
-    kept_live w fs env t c.args.limit st l.left c.in-Apply.work c.in-Apply.values c.in-Apply.outer l.frames.items l.arena.objects l.memos s c.in-Call.f c.in-Call.is c.in-Value.id call.0 call.1
+    subst (λ (xs : List Id). IsLive l.arena.objects (id_or_nil xs 0)) (sym c.as_slice-then-is_answered.ensures.value) (arg_live w fs env t c.args.limit st l.left c.in-Apply.work c.in-Apply.values c.in-Apply.outer l.frames.items l.arena.objects l.memos s 0)
+
+pub answer-requires-clause-y : goal.answer-requires-clause-y
+answer-requires-clause-y c =
+    let l = c.loop-focus in
+    let w = c.args.world.now in
+    let fs = c.args.functions.now in
+    let st = c.args.arena.now.objects in
+    let env = env_of st c.args.env.value.items in
+    let t = term_of c.args.term.now in
+    let s = subst (λ (f : program.Focus). State w fs env t c.args.limit st l.left f l.frames.items l.arena.objects l.memos) c.in-Apply.is l.invariant.state in
+    subst (λ (xs : List Id). IsLive l.arena.objects (id_or_nil xs 1)) (sym c.as_slice-then-is_answered.ensures.value) (arg_live w fs env t c.args.limit st l.left c.in-Apply.work c.in-Apply.values c.in-Apply.outer l.frames.items l.arena.objects l.memos s 1)
+
+pub answer-requires-clause-z : goal.answer-requires-clause-z
+answer-requires-clause-z c =
+    let l = c.loop-focus in
+    let w = c.args.world.now in
+    let fs = c.args.functions.now in
+    let st = c.args.arena.now.objects in
+    let env = env_of st c.args.env.value.items in
+    let t = term_of c.args.term.now in
+    let s = subst (λ (f : program.Focus). State w fs env t c.args.limit st l.left f l.frames.items l.arena.objects l.memos) c.in-Apply.is l.invariant.state in
+    subst (λ (xs : List Id). IsLive l.arena.objects (id_or_nil xs 2)) (sym c.as_slice-then-is_answered.ensures.value) (arg_live w fs env t c.args.limit st l.left c.in-Apply.work c.in-Apply.values c.in-Apply.outer l.frames.items l.arena.objects l.memos s 2)
+
+pub returns-in-Err-Full-answer-clause-answer : goal.returns-in-Err-Full-answer-clause-answer
+returns-in-Err-Full-answer-clause-answer c =
+    let l = c.loop-focus in
+    let w = c.args.world.now in
+    let fs = c.args.functions.now in
+    let st = c.args.arena.now.objects in
+    let env = env_of st c.args.env.value.items in
+    let t = term_of c.args.term.now in
+    let s = subst (λ (f : program.Focus). State w fs env t c.args.limit st l.left f l.frames.items l.arena.objects l.memos) c.in-Apply.is l.invariant.state in
+    let table : is_among (answered_in w.definitions) c.in-Call.f.number ≡ true = sym c.is_answered.ensures ∙ c.if-is_answered.true in
+    let makes = subst (λ (xs : List Id). Makes l.arena c.answer.new.arena (answer_object l.arena.objects c.in-Call.f.number xs) c.answer.result) c.as_slice-then-is_answered.ensures.value c.answer.ensures.makes in
+    let full : c.answer.result ≡ Err alist_fault.Full = search rules in
+    crowded_at w env t st l.arena.limit c.args.arena.now.limit l.invariant.limit
+    (answered_crowded w fs env t c.args.limit st l.left c.in-Apply.work c.in-Apply.values c.in-Apply.outer l.frames.items l.arena.objects l.memos s c.in-Call.f c.in-Call.is table l.arena refl (makes.full full) l.invariant.whole.different)
+
+pub loop-focus-preserved-then-is_answered : goal.loop-focus-preserved-then-is_answered
+loop-focus-preserved-then-is_answered c =
+    let l = c.loop-focus in
+    let w = c.args.world.now in
+    let fs = c.args.functions.now in
+    let st = c.args.arena.now.objects in
+    let env = env_of st c.args.env.value.items in
+    let t = term_of c.args.term.now in
+    let s = subst (λ (f : program.Focus). State w fs env t c.args.limit st l.left f l.frames.items l.arena.objects l.memos) c.in-Apply.is l.invariant.state in
+    let table : is_among (answered_in w.definitions) c.in-Call.f.number ≡ true = sym c.is_answered.ensures ∙ c.if-is_answered.true in
+    let makes = subst (λ (xs : List Id). Makes l.arena c.answer.new.arena (answer_object l.arena.objects c.in-Call.f.number xs) c.answer.result) c.as_slice-then-is_answered.ensures.value c.answer.ensures.makes in
+    let ok : c.answer.result ≡ Ok c.in-Ok-answer.id = search rules in
+    let given = subst (λ (r : Result Id AlistFault). Makes l.arena c.answer.new.arena (answer_object l.arena.objects c.in-Call.f.number c.in-Apply.values.items) r) ok makes in
+    let v = answer_object l.arena.objects c.in-Call.f.number c.in-Apply.values.items in
+    record {
+      state = answered_next w fs env t c.args.limit st l.left c.in-Apply.work c.in-Apply.values c.in-Apply.outer l.frames.items l.arena.objects l.memos s c.in-Call.f c.in-Call.is table c.answer.new.arena.objects c.in-Ok-answer.id given.id given.objects
+          (whole_narrow c.answer.new.arena c.in-Ok-answer.ensures.whole c.in-Ok-answer.id given.id.0);
+      grown = grown_more v st l.arena.objects c.answer.new.arena.objects l.invariant.grown given.objects;
+      whole = c.in-Ok-answer.ensures.whole;
+      alists = c.in-Ok-answer.ensures.agree;
+      limit = given.limit ∙ l.invariant.limit;
+    }
 
 pub loop-focus-preserved-in-Value-1 : goal.loop-focus-preserved-in-Value-1
 loop-focus-preserved-in-Value-1 c =
@@ -235,10 +298,13 @@ loop-focus-preserved-in-Value-1 c =
     let env = env_of st c.args.env.value.items in
     let t = term_of c.args.term.now in
     let s = subst (λ (f : program.Focus). State w fs env t c.args.limit st l.left f l.frames.items l.arena.objects l.memos) c.in-Apply.is l.invariant.state in
-    let call = subst (λ (xs : List Id). IsKnown fs l.memos (record { function = c.in-Call.f.number; arguments = xs }) (known.Value c.in-Value.id)) c.as_slice-in-Call.ensures.value (subst (λ (k : Known). IsKnown fs l.memos (record { function = c.in-Call.f.number; arguments = c.as_slice-in-Call.result.now }) k) c.in-Value.is c.in_ok-id-in-Call.ensures) in
+    let call = subst (λ (xs : List Id). IsKnown fs l.memos (record { function = c.in-Call.f.number; arguments = xs }) (known.Value c.in-Value.id)) c.as_slice-else-is_answered.ensures.value (subst (λ (k : Known). IsKnown fs l.memos (record { function = c.in-Call.f.number; arguments = c.as_slice-else-is_answered.result.now }) k) c.in-Value.is c.in_ok-id-in-Call.ensures) in
     record {
-      state = kept_next w fs env t c.args.limit st l.left c.in-Apply.work c.in-Apply.values c.in-Apply.outer l.frames.items l.arena.objects l.memos s c.in-Call.f c.in-Call.is c.in-Value.id call.0 call.1 c.is_narrow-narrow-in-Value.ensures;
+      state = kept_next w fs env t c.args.limit st l.left c.in-Apply.work c.in-Apply.values c.in-Apply.outer l.frames.items l.arena.objects l.memos s c.in-Call.f c.in-Call.is c.in-Value.id call.0 call.1
+          (whole_narrow l.arena l.invariant.whole c.in-Value.id (kept_live w fs env t c.args.limit st l.left c.in-Apply.work c.in-Apply.values c.in-Apply.outer l.frames.items l.arena.objects l.memos s c.in-Call.f c.in-Call.is c.in-Value.id call.0 call.1));
       grown = l.invariant.grown;
+      whole = l.invariant.whole;
+      alists = l.invariant.alists;
       limit = l.invariant.limit;
     }
 
@@ -262,11 +328,13 @@ loop-focus-preserved-in-Opens-1 c =
     let env = env_of st c.args.env.value.items in
     let t = term_of c.args.term.now in
     let s = subst (λ (f : program.Focus). State w fs env t c.args.limit st l.left f l.frames.items l.arena.objects l.memos) c.in-Apply.is l.invariant.state in
-    let call = subst (λ (xs : List Id). IsKnown fs l.memos (record { function = c.in-Call.f.number; arguments = xs }) (known.Opens c.in-Opens.keep)) c.as_slice-in-Call.ensures.value (subst (λ (k : Known). IsKnown fs l.memos (record { function = c.in-Call.f.number; arguments = c.as_slice-in-Call.result.now }) k) c.in-Opens.is c.in_ok-id-in-Call.ensures) in
+    let call = subst (λ (xs : List Id). IsKnown fs l.memos (record { function = c.in-Call.f.number; arguments = xs }) (known.Opens c.in-Opens.keep)) c.as_slice-else-is_answered.ensures.value (subst (λ (k : Known). IsKnown fs l.memos (record { function = c.in-Call.f.number; arguments = c.as_slice-else-is_answered.result.now }) k) c.in-Opens.is c.in_ok-id-in-Call.ensures) in
     let d = call_definition w fs env t c.args.limit st l.left c.in-Apply.work c.in-Apply.values c.in-Apply.outer l.frames.items l.arena.objects l.memos s c.in-Call.f c.in-Call.is in
     record {
-      state = opens_known w fs env t c.args.limit st l.left c.in-Apply.work c.in-Apply.values c.in-Apply.outer l.frames.items l.arena.objects l.memos s c.in-Call.f c.in-Call.is c.count-held-in-Opens.ensures.whole.ids d.0 d.1 c.in-Opens.keep call c.in_ok-focus-in-Opens.focus c.open.new.frames.items (λ all. c.in_ok-focus-in-Opens.ensures.next all d.0 d.1);
+      state = opens_known w fs env t c.args.limit st l.left c.in-Apply.work c.in-Apply.values c.in-Apply.outer l.frames.items l.arena.objects l.memos s c.in-Call.f c.in-Call.is (sym c.is_answered.ensures ∙ c.if-is_answered.false) l.invariant.whole.ids d.0 d.1 c.in-Opens.keep call c.in_ok-focus-in-Opens.focus c.open.new.frames.items (λ all. c.in_ok-focus-in-Opens.ensures.next all d.0 d.1);
       grown = l.invariant.grown;
+      whole = l.invariant.whole;
+      alists = l.invariant.alists;
       limit = l.invariant.limit;
     }
 
@@ -294,6 +362,8 @@ loop-focus-preserved-in-Let c =
     record {
       state = let_next w fs env t c.args.limit st l.left c.in-Apply.work c.in-Apply.values c.in-Apply.outer l.frames.items l.arena.objects l.memos s c.in-Let.names c.in-Let.body c.in-Let.is c.in_ok-focus-in-Let.focus c.in_ok-focus-in-Let.ensures.next;
       grown = l.invariant.grown;
+      whole = l.invariant.whole;
+      alists = l.invariant.alists;
       limit = l.invariant.limit;
     }
 
@@ -324,7 +394,19 @@ returns-in-None-clause-memos c =
     let t = term_of c.args.term.now in
     let s = subst (λ (f : program.Focus). State w fs env t c.args.limit st l.left f l.frames.items l.arena.objects l.memos) c.in-Give.is l.invariant.state in
     let none : l.frames.items ≡ [] = search rules in
-    (state_done w fs env t c.args.limit st l.left c.in-Give.value l.frames.items l.arena.objects l.memos s none).1
+    (state_done w fs env t c.args.limit st l.left c.in-Give.value l.frames.items l.arena.objects l.memos s none).1.0
+
+pub returns-in-None-clause-cells : goal.returns-in-None-clause-cells
+returns-in-None-clause-cells c =
+    let l = c.loop-focus in
+    let w = c.args.world.now in
+    let fs = c.args.functions.now in
+    let st = c.args.arena.now.objects in
+    let env = env_of st c.args.env.value.items in
+    let t = term_of c.args.term.now in
+    let s = subst (λ (f : program.Focus). State w fs env t c.args.limit st l.left f l.frames.items l.arena.objects l.memos) c.in-Give.is l.invariant.state in
+    let none : l.frames.items ≡ [] = search rules in
+    (state_done w fs env t c.args.limit st l.left c.in-Give.value l.frames.items l.arena.objects l.memos s none).1.1
 
 pub hand-requires : goal.hand-requires
 hand-requires c =
@@ -350,6 +432,8 @@ loop-focus-preserved c =
     record {
       state = hand_next w fs env t c.args.limit st l.left c.in-Give.value l.frames.items l.arena.objects l.memos s c.pop.new.self.items c.in-Some.frame c.in-Some.ensures.items c.hand.new.memos keeps c.in_ok-focus-in-Some.focus c.hand.new.frames.items c.in_ok-focus-in-Some.ensures.next;
       grown = l.invariant.grown;
+      whole = l.invariant.whole;
+      alists = l.invariant.alists;
       limit = l.invariant.limit;
     }
 

@@ -1,0 +1,69 @@
+-- What a machine holds, and what it is for one to fit a world.
+use Rattle.std.specs.Prelude.{◌≡◌, ℕ, zero, suc, ◌<◌, List, [], length, All, Contains, refl}
+use Rattle.std.specs.Coded.{Coded, code_by, coded×, coded_ℕ, coded_list}
+use Rattle.gl_logic.specs.CellCounts.{world_constants}
+use Rattle.gl_logic.specs.Object.{Object}
+use Rattle.gl_logic.specs.WorldSeen.{WorldSeen}
+use Rattle.hons_arena.specs.declared.id.Id.{Id}
+use Rattle.hons_arena.specs.declared.id.IdKind.{IdKind}
+use Rattle.hons_arena.specs.declared.id.IdKind.TheVariants as kind
+use Rattle.hons_arena.specs.Held.{Held, coded_held}
+use Rattle.hons_arena.specs.Ids.{IsLive}
+use Rattle.hons_arena.specs.Parts.{AreHeld}
+use Rattle.memo_tables.specs.Calls.{Call}
+use Rattle.lisp_eval.specs.Answers.{FitMemos}
+
+-- the arena, how many subterms one evaluation may visit, the functions whose finished calls are kept, and the calls that
+-- are kept now
+pub record MachineSeen : Type 0 where
+  pub arena : Held
+  pub steps : ℕ
+  pub functions : List ℕ
+  pub memos : List (Call × Id)
+
+-- each cell of each of these objects is held
+abbrev pub ArePlaced : List Object → List Object → Type 0
+ArePlaced objects xs = (x : Object) → Contains xs x → AreHeld objects x
+
+abbrev pub AreFunctionsOf : WorldSeen → List ℕ → Type 0
+AreFunctionsOf w functions = All (λ f. f < length w.definitions) functions
+
+-- the machine fits the world: its memoized functions are the world's, the constants of the world and of its definitions'
+-- bodies are placed, each kept result is the value of its call in this world, and no value of that call's plain
+-- evaluation is wide
+pub record Fits (w : WorldSeen) (m : MachineSeen) : Type 0 where
+  pub functions : AreFunctionsOf w m.functions
+  pub constants : ArePlaced m.arena.objects (world_constants w)
+  pub memos : FitMemos w.definitions m.arena.objects m.memos
+
+-- the ids of a kept call stand for something
+pub record IsLiveEntry (objects : List Object) (e : Call × Id) : Type 0 where
+  pub arguments : All (IsLive objects) e.0.arguments
+  pub value : IsLive objects e.1
+
+-- ---- the code
+abbrev pub kind_code : IdKind → ℕ
+kind_code kind.Symbol = 0
+kind_code kind.Text = 1
+kind_code kind.Cell = 2
+
+abbrev pub kind_from : ℕ → IdKind
+kind_from zero = kind.Symbol
+kind_from (suc zero) = kind.Text
+kind_from _ = kind.Cell
+
+abbrev pub kind_back : (k : IdKind) → kind_from (kind_code k) ≡ k
+kind_back kind.Symbol = refl
+kind_back kind.Text = refl
+kind_back kind.Cell = refl
+
+abbrev pub coded_id : Coded Id
+coded_id = code_by (ℕ × ℕ) (coded× coded_ℕ coded_ℕ) (λ i. (kind_code i.kind, i.number)) (λ p. record { kind = kind_from p.0; number = p.1 }) (λ i. λ j. record { kind = kind_back i.kind j; number = i.number })
+
+abbrev pub coded_entry : Coded (Call × Id)
+coded_entry =
+    code_by ((ℕ × List Id) × Id) (coded× (coded× coded_ℕ (coded_list coded_id)) coded_id) (λ e. ((e.0.function, e.0.arguments), e.1)) (λ p. (record { function = p.0.0; arguments = p.0.1 }, p.1)) (λ _. refl)
+
+abbrev pub coded_machine : Coded MachineSeen
+coded_machine =
+    code_by (Held × (ℕ × (List ℕ × List (Call × Id)))) (coded× coded_held (coded× coded_ℕ (coded× (coded_list coded_ℕ) (coded_list coded_entry)))) (λ m. (m.arena, (m.steps, (m.functions, m.memos)))) (λ p. record { arena = p.0; steps = p.1.0; functions = p.1.1.0; memos = p.1.1.1 }) (λ _. refl)

@@ -1,0 +1,91 @@
+//! What tables of lists answer.
+
+ghost use Rattle.std.specs.Prelude.{OnOk};
+ghost use Rattle.fast_alists.specs.Makes.{Makes};
+ghost use Rattle.fast_alists.specs.Tables.{Agree};
+ghost use Rattle.hons_arena.specs.Held.{IsWhole};
+ghost use Rattle.hons_arena.specs.Ids.{object_at, IsLive, IsIdOf};
+ghost use Rattle.fast_alists.specs.Alists.{first_pair};
+ghost use Rattle.fast_alists.specs.Values.{pair_or_nil};
+ghost use Rattle.lisp_eval.specs.Bindings.{id_or_nil};
+ghost use Rattle.lisp_eval.specs.Tables.{table_value, answer_object};
+
+use crate::bindings::id_at;
+use fast_alists::{AlistFault, FastAlists};
+use gl_logic::FnId;
+use hons_arena::{HonsArena, Id};
+
+/// The value of a function that tables answer, on its first arguments. One that lacks is NIL.
+pub fn answer(
+    arena: &mut HonsArena,
+    alists: &mut FastAlists,
+    f: FnId,
+    args: &[Id],
+) -> Result<Id, AlistFault>
+    requires agree { Agree arena.old.objects alists.old }
+    requires x { IsLive arena.old.objects (id_or_nil args.now 0) }
+    requires y { IsLive arena.old.objects (id_or_nil args.now 1) }
+    requires z { IsLive arena.old.objects (id_or_nil args.now 2) }
+    ensures makes { Makes arena.old arena.new (answer_object arena.old.objects f.number args.now) result }
+    ensures agree { OnOk result (Agree arena.new.objects alists.new) }
+    ensures whole { OnOk result (IsWhole arena.new) }
+{
+    let id = answer_at(
+        arena,
+        alists,
+        f,
+        id_at(args, 0),
+        id_at(args, 1),
+        id_at(args, 2),
+    )?;
+    let is_live = arena.is_live(id);
+    prove!(is_live);
+    Ok(id)
+}
+
+/// The value of a function that tables answer, on three arguments.
+fn answer_at(
+    arena: &mut HonsArena,
+    alists: &mut FastAlists,
+    f: FnId,
+    x: Id,
+    y: Id,
+    z: Id,
+) -> Result<Id, AlistFault>
+    requires agree { Agree arena.old.objects alists.old }
+    requires x { IsLive arena.old.objects x }
+    requires y { IsLive arena.old.objects y }
+    requires z { IsLive arena.old.objects z }
+    ensures makes { Makes arena.old arena.new (table_value f.number (object_at arena.old.objects x) (object_at arena.old.objects y) (object_at arena.old.objects z)) result }
+    ensures agree { OnOk result (Agree arena.new.objects alists.new) }
+{
+    if f.number == 37 {
+        return alists.acons(arena, x, y, z);
+    }
+    if f.number == 42 {
+        return alists.fork(arena, x, y);
+    }
+    if f.number == 40 {
+        return Ok(got(arena, alists, x, y));
+    }
+    if f.number == 41 {
+        return Ok(got(arena, alists, x, y));
+    }
+    if f.number == 39 {
+        alists.free(x);
+    }
+    Ok(x)
+}
+
+/// The first pair of a list with a key, NIL where there is none.
+fn got(arena: &HonsArena, alists: &FastAlists, key: Id, alist: Id) -> Id
+    requires agree { Agree arena.now.objects alists.now }
+    requires key { IsLive arena.now.objects key }
+    requires alist { IsLive arena.now.objects alist }
+    ensures { IsIdOf arena.now.objects (pair_or_nil (first_pair (object_at arena.now.objects key) (object_at arena.now.objects alist))) result }
+{
+    match alists.get(arena, key, alist) {
+        Some(pair) => pair,
+        None => id_at(&[], 0),
+    }
+}
