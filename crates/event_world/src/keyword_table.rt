@@ -1,0 +1,10 @@
+//! Which keywords there are.
+
+/// Whose keywords are looked at.
+#[derive(Clone, Copy, Debug, PartialEq, Eq)]
+pub enum KeywordTable {
+    /// Those of `xargs`.
+    Xargs,
+    /// The options of `def-gl-thm`.
+    Theorem,
+}

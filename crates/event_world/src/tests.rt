@@ -1,0 +1,547 @@
+//! Forms and their events, with ample memory.
+
+mod reader;
+
+use super::*;
+use gl_logic::{Measure, NoMemory, Texts, Tree, World};
+use gl_translate::TermFault;
+use reader::form_of;
+use shape_spec::{FnSet, Mode};
+use std::alloc::Global;
+use std::process::Abort;
+use std::test::Fail;
+
+fn term_code(fault: TermFault) -> &'static str {
+    match fault {
+        TermFault::UnknownFunction => "V4",
+        TermFault::WrongCount => "V5",
+        TermFault::UnboundVariable => "V6",
+        TermFault::BadUse => "V7",
+        TermFault::TooDeep => "V12",
+        TermFault::Memory => "memory",
+    }
+}
+
+fn code(fault: EventFault) -> &'static str {
+    match fault {
+        EventFault::UnknownEvent => "V1",
+        EventFault::BadEvent => "V2",
+        EventFault::Redefined => "V3",
+        EventFault::Term(fault) => term_code(fault),
+        EventFault::NotAdmitted(1) => "V8 1",
+        EventFault::NotAdmitted(2) => "V8 2",
+        EventFault::NotAdmitted(_) => "V8",
+        EventFault::BadBindings => "V10",
+        EventFault::BadOption => "V11",
+        EventFault::Memory => "memory",
+    }
+}
+
+fn measured(measure: Option<Measure>) -> &'static str {
+    match measure {
+        None => "defun",
+        Some(Measure::Count(_)) => "defun count",
+        Some(Measure::Len(_)) => "defun len",
+        Some(Measure::Nat(_)) => "defun nat",
+        Some(Measure::Gap(_, _)) => "defun gap",
+        Some(Measure::Lex(_, _)) => "defun lex",
+    }
+}
+
+fn told(event: &Event) -> &'static str {
+    match event {
+        Event::Nothing => "nothing",
+        Event::Redundant(_) => "redundant",
+        Event::Defun(def) => measured(def.measure),
+        Event::Defconst(_, _) => "defconst",
+        Event::Value(_) => "value",
+        Event::Assert(_) => "assert",
+        Event::Memoize(_) => "memoize",
+        Event::Unmemoize(_) => "unmemoize",
+        Event::Mode(Mode::Bdd) => "bdd",
+        Event::Mode(Mode::Sat) => "sat",
+        Event::Theorem(_) => "theorem",
+        Event::Clique(_) => "clique",
+        Event::RedundantClique(_) => "redundant clique",
+    }
+}
+
+/// What a form is in a world: its event, or its code.
+fn answer(
+    alloc: Global,
+    form: &Tree,
+    world: &World,
+    texts: &mut Texts,
+) -> Result<&'static str, NoMemory> {
+    let memoized = FnSet::new(alloc);
+    match event_of(alloc, form, world, Mode::Bdd, &memoized, texts) {
+        Ok(event) => Ok(told(&event)),
+        Err(fault) => Ok(code(fault)),
+    }
+}
+
+/// Notes a form under its name, where that is new.
+fn note(
+    alloc: Global,
+    world: &mut World,
+    texts: &mut Texts,
+    name: &[u8],
+    form: &[u8],
+) -> Result<(), NoMemory> {
+    let name = texts.id_of(name)?;
+    let form = form_of(alloc, form, texts)?;
+    match world.noted(name) {
+        None => world.note(name, form),
+        Some(_) => Ok(()),
+    }
+}
+
+/// The world of a book's first form, in which `*K*` is 5 and P, Q and T1 are noted.
+fn world_of(alloc: Global, texts: &mut Texts) -> Result<World, NoMemory> {
+    let mut world = prelude(alloc, texts)?;
+    let name = texts.id_of(b"*K*")?;
+    if world.constant(name).is_none() {
+        world.set_constant(name, Tree::int(5))?;
+    }
+    note(alloc, &mut world, texts, b"*K*", b"(DEFCONST *K* 5)")?;
+    note(alloc, &mut world, texts, b"P", b"(DEFUN P (X) X)")?;
+    note(alloc, &mut world, texts, b"Q", b"(DEFUN Q (X) X)")?;
+    note(
+        alloc,
+        &mut world,
+        texts,
+        b"T1",
+        b"(DEF-GL-THM T1 :CONCL T :G-BINDINGS (QUOTE ()))",
+    )?;
+    Ok(world)
+}
+
+fn try_rows(rt: &impl Abort, alloc: Global, rows: &[(&str, &str)]) -> Result<(), Fail> {
+    let mut texts = Texts::new(alloc)?;
+    let world = world_of(alloc, &mut texts)?;
+    for (form, wanted) in rows {
+        let form_read = form_of(alloc, form.as_bytes(), &mut texts)?;
+        let given = answer(alloc, &form_read, &world, &mut texts)?;
+        assert!(rt; given.as_bytes() == wanted.as_bytes(), "{form} is {wanted}");
+    }
+    Ok(())
+}
+
+/// Each event, and each check that fails first.
+const ROWS: [(&str, &str); 118] = [
+    ("5", "V1"),
+    ("DEFUN", "V1"),
+    ("()", "V1"),
+    ("(5)", "V1"),
+    ("((DEFUN))", "V1"),
+    ("(DEFTHM A T)", "V1"),
+    ("(IN-PACKAGE \"ACL2)", "nothing"),
+    ("(IN-PACKAGE)", "V2"),
+    ("(IN-PACKAGE \"acl2)", "V2"),
+    ("(IN-PACKAGE ACL2)", "V2"),
+    ("(INCLUDE-BOOK \"centaur/gl/gl :DIR :SYSTEM)", "nothing"),
+    ("(INCLUDE-BOOK \"other :DIR :SYSTEM)", "V2"),
+    ("(INCLUDE-BOOK \"centaur/gl/gl)", "V2"),
+    ("(GL-BDD-MODE)", "bdd"),
+    ("(GL-SATLINK-MODE)", "sat"),
+    ("(GL-BDD-MODE 1)", "V2"),
+    ("(GL-BDD-MODE . X)", "V2"),
+    ("(VALUE-TRIPLE (CONS *K* 1))", "value"),
+    ("(VALUE-TRIPLE X)", "V6"),
+    ("(VALUE-TRIPLE 1 :CHECK T)", "V2"),
+    ("(ASSERT-EVENT T)", "assert"),
+    ("(ASSERT-EVENT)", "V2"),
+    ("(MEMOIZE (QUOTE H))", "V4"),
+    ("(MEMOIZE (QUOTE 5))", "V4"),
+    ("(MEMOIZE (QUOTE IF))", "V4"),
+    ("(UNMEMOIZE (QUOTE H))", "V4"),
+    ("(MEMOIZE H)", "V2"),
+    ("(MEMOIZE (QUOTE H) :CONDITION T)", "V2"),
+    ("(DEFCONST *D* (CONS 2 3))", "defconst"),
+    ("(DEFCONST *K* 5)", "redundant"),
+    ("(DEFCONST *K* 6)", "V3"),
+    ("(DEFCONST *D* X)", "V6"),
+    ("(DEFCONST ** 1)", "V2"),
+    ("(DEFCONST D 1)", "V2"),
+    ("(DEFCONST *D*)", "V2"),
+    ("(DEFUN P (X) X)", "redundant"),
+    ("(DEFUN P (Y) Y)", "V3"),
+    ("(DEFUN T1 (Y) Y)", "V3"),
+    ("(DEFUN H (X) X)", "defun"),
+    ("(DEFUN H (X) \"doc X)", "defun"),
+    ("(DEFUN H (X) \"doc \"more X)", "V2"),
+    ("(DEFUN H (X) (DECLARE (IGNORABLE X)) \"doc X)", "defun"),
+    ("(DEFUN H (X) 5 X)", "V2"),
+    ("(DEFUN H . X)", "V2"),
+    ("(DEFUN H)", "V2"),
+    ("(DEFUN H (X))", "V2"),
+    ("(DEFUN * (X) X)", "V2"),
+    ("(DEFUN :H (X) X)", "V2"),
+    ("(DEFUN T (X) X)", "V2"),
+    ("(DEFUN *H* (X) (DECLARE (FOO)) X)", "V2"),
+    ("(DEFUN CAR (X) (DECLARE (FOO)) X)", "V11"),
+    ("(DEFUN H (X) (DECLARE . X) X)", "V11"),
+    ("(DEFUN H (X) (DECLARE (XARGS :FOO 1)) X)", "V11"),
+    ("(DEFUN H (X) (DECLARE (XARGS :GUARD)) X)", "V11"),
+    (
+        "(DEFUN H (X) (DECLARE (XARGS :GUARD T) (XARGS :GUARD T)) X)",
+        "V11",
+    ),
+    (
+        "(DEFUN H (X) (DECLARE (XARGS :GUARD T)) (DECLARE (XARGS :GUARD T)) X)",
+        "V11",
+    ),
+    (
+        "(DEFUN H (X) (DECLARE (XARGS :GUARD T :HINTS X) (OPTIMIZE X)) X)",
+        "defun",
+    ),
+    ("(DEFUN H (X) (DECLARE (XARGS :MEASURE (LEN Y))) X)", "V11"),
+    (
+        "(DEFUN H (X) (DECLARE (XARGS :MEASURE (NFIX (- X X)))) X)",
+        "V11",
+    ),
+    (
+        "(DEFUN H (X) (DECLARE (XARGS :MEASURE (MAKE-ORD 1 (+ 2 (LEN X)) (LEN X)))) X)",
+        "V11",
+    ),
+    (
+        "(DEFUN H (X) (DECLARE (XARGS :MEASURE (LEN X))) X)",
+        "defun",
+    ),
+    ("(DEFUN AND (X) X)", "V3"),
+    ("(DEFUN REST (X) X)", "V3"),
+    ("(DEFUN CADDR (X) X)", "V3"),
+    ("(DEFUN ASH (X) X)", "V3"),
+    ("(DEFUN QUOTE (T) X)", "V3"),
+    ("(DEFUN DEFUN (X) X)", "defun"),
+    ("(DEFUN H (T) 1)", "V7"),
+    ("(DEFUN H (X X) 1)", "V7"),
+    ("(DEFUN H (` X) 1)", "V7"),
+    ("(DEFUN H (X . Y) 1)", "V2"),
+    ("(DEFUN H (X) (H))", "V5"),
+    ("(DEFUN H (X) Y)", "V6"),
+    ("(DEFUN H (X) (I X))", "V4"),
+    ("(DEFUN BAD (X) (IF (CONSP X) (BAD X) NIL))", "V8 1"),
+    ("(DEFUN H (X) (IF (CONSP X) (H (CDR X)) (H X)))", "V8 2"),
+    ("(DEFUN H () (H))", "V8 1"),
+    (
+        "(DEFUN H (X) (IF (CONSP X) (H (CDR X)) NIL))",
+        "defun count",
+    ),
+    (
+        "(DEFUN H (X Y) (IF (CONSP Y) (H X (CDR Y)) NIL))",
+        "defun count",
+    ),
+    (
+        "(DEFUN H (X) (DECLARE (XARGS :MEASURE (LEN X))) (IF (CONSP X) (H (CDR X)) NIL))",
+        "defun len",
+    ),
+    (
+        "(DEFUN H (X) (DECLARE (XARGS :MEASURE (LEN X))) (IF (CONSP X) (H (CAR X)) NIL))",
+        "V8 1",
+    ),
+    (
+        "(DEFUN H (X Y) (DECLARE (XARGS :MEASURE (MAKE-ORD 1 (+ 1 (LEN X)) (LEN Y)))) (IF (CONSP X) (IF (CONSP Y) (H X (CDR Y)) (H (CDR X) X)) NIL))",
+        "defun lex",
+    ),
+    (
+        "(DEFUN H (X Y) (DECLARE (XARGS :MEASURE (NFIX (- Y X)))) (IF (IF (INTEGERP X) (IF (INTEGERP Y) (< X Y) NIL) NIL) (H (+ 1 X) Y) 1))",
+        "defun gap",
+    ),
+    ("(MUTUAL-RECURSION)", "V2"),
+    ("(MUTUAL-RECURSION (DEFUN H (X) X) (DEFCONST *D* 1))", "V2"),
+    ("(MUTUAL-RECURSION (DEFUN H (X) X) (DEFUN H (X) X))", "V2"),
+    ("(MUTUAL-RECURSION (DEFUN P (X) X))", "redundant clique"),
+    (
+        "(MUTUAL-RECURSION (DEFUN P (X) X) (DEFUN Q (X) X))",
+        "redundant clique",
+    ),
+    ("(MUTUAL-RECURSION (DEFUN P (X) X) (DEFUN P (X) X))", "V2"),
+    ("(MUTUAL-RECURSION (DEFUN P (X) X) (DEFUN H (X) X))", "V3"),
+    (
+        "(MUTUAL-RECURSION (DEFUN P (X) X) (DEFUN H (X) (DECLARE (FOO)) X))",
+        "V11",
+    ),
+    (
+        "(MUTUAL-RECURSION (DEFUN H (X) (I X X)) (DEFUN I (X) (J X)))",
+        "V5",
+    ),
+    (
+        "(MUTUAL-RECURSION (DEFUN H (X) (IF (CONSP X) (I (CDR X)) T)) (DEFUN I (X) (IF (CONSP X) (H (CDR X)) NIL)))",
+        "clique",
+    ),
+    (
+        "(MUTUAL-RECURSION (DEFUN H (X) (IF (CONSP X) (I (CDR X)) T)) (DEFUN I (X) (IF (CONSP X) (H X) NIL)))",
+        "V8 2",
+    ),
+    (
+        "(DEF-GL-THM U :CONCL (EQUAL X X) :G-BINDINGS (QUOTE ((X 5))))",
+        "theorem",
+    ),
+    (
+        "(DEF-GL-THM T1 :CONCL T :G-BINDINGS (QUOTE ()))",
+        "redundant",
+    ),
+    ("(DEF-GL-THM T1 :CONCL NIL :G-BINDINGS (QUOTE ()))", "V3"),
+    ("(DEF-GL-THM 5 :CONCL T :G-BINDINGS (QUOTE ()))", "V2"),
+    ("(DEF-GL-THM U :CONCL T)", "V2"),
+    ("(DEF-GL-THM U :CONCL T :G-BINDINGS)", "V2"),
+    (
+        "(DEF-GL-THM U :FOO 1 :CONCL T :G-BINDINGS (QUOTE ()))",
+        "V11",
+    ),
+    (
+        "(DEF-GL-THM U :CONCL T :CONCL T :G-BINDINGS (QUOTE ()))",
+        "V11",
+    ),
+    (
+        "(DEF-GL-THM U :CONCL T :G-BINDINGS (QUOTE ()) :CONCL-CLK 1000001)",
+        "V11",
+    ),
+    ("(DEF-GL-THM U :CONCL (I) :G-BINDINGS 5)", "V4"),
+    (
+        "(DEF-GL-THM U :CONCL (EQUAL X Y) :G-BINDINGS (QUOTE ((X 5))))",
+        "V10",
+    ),
+    ("(DEF-GL-THM U :CONCL T :G-BINDINGS 5)", "V10"),
+    (
+        "(DEF-GL-THM U :RULE-CLASSES NIL :G-BINDINGS (AUTO-BINDINGS (:NAT X 4)) :HYP (CONSP X) :HYP-CLK 1 :CONCL T)",
+        "theorem",
+    ),
+    ("(MEMOIZE (QUOTE LEN))", "memoize"),
+    ("(UNMEMOIZE (QUOTE LEN))", "unmemoize"),
+    ("(DEFUN LEN (X) X)", "V3"),
+    (
+        "(DEFUN TWO (N) (DECLARE (XARGS :MEASURE (NFIX N))) (IF (ZP N) NIL (TWO (- N 2))))",
+        "defun nat",
+    ),
+    ("(DEFUN TWO (N) (IF (ZP N) NIL (TWO (- N 2))))", "V8 1"),
+    ("(DEFCONST *N* (+ 2 3))", "defconst"),
+    ("(ASSERT-EVENT (EQUAL (* *K* *K*) 25))", "assert"),
+    (
+        "(DEFUN ACK (M N) (DECLARE (XARGS :MEASURE (MAKE-ORD 1 (+ 1 (NFIX M)) (NFIX N)))) (IF (ZP M) (+ N 1) (IF (ZP N) (ACK (- M 1) 1) (ACK (- M 1) (ACK M (- N 1))))))",
+        "defun lex",
+    ),
+    (
+        "(DEFUN ACK (M N) (IF (ZP M) (+ N 1) (IF (ZP N) (ACK (- M 1) 1) (ACK (- M 1) (ACK M (- N 1))))))",
+        "V8",
+    ),
+    (
+        "(MUTUAL-RECURSION (DEFUN EV (N) (IF (ZP N) T (OD (- N 1)))) (DEFUN OD (N) (IF (ZP N) NIL (EV (- N 1)))))",
+        "clique",
+    ),
+    (
+        "(MUTUAL-RECURSION (DEFUN EV (N) (IF (ZP N) T (OD (- N 1)))) (DEFUN OD (N) (IF (ZP N) NIL (EV N))))",
+        "V8 2",
+    ),
+];
+
+/// Forms of books whose answers were computed outside.
+const PROBES: [(&str, &str); 77] = [
+    ("(DEFUN F (X) (IF (ENDP X) 1 (F (CADR X))))", "defun count"),
+    (
+        "(DEFUN F (X) (IF (OR 5 (ATOM X)) 1 (F (CDR X))))",
+        "defun count",
+    ),
+    (
+        "(DEFUN F (X Y) (DECLARE (XARGS :MEASURE (NFIX (- Y X)))) (IF (AND (INTEGERP X) (INTEGERP Y) (< X Y)) (F (+ 1 X) Y) 1))",
+        "defun gap",
+    ),
+    (
+        "(DEFUN F (X) (IF (IF (CONSP X) 7 NIL) (F (CDR X)) 2))",
+        "defun count",
+    ),
+    (
+        "(DEFUN F (X Y) (DECLARE (XARGS :MEASURE (NFIX (- Y X)))) (IF (ZP (- Y X)) 1 (LET ((Y Y)) (F (+ 1 X) Y))))",
+        "V8 1",
+    ),
+    (
+        "(DEFUN F (X) (LET ((Y 1)) (IF (CONSP X) (F (CDR X)) Y)))",
+        "defun count",
+    ),
+    ("(DEFUN F (X) (IF (ZP X) 1 (F (+ (- 1) X))))", "defun count"),
+    (
+        "(DEFUN F (X) (IF (AND (NATP X) (NOT (EQL X 0))) (F (- X 1)) 1))",
+        "defun count",
+    ),
+    (
+        "(DEFUN F (X) (IF (CONSP X) (F (CAR (CDR (CAR X)))) 1))",
+        "defun count",
+    ),
+    ("(DEFUN F (X) (IF (NULL X) 1 (F (CDR X))))", "V8 1"),
+    (
+        "(DEFUN F (X) (IF (CONSP X) (LET ((X X)) (F (CDR X))) 1))",
+        "V8 1",
+    ),
+    ("(DEFUN F (X) (IF (ZP X) 1 (F (- X 2))))", "V8 1"),
+    ("(DEFUN F (X) (IF (< 0 X) (F (- X 1)) 1))", "V8 1"),
+    ("(DEFUN F (X) (IF (ZP X) 1 (F (FLOOR X -2))))", "V8 1"),
+    ("(DEFUN F (X) (IF (ZP X) 1 (F (- X (- 2 1)))))", "V8 1"),
+    (
+        "(DEFUN F (X) (IF (AND (NATP X) (NOT (ZEROP X))) (F (- X 1)) 1))",
+        "V8 1",
+    ),
+    ("(DEFUN F (X) (OR (F X) 5))", "V8 1"),
+    (
+        "(DEFUN F (X Y) (IF (ZP X) (IF (ZP Y) 1 (F X (- Y 1))) (F (- X 1) Y)))",
+        "V8 1",
+    ),
+    (
+        "(DEFUN F (X) (DECLARE (XARGS :MEASURE (NFIX X))) (IF (ZP X) 1 (F (+ (UNARY-- 7) X))))",
+        "defun nat",
+    ),
+    (
+        "(DEFUN F (X) (DECLARE (XARGS :MEASURE (LEN X))) (IF (CONSP X) (F (CDR (CAR X))) 1))",
+        "V8 1",
+    ),
+    ("(MUTUAL-RECURSION (DEFUN F (X) X) (DEFCONST *C* 1))", "V2"),
+    (
+        "(MUTUAL-RECURSION (DEFUN F (X) (G X X)) (DEFUN G (X) (H X)))",
+        "V5",
+    ),
+    (
+        "(MUTUAL-RECURSION (DEFUN F (X) (DECLARE (XARGS :MEASURE (LEN X))) (IF (CONSP X) (G (CDR X)) NIL)) (DEFUN G (Y) (DECLARE (XARGS :MEASURE (LEN Y))) Y))",
+        "clique",
+    ),
+    (
+        "(DEFUN F (X Y) (DECLARE (XARGS :MEASURE (MAKE-ORD 1 (+ 1 (NFIX X)) (LEN Y)))) (IF (ZP X) Y (IF (CONSP Y) (F X (CDR Y)) (F (- X 1) (CONS X Y)))))",
+        "defun lex",
+    ),
+    (
+        "(DEFUN F (X Y) (DECLARE (XARGS :MEASURE (MAKE-ORD 1 (+ 2 (NFIX X)) (NFIX Y)))) X)",
+        "V11",
+    ),
+    ("(IN-PACKAGE)", "V2"),
+    ("(INCLUDE-BOOK \"other :DIR :SYSTEM)", "V2"),
+    ("(DEFUN *F* (X) (DECLARE (FOO)) X)", "V2"),
+    ("(DEFTHM A T)", "V1"),
+    ("(DEFCONST *C* X)", "V6"),
+    ("(VALUE-TRIPLE 1 :CHECK T)", "V2"),
+    ("(MEMOIZE (QUOTE IF))", "V4"),
+    ("(MEMOIZE (QUOTE LEN) :CONDITION T)", "V2"),
+    ("(GL-BDD-MODE 1)", "V2"),
+    ("(DEF-GL-THM 5 :CONCL T :G-BINDINGS (QUOTE ()))", "V2"),
+    (
+        "(DEF-GL-THM F :FOO 1 :CONCL T :G-BINDINGS (QUOTE ()))",
+        "V11",
+    ),
+    (
+        "(DEF-GL-THM F :CONCL T :G-BINDINGS (QUOTE ()) :CONCL-CLK (+ 1 1))",
+        "V11",
+    ),
+    ("(DEF-GL-THM F :CONCL (FOO) :G-BINDINGS 5)", "V4"),
+    ("(DEFUN F (X) \"doc X)", "defun"),
+    ("(DEFUN F . X)", "V2"),
+    ("(DEFUN F)", "V2"),
+    ("(DEFUN F (X) 5 X)", "V2"),
+    ("(DEFUN * (X) X)", "V2"),
+    ("(DEFUN F (X) (DECLARE (XARGS :FOO 1)) X)", "V11"),
+    (
+        "(DEFUN F (X) (DECLARE (XARGS :MEASURE (NFIX (- X X)))) X)",
+        "V11",
+    ),
+    (
+        "(DEFUN F (X) (DECLARE (XARGS :MEASURE (MAKE-ORD 1 (+ 1 (NFIX X)) (NFIX X)))) X)",
+        "defun",
+    ),
+    ("(DEFUN AND (X) X)", "V3"),
+    ("(DEFUN REST (X) X)", "V3"),
+    ("(DEFUN ASH (X) X)", "V3"),
+    ("(DEFUN F (T) 1)", "V7"),
+    ("(DEFUN F (` X) 1)", "V7"),
+    ("(DEFUN F (X) (F))", "V5"),
+    ("(DEFUN CAR (X) (DECLARE (FOO)) X)", "V11"),
+    ("(VALUE-TRIPLE (AND 1 2 3))", "value"),
+    ("(DEFCONST *C* (ZP 0))", "defconst"),
+    (
+        "(DEF-GL-THM F :HYP (SIGNED-BYTE-P 128 X) :CONCL (INTEGERP (- X)) :G-BINDINGS (AUTO-BINDINGS (:INT X 128)))",
+        "theorem",
+    ),
+    (
+        "(DEF-GL-THM F :HYP T :CONCL T :G-BINDINGS (QUOTE NIL))",
+        "theorem",
+    ),
+    (
+        "(DEF-GL-THM F :HYP T :CONCL T :G-BINDINGS (QUOTE ((X (:G-INTEGER 5 3 1)))))",
+        "theorem",
+    ),
+    (
+        "(DEF-GL-THM F :HYP T :CONCL T :G-BINDINGS (AUTO-BINDINGS (:NAT T 3)))",
+        "V10",
+    ),
+    (
+        "(DEF-GL-THM F :HYP T :CONCL T :G-BINDINGS (QUOTE ((X (:G-CONCRETE)))))",
+        "theorem",
+    ),
+    (
+        "(DEF-GL-THM F :HYP T :CONCL T :G-BINDINGS (AUTO-BINDINGS (:REV (:NAT X 3))))",
+        "V10",
+    ),
+    (
+        "(DEF-GL-THM F :HYP (EQUAL X (QUOTE A)) :CONCL NIL :G-BINDINGS (QUOTE ((X (:G-ITE (:G-BOOLEAN . 3) A . B)))))",
+        "theorem",
+    ),
+    (
+        "(DEF-GL-THM F :HYP T :CONCL T :G-BINDINGS (QUOTE ((X (1 . 2)))))",
+        "theorem",
+    ),
+    (
+        "(DEF-GL-THM F :HYP T :CONCL T :G-BINDINGS (` ((X (, (G-INT 0 1 5))))))",
+        "theorem",
+    ),
+    (
+        "(DEF-GL-THM F :HYP T :CONCL T :G-BINDINGS (QUOTE ((X 5))))",
+        "theorem",
+    ),
+    (
+        "(DEF-GL-THM F :HYP T :CONCL T :G-BINDINGS (AUTO-BINDINGS (:BOOLEAN B)))",
+        "theorem",
+    ),
+    ("(DEF-GL-THM F :HYP T :CONCL T :G-BINDINGS NIL)", "V10"),
+    (
+        "(DEF-GL-THM F :HYP T :CONCL T :G-BINDINGS (QUOTE ((X))))",
+        "V10",
+    ),
+    (
+        "(DEF-GL-THM F :HYP T :CONCL T :G-BINDINGS (QUOTE ((:K 1))))",
+        "V10",
+    ),
+    (
+        "(DEF-GL-THM F :HYP T :CONCL T :G-BINDINGS (QUOTE ((X (:G-BOOLEAN . -1)))))",
+        "V10",
+    ),
+    (
+        "(DEF-GL-THM F :HYP T :CONCL T :G-BINDINGS (QUOTE ((X (:G-INTEGER -1)))))",
+        "V10",
+    ),
+    (
+        "(DEF-GL-THM F :HYP T :CONCL T :G-BINDINGS (QUOTE ((X (:G-)))))",
+        "V10",
+    ),
+    (
+        "(DEF-GL-THM F :HYP T :CONCL T :G-BINDINGS (QUOTE ((X (:G-ITE (:G-BOOLEAN . 0) . 2)))))",
+        "V10",
+    ),
+    (
+        "(DEF-GL-THM F :HYP T :CONCL T :G-BINDINGS (` ((X (, (G-INT 0 1 0))))))",
+        "V10",
+    ),
+    (
+        "(DEF-GL-THM F :HYP T :CONCL T :G-BINDINGS (` ((X (, (G-BOOLEAN))))))",
+        "V10",
+    ),
+    (
+        "(DEF-GL-THM F :HYP T :CONCL T :G-BINDINGS (` ((X (` 5)))))",
+        "V10",
+    ),
+    (
+        "(DEF-GL-THM F :HYP T :CONCL T :G-BINDINGS (AUTO-BINDINGS (:NAT X 128)))",
+        "V10",
+    ),
+];
+
+#[test]
+fn events(rt: HostRuntime) -> Result<(), Fail> {
+    try_rows(&rt, rt.alloc(), &ROWS)?;
+    try_rows(&rt, rt.alloc(), &PROBES)
+}
