@@ -1,0 +1,54 @@
+-- What a decision by search answers, and what stands behind the answer: the book of its clauses.
+use Rattle.std.specs.Prelude.{ℕ, ◌+◌, ◌*◌, Bool, true, false, ◌≡◌, ◌≢◌, ◌≤◌, ◌<◌, ◌⊎◌, ◌↔◌, ◌++◌, ◌∷◌, [], List, length, Option, None, Some}
+use Rattle.bfr_store.specs.declared.edge.Edge.{Edge}
+use Rattle.bfr_store.specs.declared.edge.Decision.{Decision}
+use Rattle.bfr_store.specs.declared.edge.Decision.TheVariants.{Never, Sometimes, Spent}
+use Rattle.aig_store.specs.declared.node.AigNode.{AigNode}
+use Rattle.aig_store.specs.Nodes.{Graph}
+use Rattle.cnf_rup.specs.declared.clause.Entry.{Entry}
+use Rattle.cnf_rup.specs.Books.{BookSeen, IsBook, first_clauses, holds_empty, log_of}
+use Rattle.cnf_rup.specs.Cnfs.{IsCnfOf, IsTrueWhereSatisfied}
+
+-- the graph; how many clauses a decision may learn; the book of the last decision, until it is taken; whether that decision
+-- was given up
+pub record SatSeen : Type 0 where
+  pub graph : Graph
+  pub clauses : ℕ
+  pub book : Option BookSeen
+  pub spent : Bool
+
+-- how many clauses were learned
+abbrev pub learned_in : BookSeen → ℕ
+learned_in b = length (log_of b)
+
+-- the first clauses of the book are those of the edge's cone, and it has learned so many
+pub record IsBookOf (nodes : List AigNode) (e : Edge) (b : BookSeen) (learned : ℕ) : Type 0 where
+  pub book : IsBook b
+  pub cnf : IsCnfOf nodes e (first_clauses b)
+  pub extends : IsTrueWhereSatisfied nodes e (first_clauses b)
+  pub count : length b.entries ≡ b.first + learned
+  pub few : b.first ≤ 3000000002
+
+-- one clause more was learned
+abbrev pub LearnsOne : BookSeen → BookSeen → Type 0
+LearnsOne old new = (e : Entry) × (new ≡ record old { entries = old.entries ++ e ∷ [] })
+
+-- the answer of a decision that may learn so many clauses, by its book: that no assignment makes the edge true exactly where
+-- the empty clause is in the book; an assignment before all clauses are learned, or where none was; given up exactly where
+-- all were learned without an answer
+pub record IsDecidedBy (nodes : List AigNode) (e : Edge) (clauses : ℕ) (b : BookSeen) (d : Decision) : Type 0 where
+  pub book : IsBook b
+  pub cnf : IsCnfOf nodes e (first_clauses b)
+  pub extends : IsTrueWhereSatisfied nodes e (first_clauses b)
+  pub within : learned_in b ≤ clauses
+  pub never : (d ≡ Never) ↔ (holds_empty b.entries ≡ true)
+  pub sometimes : d ≡ Sometimes → (learned_in b < clauses) ⊎ (learned_in b ≡ 0)
+  pub spent : (d ≡ Spent) ↔ ((learned_in b ≡ clauses) × (d ≢ Never) × (d ≢ Sometimes))
+
+-- the book of the last decision is there, it is that of this edge, and the decision is by it
+abbrev pub IsDecided : SatSeen → Edge → Decision → Type 0
+IsDecided s e d = (b : BookSeen) × (s.book ≡ Some b) × IsDecidedBy s.graph.nodes e s.clauses b d
+
+-- where the last decision was given up, its book has learned all clauses, and the empty one is not among them
+abbrev pub IsSpentWell : Bool → ℕ → Option BookSeen → Type 0
+IsSpentWell spent clauses book = spent ≡ true → (b : BookSeen) × (book ≡ Some b) × (learned_in b ≡ clauses) × (holds_empty b.entries ≡ false)

@@ -1,0 +1,168 @@
+//! A decision: what costs no search first, and then the search, each of whose conflicts gives a clause to the book.
+
+ghost use Rattle.std.specs.Prelude.{◌≡◌, ◌≢◌, ◌≤◌, ◌<◌, ℕ, Bool, true, false, length, IfOk, OnOk, OnErr};
+ghost use Rattle.gl_logic.specs.Assignments.{value_at};
+ghost use Rattle.aig_store.specs.Nodes.{IsLive, truth_of};
+ghost use Rattle.cnf_rup.specs.Books.{AllFollow, IsBook, holds_empty};
+ghost use Rattle.sat_core.specs.Decisions.{IsBookOf, IsDecidedBy, LearnsOne};
+
+use super::candidate::{try_found, try_known};
+use super::propose::learn_next;
+use super::search::Search;
+use aig_store::Aig;
+use bfr_store::{Decision, Edge};
+use cnf_rup::{ClauseBook, cnf_of};
+use gl_logic::{Assignment, NoMemory};
+use std::alloc::Global;
+
+/// Whether the empty clause is in the book.
+fn is_refuted(book: &ClauseBook) -> bool
+    ensures empty { result ≡ holds_empty book.now.entries }
+    ensures book { IsBook book.now }
+    ensures follow { AllFollow book.now }
+{
+    let _count = book.count();
+    book.empty_shown()
+}
+
+/// Tries the assignment that the search has come to, where it has come to one without a conflict.
+fn is_found(
+    alloc: Global,
+    aig: &mut Aig,
+    e: Edge,
+    search: &Search,
+    conflict: Option<u32>,
+    out: &mut Assignment,
+) -> Result<bool, NoMemory>
+    requires live { IsLive aig.old e }
+    ensures graph { aig.new ≡ aig.old }
+    ensures model { result ≡ Ok true → truth_of aig.old.nodes e (value_at out.new) ≡ true }
+    ensures bits { result ≡ Ok true → length out.new ≡ aig.old.width }
+    ensures untouched { result ≢ Ok true → out.new ≡ out.old }
+{
+    if conflict.is_some() {
+        return Ok(false);
+    }
+    try_found(alloc, aig, e, search, out)
+}
+
+/// Learns one clause. Whether the empty clause is in the book then.
+fn learns_empty(
+    alloc: Global,
+    search: &mut Search,
+    conflict: Option<u32>,
+    book: &mut ClauseBook,
+) -> Result<bool, NoMemory>
+    requires { length book.old.entries < 4294967295 }
+    ensures learns { OnOk result (LearnsOne book.old book.new) }
+    ensures empty { IfOk result (λ r. r ≡ holds_empty book.new.entries) }
+    ensures book { OnOk result (IsBook book.new) }
+    ensures follow { OnOk result (AllFollow book.new) }
+{
+    learn_next(alloc, search, conflict, book)?;
+    Ok(is_refuted(book))
+}
+
+/// The book of an edge's clauses, which has learned none.
+fn begin(alloc: Global, aig: &Aig, e: Edge) -> Result<ClauseBook, NoMemory>
+    requires { IsLive aig.now e }
+    ensures { IfOk result (λ b. IsBookOf aig.now.nodes e b 0) }
+{
+    let _within = aig.count();
+    let _small = aig.limit();
+    let book = cnf_of(alloc, aig, e)?;
+    let _count = book.count();
+    Ok(book)
+}
+
+/// Searches for an assignment that makes the edge true, and learns at most this many clauses.
+fn search_for(
+    alloc: Global,
+    aig: &mut Aig,
+    book: &mut ClauseBook,
+    e: Edge,
+    clauses: u32,
+    out: &mut Assignment,
+) -> Result<Decision, NoMemory>
+    requires live { IsLive aig.old e }
+    requires width { length out.old ≡ aig.old.width }
+    requires small { clauses ≤ 1000000000 }
+    requires book { IsBookOf aig.old.nodes e book.old 0 }
+    requires none { holds_empty book.old.entries ≡ false }
+    ensures graph { aig.new ≡ aig.old }
+    ensures decided { IfOk result (λ d. IsDecidedBy aig.old.nodes e clauses book.new d) }
+    ensures never { result ≡ Ok Decision.Never → (a : ℕ → Bool) → truth_of aig.old.nodes e a ≡ false }
+    ensures sometimes { result ≡ Ok Decision.Sometimes → truth_of aig.old.nodes e (value_at out.new) ≡ true }
+    ensures bits { length out.new ≡ length out.old }
+    ensures untouched { result ≢ Ok Decision.Sometimes → out.new ≡ out.old }
+{
+    let mut search = Search::new(alloc, book)?;
+    for _learned in 0..clauses {
+        let conflict = search.run()?;
+        let found = is_found(alloc, aig, e, &search, conflict, out)?;
+        if found {
+            return Ok(Decision::Sometimes);
+        }
+        let empty = learns_empty(alloc, &mut search, conflict, book)?;
+        if empty {
+            return Ok(Decision::Never);
+        }
+    }
+    Ok(Decision::Spent)
+}
+
+/// Decides whether some assignment makes the edge true, by a book of the edge's clauses that has learned none.
+fn decide_by(
+    alloc: Global,
+    aig: &mut Aig,
+    book: &mut ClauseBook,
+    e: Edge,
+    clauses: u32,
+    last: &[bool],
+    out: &mut Assignment,
+) -> Result<Decision, NoMemory>
+    requires live { IsLive aig.old e }
+    requires width { length out.old ≡ aig.old.width }
+    requires small { clauses ≤ 1000000000 }
+    requires book { IsBookOf aig.old.nodes e book.old 0 }
+    ensures graph { aig.new ≡ aig.old }
+    ensures decided { IfOk result (λ d. IsDecidedBy aig.old.nodes e clauses book.new d) }
+    ensures never { result ≡ Ok Decision.Never → (a : ℕ → Bool) → truth_of aig.old.nodes e a ≡ false }
+    ensures sometimes { result ≡ Ok Decision.Sometimes → truth_of aig.old.nodes e (value_at out.new) ≡ true }
+    ensures bits { length out.new ≡ length out.old }
+    ensures untouched { result ≢ Ok Decision.Sometimes → out.new ≡ out.old }
+{
+    if is_refuted(book) {
+        return Ok(Decision::Never);
+    }
+    let known = try_known(alloc, aig, e, last, out)?;
+    if known {
+        return Ok(Decision::Sometimes);
+    }
+    search_for(alloc, aig, book, e, clauses, out)
+}
+
+/// Decides whether some assignment makes the edge true. The decision, and its book.
+pub fn decide_edge(
+    alloc: Global,
+    aig: &mut Aig,
+    e: Edge,
+    clauses: u32,
+    last: &[bool],
+    out: &mut Assignment,
+) -> Result<(Decision, ClauseBook), NoMemory>
+    requires live { IsLive aig.old e }
+    requires width { length out.old ≡ aig.old.width }
+    requires small { clauses ≤ 1000000000 }
+    ensures graph { aig.new ≡ aig.old }
+    ensures decided { IfOk result (λ r. IsDecidedBy aig.old.nodes e clauses r.1 r.0) }
+    ensures never { IfOk result (λ r. r.0 ≡ Decision.Never → (a : ℕ → Bool) → truth_of aig.old.nodes e a ≡ false) }
+    ensures sometimes { IfOk result (λ r. r.0 ≡ Decision.Sometimes → truth_of aig.old.nodes e (value_at out.new) ≡ true) }
+    ensures bits { length out.new ≡ length out.old }
+    ensures untouched { IfOk result (λ r. r.0 ≢ Decision.Sometimes → out.new ≡ out.old) }
+    ensures refused { OnErr result (out.new ≡ out.old) }
+{
+    let mut book = begin(alloc, aig, e)?;
+    let decision = decide_by(alloc, aig, &mut book, e, clauses, last, out)?;
+    Ok((decision, book))
+}

@@ -1,0 +1,129 @@
+//! Clauses that are proposed to the book, which takes those that their hints show.
+
+ghost use Rattle.std.specs.Prelude.{◌≡◌, ◌<◌, true, false, length, All, IfOk, OnOk};
+ghost use Rattle.cnf_rup.specs.Literals.{IsClause};
+ghost use Rattle.sat_core.specs.Decisions.{LearnsOne};
+
+use super::search::Search;
+use cnf_rup::{Clause, ClauseBook, Hints, Learn};
+use gl_logic::NoMemory;
+use std::alloc::Global;
+
+/// The clause that the search has found, in the book's variables. A number that is no literal is left out.
+fn clause_of(alloc: Global, search: &Search) -> Result<Clause, NoMemory>
+    ensures { IfOk result (λ c. IsClause c) }
+{
+    let mut clause = Clause::new(alloc);
+    for literal in search.analysis.literals() {
+        let named = search.names.literal(*literal);
+        if named != 0 && named != i32::MIN {
+            clause.push(named)?;
+        }
+    }
+    Ok(clause)
+}
+
+/// The number in the book of the clause that is a literal's reason; 0 where there is none.
+fn reason_at(search: &Search, place: u32) -> u32 {
+    match search.trail.literals().get(place as usize) {
+        None => 0,
+        Some(literal) => match search.trail.fact(literal.variable()).reason {
+            None => 0,
+            Some(reason) => reason.wrapping_add(1),
+        },
+    }
+}
+
+/// The hints that the search has found: the reasons in the order of the trail, and the conflict.
+fn hints_of(alloc: Global, search: &Search, conflict: u32) -> Result<Hints, NoMemory>
+    ensures { IfOk result (λ h. All (λ n. 0 < n) h) }
+{
+    let mut hints = Hints::new(alloc);
+    for place in search.analysis.places() {
+        let reason = reason_at(search, *place);
+        if reason != 0 {
+            hints.push(reason)?;
+        }
+    }
+    if conflict < u32::MAX {
+        hints.push(conflict + 1)?;
+    }
+    Ok(hints)
+}
+
+/// Proposes the clause that the search has found. Whether it was taken.
+fn propose(
+    alloc: Global,
+    search: &Search,
+    conflict: u32,
+    book: &mut ClauseBook,
+) -> Result<bool, NoMemory>
+    requires { length book.old.entries < 4294967295 }
+    ensures taken { IfOk result (λ t. t ≡ true → LearnsOne book.old book.new) }
+    ensures refused { IfOk result (λ t. t ≡ false → book.new ≡ book.old) }
+{
+    let clause = clause_of(alloc, search)?;
+    let hints = hints_of(alloc, search, conflict)?;
+    match book.learn(&clause, &hints)? {
+        Learn::Taken(_) => Ok(true),
+        Learn::NotShown(_) => Ok(false),
+    }
+}
+
+/// Learns a clause that is true under every assignment, which any hints show. A right search never comes to it: it is there
+/// so that a wrong one ends too.
+fn learn_tautology(alloc: Global, book: &mut ClauseBook) -> Result<(), NoMemory>
+    requires { length book.old.entries < 4294967295 }
+    ensures { OnOk result (LearnsOne book.old book.new) }
+{
+    let mut clause = Clause::new(alloc);
+    clause.push(1)?;
+    clause.push(-1)?;
+    let _taken = book.learn(&clause, &Hints::new(alloc))?;
+    Ok(())
+}
+
+/// Learns what a conflict shows: the clause of the first unique implication point, or where its hints don't show it that of
+/// the decisions. Whether one of the two was taken.
+fn learn_conflict(
+    alloc: Global,
+    search: &mut Search,
+    conflict: u32,
+    book: &mut ClauseBook,
+) -> Result<bool, NoMemory>
+    requires { length book.old.entries < 4294967295 }
+    ensures taken { IfOk result (λ t. t ≡ true → LearnsOne book.old book.new) }
+    ensures refused { IfOk result (λ t. t ≡ false → book.new ≡ book.old) }
+{
+    if let Some(level) = search.analyse(conflict)? {
+        if propose(alloc, search, conflict, book)? {
+            search.take_in(level)?;
+            return Ok(true);
+        }
+    }
+    let level = search.blame_decisions()?;
+    if propose(alloc, search, conflict, book)? {
+        search.take_in(level)?;
+        return Ok(true);
+    }
+    Ok(false)
+}
+
+/// Learns one clause.
+pub fn learn_next(
+    alloc: Global,
+    search: &mut Search,
+    conflict: Option<u32>,
+    book: &mut ClauseBook,
+) -> Result<(), NoMemory>
+    requires { length book.old.entries < 4294967295 }
+    ensures { OnOk result (LearnsOne book.old book.new) }
+{
+    if let Some(conflict) = conflict {
+        if learn_conflict(alloc, search, conflict, book)? {
+            return Ok(());
+        }
+    }
+    learn_tautology(alloc, book)?;
+    search.begin_again()
+}

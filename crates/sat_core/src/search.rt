@@ -1,0 +1,232 @@
+//! The search: decisions, propagation, and what is done after a conflict.
+//!
+//! What stands here is believed by nobody. Each table is read and written within its length, whatever the numbers say, each
+//! loop has a bound, and no contract speaks of the literals that are true.
+
+use super::analysis::Analysis;
+use super::clauses::Clauses;
+use super::literal::Literal;
+use super::luby::Luby;
+use super::names::Names;
+use super::order::Order;
+use super::trail::{Trail, Truth};
+use super::watch::{Watch, Watches};
+use cnf_rup::ClauseBook;
+use gl_logic::NoMemory;
+use std::alloc::Global;
+
+/// A search for an assignment that satisfies the clauses of a book.
+#[derive(Drop)]
+pub struct Search {
+    pub(crate) variables: u32,
+    pub(crate) names: Names,
+    pub(crate) clauses: Clauses,
+    /// The clauses of two literals, by each.
+    pub(crate) pairs: Watches,
+    /// The longer clauses, by two literals of each.
+    pub(crate) watches: Watches,
+    pub(crate) trail: Trail,
+    pub(crate) analysis: Analysis,
+    order: Order,
+    /// By variable, the last value that it had.
+    phases: Vec<bool>,
+    restarts: Luby,
+    /// How many clauses are to be learned before some are forgotten, and how many there are to be from one time to the next.
+    left: u32,
+    period: u32,
+    /// A clause that the unit clauses make false.
+    failed: Option<u32>,
+}
+
+/// How many clauses are learned before some are forgotten for the first time.
+const FIRST_PERIOD: u32 = 2_000;
+
+/// How many more there are each time.
+const LONGER: u32 = 300;
+
+impl Search {
+    /// A search over the clauses of a book.
+    pub fn new(alloc: Global, book: &ClauseBook) -> Result<Search, NoMemory> {
+        let mut names = Names::new(alloc);
+        names.number_all(book)?;
+        let variables = names.count();
+        let mut search = Search {
+            variables,
+            names,
+            clauses: Clauses::new(alloc),
+            pairs: Watches::new(alloc, variables)?,
+            watches: Watches::new(alloc, variables)?,
+            trail: Trail::new(alloc, variables)?,
+            analysis: Analysis::new(alloc, variables)?,
+            order: Order::new(alloc, variables)?,
+            phases: vec![in alloc; false; variables as usize]?,
+            restarts: Luby::new(),
+            left: FIRST_PERIOD,
+            period: FIRST_PERIOD,
+            failed: None,
+        };
+        search.load(alloc, book)?;
+        Ok(search)
+    }
+
+    /// Takes in the clauses of the book.
+    fn load(&mut self, alloc: Global, book: &ClauseBook) -> Result<(), NoMemory> {
+        let mut literals = Vec::new(alloc);
+        for id in 1..=book.count() {
+            literals.clear();
+            for literal in book.clause(id).as_slice() {
+                literals.push(self.names.number(*literal)?)?;
+            }
+            let clause = self.clauses.count();
+            self.clauses.push(&literals, 0)?;
+            self.watch(clause)?;
+            if literals.len() == 1 {
+                self.assert(literals[0], clause)?;
+            }
+        }
+        Ok(())
+    }
+
+    /// Makes the literal of a unit clause true at level 0.
+    fn assert(&mut self, literal: Literal, clause: u32) -> Result<(), NoMemory> {
+        match self.trail.truth(literal) {
+            Truth::Open => self.trail.assign(literal, Some(clause))?,
+            Truth::True => {}
+            Truth::False => self.failed = Some(clause),
+        }
+        Ok(())
+    }
+
+    /// Watches the first two literals of a clause, where there are two.
+    fn watch(&mut self, clause: u32) -> Result<(), NoMemory> {
+        let literals = self.clauses.of(clause);
+        if literals.len() < 2 {
+            return Ok(());
+        }
+        let first = literals[0];
+        let second = literals[1];
+        let lists = if literals.len() == 2 {
+            &mut self.pairs
+        } else {
+            &mut self.watches
+        };
+        lists.add(
+            first,
+            Watch {
+                clause,
+                blocker: second,
+            },
+        )?;
+        lists.add(
+            second,
+            Watch {
+                clause,
+                blocker: first,
+            },
+        )
+    }
+
+    /// Decides the most active variable that is open. False where none is.
+    fn decide(&mut self) -> Result<bool, NoMemory> {
+        for _ in 0..self.variables {
+            let Some(variable) = self.order.take() else {
+                return Ok(false);
+            };
+            if self.trail.truth(Literal::of(variable, false)) == Truth::Open {
+                let phase = self.phase(variable);
+                self.trail.decide(Literal::of(variable, !phase))?;
+                return Ok(true);
+            }
+        }
+        Ok(false)
+    }
+
+    fn phase(&self, variable: u32) -> bool {
+        match self.phases.get(variable as usize) {
+            Some(phase) => *phase,
+            None => false,
+        }
+    }
+
+    /// Takes back all levels behind this one.
+    fn go_back(&mut self, level: u32) -> Result<(), NoMemory> {
+        for _ in 0..self.trail.len() {
+            let Some(literal) = self.trail.take_back(level) else {
+                break;
+            };
+            let variable = literal.variable();
+            let index = variable as usize;
+            if index < self.phases.len() {
+                self.phases[index] = !literal.is_complemented();
+            }
+            self.order.put_back(variable)?;
+        }
+        self.trail.end_levels(level);
+        Ok(())
+    }
+
+    /// Decides and propagates until a clause is false, which is answered, or all variables have values.
+    pub fn run(&mut self) -> Result<Option<u32>, NoMemory> {
+        if self.failed.is_some() {
+            return Ok(self.failed);
+        }
+        for _ in 0..=self.variables {
+            let conflict = self.propagate()?;
+            if conflict.is_some() {
+                return Ok(conflict);
+            }
+            if !self.decide()? {
+                return Ok(None);
+            }
+        }
+        Ok(None)
+    }
+
+    /// Finds the clause to be learned from a conflict. The level at which it gives its first literal, if it is found.
+    pub fn analyse(&mut self, conflict: u32) -> Result<Option<u32>, NoMemory> {
+        self.analysis
+            .find(conflict, &self.trail, &self.clauses, &mut self.order)
+    }
+
+    /// Makes the clause of the complements of the decisions. The level at which it gives its first literal.
+    pub fn blame_decisions(&mut self) -> Result<u32, NoMemory> {
+        self.analysis.blame_decisions(&self.trail)
+    }
+
+    /// Takes in the clause that was learned, and goes back to the level at which it gives its first literal, or to level 0
+    /// where the search is to begin anew.
+    pub fn take_in(&mut self, level: u32) -> Result<(), NoMemory> {
+        let clause = self.clauses.count();
+        let glue = self.analysis.glue(&self.trail);
+        self.clauses.push(self.analysis.literals(), glue)?;
+        self.watch(clause)?;
+        self.order.age();
+        self.left = self.left.saturating_sub(1);
+        let back = if self.restarts.is_due() { 0 } else { level };
+        self.go_back(back)?;
+        if back == 0 && self.left == 0 {
+            self.forget()?;
+        }
+        match self.analysis.literals().get(0) {
+            Some(first) if back == level => {
+                let first = *first;
+                self.assert(first, clause)
+            }
+            _ => Ok(()),
+        }
+    }
+
+    /// Takes in a clause that says nothing, and goes back to level 0.
+    pub fn begin_again(&mut self) -> Result<(), NoMemory> {
+        self.clauses.push(&[], 0)?;
+        self.go_back(0)
+    }
+
+    /// Forgets about half of the longer clauses that were learned. The book keeps them, and so does what they are a reason of.
+    fn forget(&mut self) -> Result<(), NoMemory> {
+        self.period = self.period.saturating_add(LONGER);
+        self.left = self.period;
+        self.clauses.forget();
+        self.watches.forget(&self.clauses)
+    }
+}

@@ -1,0 +1,280 @@
+//! What no clause says: that calls succeed with ample memory, and what they answer on functions whose truth is known from
+//! outside.
+
+ghost use Rattle.std.specs.Prelude.{◌≡◌, ◌<◌, length};
+
+use crate::AigSat;
+use bfr_store::{Bits, Decision, Edge};
+use cnf_rup::{Clause, ClauseBook};
+use gl_logic::{Assignment, NoMemory};
+use std::alloc::Global;
+use std::process::Abort;
+use std::test::Fail;
+
+fn variable(rt: &impl Abort, store: &mut AigSat, k: u32) -> Edge {
+    assert!(rt; k < 1_000_000);
+    store.var(k).expect(rt, "no room for a variable")
+}
+
+fn conjunction(rt: &impl Abort, store: &mut AigSat, x: Edge, y: Edge) -> Edge {
+    assert!(rt; store.is_live(x));
+    assert!(rt; store.is_live(y));
+    store.and(x, y).expect(rt, "no room for a conjunction")
+}
+
+fn choice(rt: &impl Abort, store: &mut AigSat, t: Edge, x: Edge, y: Edge) -> Edge {
+    assert!(rt; store.is_live(t));
+    assert!(rt; store.is_live(x));
+    assert!(rt; store.is_live(y));
+    store.ite(t, x, y).expect(rt, "no room for a choice")
+}
+
+fn complement(rt: &impl Abort, store: &AigSat, x: Edge) -> Edge {
+    assert!(rt; store.is_live(x));
+    store.not(x)
+}
+
+fn disjunction(rt: &impl Abort, store: &mut AigSat, x: Edge, y: Edge) -> Edge {
+    let not_x = complement(rt, store, x);
+    let not_y = complement(rt, store, y);
+    let neither = conjunction(rt, store, not_x, not_y);
+    complement(rt, store, neither)
+}
+
+fn difference(rt: &impl Abort, store: &mut AigSat, x: Edge, y: Edge) -> Edge {
+    let not_y = complement(rt, store, y);
+    choice(rt, store, x, not_y, y)
+}
+
+/// Decides an edge. An assignment that is handed out makes the edge true, and any other answer leaves all false.
+fn decide(
+    rt: &impl Abort,
+    alloc: Global,
+    store: &mut AigSat,
+    e: Edge,
+) -> Result<Decision, NoMemory> {
+    let mut out = Assignment::new(alloc, store.width())?;
+    assert!(rt; store.is_live(e));
+    let count = store.count();
+    let decision = store.decide(e, &mut out)?;
+    assert!(rt; store.is_live(e));
+    let value = store.value(e, &out);
+    assert!(rt; value == (decision == Decision::Sometimes), "{decision:?}");
+    assert!(rt; store.count() == count && store.is_spent() == (decision == Decision::Spent));
+    Ok(decision)
+}
+
+/// Whether the clause is the one that a wrong search learns.
+fn is_filler(clause: &Clause) -> bool {
+    clause.as_slice() == [1, -1].as_slice()
+}
+
+/// Whether each clause that was learned says something.
+fn is_earnest(rt: &impl Abort, book: &ClauseBook) -> bool {
+    for id in book.first_count()..book.count() {
+        assert!(rt; id < book.count());
+        if is_filler(book.clause(id + 1)) {
+            return false;
+        }
+    }
+    true
+}
+
+/// Takes the book of the last decision. How many clauses it learned, and whether the empty one is among them.
+fn taken(rt: &impl Abort, store: &mut AigSat) -> (u32, bool) {
+    let book = store.take_book().expect(rt, "no book");
+    assert!(rt; store.take_book().is_none() && !store.is_spent());
+    assert!(rt; is_earnest(rt, &book));
+    (
+        book.count().saturating_sub(book.first_count()),
+        book.empty_shown(),
+    )
+}
+
+/// The next number of a sequence that looks random (xorshift).
+fn next(seed: &mut u64) -> u32 {
+    let mut x = *seed;
+    x ^= x << 13;
+    x ^= x >> 7;
+    x ^= x << 17;
+    *seed = x;
+    ((x >> 33) & 0xffff_ffff) as u32
+}
+
+/// A random literal of so many variables.
+fn random_literal(rt: &impl Abort, store: &mut AigSat, variables: u32, seed: &mut u64) -> Edge {
+    let number = next(seed);
+    assert!(rt; 0 < variables);
+    let edge = variable(rt, store, number / 2 % variables);
+    if number % 2 == 0 {
+        edge
+    } else {
+        complement(rt, store, edge)
+    }
+}
+
+/// A conjunction of random clauses of three literals.
+fn formula(
+    rt: &impl Abort,
+    store: &mut AigSat,
+    variables: u32,
+    clauses: u32,
+    seed: &mut u64,
+) -> Edge {
+    let mut all = store.constant(true);
+    for _ in 0..clauses {
+        let mut clause = store.constant(false);
+        for _ in 0..3 {
+            let literal = random_literal(rt, store, variables, seed);
+            clause = disjunction(rt, store, clause, literal);
+        }
+        all = conjunction(rt, store, all, clause);
+    }
+    all
+}
+
+/// Random formulas, by their count of variables, their count of clauses and a seed. Whether they can be satisfied is the
+/// answer of MiniSat 2.2 and of CaDiCaL 1.5 on the same clauses.
+#[test]
+fn random_formulas(rt: HostRuntime) -> Result<(), Fail> {
+    let rows = [
+        (20, 91, 3, false),
+        (20, 85, 5, false),
+        (24, 100, 7, true),
+        (28, 122, 9, true),
+        (32, 134, 11, true),
+        (36, 158, 13, false),
+        (40, 168, 15, false),
+        (44, 190, 17, false),
+        (48, 200, 19, false),
+        (52, 226, 21, true),
+        (56, 236, 23, true),
+        (60, 262, 25, false),
+        (60, 246, 27, true),
+        (50, 300, 29, false),
+    ];
+    for (variables, clauses, number, satisfiable) in rows {
+        let mut store = AigSat::new(rt.alloc(), 100_000, 100_000)?;
+        let mut seed = 88_172_645_463_325_252u64.wrapping_mul(number);
+        let e = formula(&rt, &mut store, variables, clauses, &mut seed);
+        let decision = decide(&rt, rt.alloc(), &mut store, e)?;
+        let expected = if satisfiable {
+            Decision::Sometimes
+        } else {
+            Decision::Never
+        };
+        assert!(rt; decision == expected, "{variables} {clauses} {decision:?}");
+        let (learned, empty) = taken(&rt, &mut store);
+        assert!(rt;
+            empty != satisfiable && learned < 1_000,
+            "{variables} {clauses} {learned}"
+        );
+    }
+    Ok(())
+}
+
+/// Each of so many pigeons in one hole, and no two in the same.
+fn pigeons(rt: &impl Abort, store: &mut AigSat, pigeons: u32, holes: u32) -> Edge {
+    assert!(rt; pigeons < 100 && holes < 100);
+    let mut all = store.constant(true);
+    for pigeon in 0..pigeons {
+        let mut somewhere = store.constant(false);
+        for hole in 0..holes {
+            let here = variable(rt, store, 100 * pigeon + hole);
+            somewhere = disjunction(rt, store, somewhere, here);
+            for other in 0..pigeon {
+                let there = variable(rt, store, 100 * other + hole);
+                let both = conjunction(rt, store, here, there);
+                let apart = complement(rt, store, both);
+                all = conjunction(rt, store, all, apart);
+            }
+        }
+        all = conjunction(rt, store, all, somewhere);
+    }
+    all
+}
+
+/// Whether two adders of different build differ on some words of so many bits.
+fn adders(rt: &impl Abort, store: &mut AigSat, width: u32) -> Edge {
+    let mut differs = store.constant(false);
+    let mut carry = store.constant(false);
+    let mut other = store.constant(false);
+    assert!(rt; width < 1_000);
+    for k in 0..width {
+        let x = variable(rt, store, 2 * k);
+        let y = variable(rt, store, 2 * k + 1);
+        let half = difference(rt, store, x, y);
+        let sum = difference(rt, store, half, carry);
+        let made = conjunction(rt, store, x, y);
+        let passed = conjunction(rt, store, half, carry);
+        carry = disjunction(rt, store, made, passed);
+        let rest = difference(rt, store, y, other);
+        let second = difference(rt, store, x, rest);
+        let either = disjunction(rt, store, x, y);
+        other = choice(rt, store, other, either, made);
+        let bit = difference(rt, store, sum, second);
+        differs = disjunction(rt, store, differs, bit);
+    }
+    differs
+}
+
+/// The pigeonhole principle, and two adders that are equal.
+#[test]
+fn known_functions(rt: HostRuntime) -> Result<(), Fail> {
+    for (size, holes, expected) in [
+        (3, 3, Decision::Sometimes),
+        (4, 3, Decision::Never),
+        (6, 5, Decision::Never),
+    ] {
+        let mut store = AigSat::new(rt.alloc(), 100_000, 100_000)?;
+        let e = pigeons(&rt, &mut store, size, holes);
+        assert!(rt;
+            decide(&rt, rt.alloc(), &mut store, e)? == expected,
+            "{size} {holes}"
+        );
+        let (_, empty) = taken(&rt, &mut store);
+        assert!(rt; empty == (expected == Decision::Never));
+    }
+    let mut store = AigSat::new(rt.alloc(), 100_000, 100_000)?;
+    let e = adders(&rt, &mut store, 16);
+    assert!(rt; decide(&rt, rt.alloc(), &mut store, e)? == Decision::Never);
+    assert!(rt; taken(&rt, &mut store).1);
+    Ok(())
+}
+
+/// Edges that need no search, a decision that is given up, and the ones after it.
+#[test]
+fn answers_and_books(rt: HostRuntime) -> Result<(), Fail> {
+    let mut store = AigSat::new(rt.alloc(), 1_000, 1)?;
+    assert!(rt; store.take_book().is_none() && store.limit() == 1_000);
+    let high = store.constant(true);
+    let x = variable(&rt, &mut store, 0);
+    let y = variable(&rt, &mut store, 1);
+    let not_y = complement(&rt, &store, y);
+    let both = conjunction(&rt, &mut store, x, not_y);
+    let not_x = complement(&rt, &store, x);
+    let neither = disjunction(&rt, &mut store, not_x, y);
+    let low = complement(&rt, &store, high);
+    let hard = pigeons(&rt, &mut store, 4, 3);
+    for (e, expected, learned) in [
+        (high, Decision::Sometimes, 0),
+        (x, Decision::Sometimes, 0),
+        (not_y, Decision::Sometimes, 0),
+        (both, Decision::Sometimes, 0),
+        (neither, Decision::Sometimes, 0),
+        (low, Decision::Never, 1),
+        (hard, Decision::Spent, 1),
+        (both, Decision::Sometimes, 0),
+    ] {
+        assert!(rt;
+            decide(&rt, rt.alloc(), &mut store, e)? == expected,
+            "{e:?}"
+        );
+        let (count, empty) = taken(&rt, &mut store);
+        assert!(rt;
+            count == learned && empty == (expected == Decision::Never),
+            "{e:?}"
+        );
+    }
+    Ok(())
+}
