@@ -1,0 +1,16 @@
+pub mod Adding
+pub mod ToArena
+pub mod Trimmed
+pub mod BitsOf
+pub mod Chosen
+pub mod FromArena
+pub mod Halves
+pub mod Keeping
+pub mod Linked
+pub mod Memoed
+pub mod Merging
+pub mod Spread
+pub mod Tables
+pub mod Truths
+pub mod Values
+pub mod Walking

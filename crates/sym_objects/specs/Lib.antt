@@ -1,0 +1,17 @@
+pub mod Arenas
+pub mod Bits
+pub mod Constants
+pub mod Hashes
+pub mod Inside
+pub mod Integers
+pub mod Keeps
+pub mod Keys
+pub mod Lending
+pub mod Makes
+pub mod Memos
+pub mod Merging
+pub mod Nodes
+pub mod Seen
+pub mod Table
+pub mod Truths
+pub mod Walks
