@@ -1,0 +1,15 @@
+pub mod Arguments
+pub mod Chars
+pub mod Codes
+pub mod ConstantBits
+pub mod Giving
+pub mod Integers
+pub mod Leaving
+pub mod Memoed
+pub mod Pairing
+pub mod Running
+pub mod Seeing
+pub mod Splitting
+pub mod Stepping
+pub mod Telling
+pub mod Visiting
