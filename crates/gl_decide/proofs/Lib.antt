@@ -1,1 +1,9 @@
 pub mod Agreement
+pub mod Nil
+pub mod Placing
+pub mod Causes
+pub mod Ranges
+pub mod Truths
+pub mod Decided
+pub mod Tried
+pub mod Begun

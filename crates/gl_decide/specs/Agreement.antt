@@ -1,15 +1,21 @@
 -- When two verdicts on one theorem agree.
 use Rattle.std.specs.Prelude.{◌≡◌}
 use Rattle.gl_decide.specs.declared.verdict.Verdict.{Verdict}
-use Rattle.gl_decide.specs.declared.verdict.Verdict.TheVariants.{Proved, Vacuous, Refuted, Uncovered, Unbuilt, Memory}
+use Rattle.gl_decide.specs.declared.verdict.Verdict.TheVariants.{Proved, Vacuous, Refuted, Uncovered}
 
--- they are of one kind, and name one variable where they name one; where memory was refused nothing is said
+-- where both are decided, or name an uncovered variable, they are of one kind, and name one variable; of the other verdicts nothing is said
 abbrev pub Agree : Verdict → Verdict → Type 0
-Agree Memory _ = Unit {0}
-Agree _ Memory = Unit {0}
-Agree Proved Proved = Unit {0}
-Agree Vacuous Vacuous = Unit {0}
-Agree (Refuted env) (Refuted other) = Unit {0}
+Agree Proved Vacuous = ⊥
+Agree Proved (Refuted env) = ⊥
+Agree Proved (Uncovered v) = ⊥
+Agree Vacuous Proved = ⊥
+Agree Vacuous (Refuted env) = ⊥
+Agree Vacuous (Uncovered v) = ⊥
+Agree (Refuted env) Proved = ⊥
+Agree (Refuted env) Vacuous = ⊥
+Agree (Refuted env) (Uncovered v) = ⊥
+Agree (Uncovered v) Proved = ⊥
+Agree (Uncovered v) Vacuous = ⊥
+Agree (Uncovered v) (Refuted env) = ⊥
 Agree (Uncovered v) (Uncovered w) = v.number ≡ w.number
-Agree Unbuilt Unbuilt = Unit {0}
-Agree _ _ = ⊥
+Agree _ _ = Unit {0}

@@ -1,4 +1,11 @@
+pub mod Bounds
 pub mod Theorem
 pub mod TheoremOf
+pub mod Causes
 pub mod Verdicts
 pub mod Agreement
+pub mod Scans
+pub mod Placed
+pub mod Trials
+pub mod Pieces
+pub mod Answered

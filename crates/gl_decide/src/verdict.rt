@@ -1,9 +1,9 @@
 //! What a decision answers.
 
 use gl_logic::TextId;
-use shape_spec::Inputs;
+use shape_spec::{Inputs, Part};
 
-/// The answer on a theorem.
+/// The answer on a theorem. An input that leaves it undecided comes with the part of the theorem that is looked at on it.
 #[derive(Drop)]
 pub enum Verdict {
     /// The conclusion is met wherever the hypothesis is, and some input meets the hypothesis.
@@ -15,6 +15,14 @@ pub enum Verdict {
     /// The first variable, in the order of the bindings, whose shape need not have all its objects that
     /// meet the hypothesis.
     Uncovered(TextId),
+    /// More definitions would be opened inside one another than the part's clock allows.
+    Clock(Part, Inputs),
+    /// Some value on the way is an integer outside 128 bits.
+    Width(Part, Inputs),
+    /// The evaluation visits more subterms than the limit of steps.
+    Steps(Part, Inputs),
+    /// The evaluation speaks of more different cells than the limit of cells.
+    Cells(Part, Inputs),
     /// The theorem has more indices than are scanned.
     Unbuilt,
     /// Memory was refused.
