@@ -1,4 +1,5 @@
 -- What a run has written, by how it ended.
+use Rattle.gl_decide.specs.Bounds.{Bounds}
 use Rattle.std.proofs.Common.{◌≡◌, ◌≤◌, sym, subst, refl, ℕ, List, [], ◌∷◌, take, length, Bool, true, false, cond, Option, Some, None, inl, inr, arith}
 use Rattle.std.specs.Prelude.{OnOk, OnErr, IfOk, IfSome, Result, Ok, Err, nat_lt}
 use Rattle.std.specs.List.{list_any}
@@ -34,8 +35,8 @@ pub whole_front : (old mid new : Option (List ℕ)) (line : List ℕ) → Grows 
 whole_front old mid new line h e = (length line, subst (λ (o : Option (List ℕ)). Grows old o (take (length line) line)) (sym e) (subst (Grows old mid) (sym (take_all (length line) line (omega arith))) h))
 
 -- ---- a run that ends in some way ends with its status
-module _ (most : ℕ) (text : List ℕ) (last : Bool) (old new : Option (List ℕ)) where
-  ends_well : (s : Status) → IsReported s → WritesTranscript most text last old new s → EndsWith most text last old new s
+module _ (bounds : Bounds) (text : List ℕ) (last : Bool) (old new : Option (List ℕ)) where
+  ends_well : (s : Status) → IsReported s → WritesTranscript bounds text last old new s → EndsWith bounds text last old new s
   ends_well status.Good r h = h
   ends_well status.Refuted r h = h
   ends_well status.BookRefused r h = h
@@ -45,7 +46,7 @@ module _ (most : ℕ) (text : List ℕ) (last : Bool) (old new : Option (List �
   ends_well status.NoMemory r h = absurd r
   ends_well status.Usage r h = absurd r
 
-  pub ends_with : (run : Result Status Stop) → EndsBy most text last old new run → IfOk run IsReported → EndsWith most text last old new (status_from run)
+  pub ends_with : (run : Result Status Stop) → EndsBy bounds text last old new run → IfOk run IsReported → EndsWith bounds text last old new (status_from run)
   ends_with (Ok s) h r = ends_well s r h
   ends_with (Err Write) h r = h
   ends_with (Err Memory) h r = h
@@ -81,20 +82,20 @@ reported_by false false false = tt
 reported : (entries : List Entry) → IsReported (status_of entries)
 reported entries = reported_by (list_any is_refusal entries) (nat_lt 0 (counts_of entries).refuted) (nat_lt 0 (counts_of entries).undecided)
 
-module _ (most : ℕ) (text : List ℕ) (last : Bool) (old new : Option (List ℕ)) where
+module _ (bounds : Bounds) (text : List ℕ) (last : Bool) (old new : Option (List ℕ)) where
   -- ---- a text that is read and walked
   module _ (names : List (List ℕ)) (book : Forms) (within : length text ≤ most_bytes) (read : IsReadBy names text book.list book.end) where
-    walk_written : (s : Status) → WritesWalk names most book last old new s → WritesTranscript most text last old new s
+    walk_written : (s : Status) → WritesWalk names bounds book last old new s → WritesTranscript bounds text last old new s
     walk_written s w = (transcript_lines names w.0, (names, w.0, short book.list book.end w.0 within read w.1, refl, w.3), w.2)
 
-    pub walk_reported : (run : Result Status Stop) → IfOk run (WritesWalk names most book last old new) → IfOk run IsReported
+    pub walk_reported : (run : Result Status Stop) → IfOk run (WritesWalk names bounds book last old new) → IfOk run IsReported
     walk_reported (Ok s) w = subst IsReported (sym w.3) (reported w.0)
     walk_reported (Err stop) w = tt
 
-    pub front_written : WritesWalkFront names most book last old new → WritesFront most text last old new
+    pub front_written : WritesWalkFront names bounds book last old new → WritesFront bounds text last old new
     front_written w = (transcript_lines names w.0, status_of w.0, w.2.0, (names, w.0, short book.list book.end w.0 within read w.1, refl, refl), w.2.1)
 
-    pub walked : (run : Result Status Stop) → IfOk run (WritesWalk names most book last old new) → OnErr run (WritesWalkFront names most book last old new) → EndsBy most text last old new run
+    pub walked : (run : Result Status Stop) → IfOk run (WritesWalk names bounds book last old new) → OnErr run (WritesWalkFront names bounds book last old new) → EndsBy bounds text last old new run
     walked (Ok s) h f = walk_written s h
     walked (Err stop) h f = front_written f
 
@@ -106,11 +107,11 @@ module _ (most : ℕ) (text : List ℕ) (last : Bool) (old new : Option (List �
     abbrev alone : List (List ℕ)
     alone = closing_lines (counts_of []) (Some (long_refusal line column))
 
-    long_front : WritesLinesFront last alone old new → WritesFront most text last old new
+    long_front : WritesLinesFront last alone old new → WritesFront bounds text last old new
     long_front w = (alone, status.BookRefused, w.0, ([], only, long line column beyond, refl, refl), w.1)
 
     pub too_long : (run : Result Status Stop) (counts : Counts) → counts ≡ counts_of [] → OnOk run (WritesLines last (closing_lines counts (Some (long_refusal line column))) old new) → IfOk run (λ s. s ≡ status.BookRefused)
-        → OnErr run (WritesLinesFront last (closing_lines counts (Some (long_refusal line column))) old new) → EndsBy most text last old new run
+        → OnErr run (WritesLinesFront last (closing_lines counts (Some (long_refusal line column))) old new) → EndsBy bounds text last old new run
     too_long (Ok s) counts none w e f = (alone, ([], only, long line column beyond, refl, e), subst (λ c. WritesLines last (closing_lines c (Some (long_refusal line column))) old new) none w)
     too_long (Err stop) counts none w e f = long_front (subst (λ c. WritesLinesFront last (closing_lines c (Some (long_refusal line column))) old new) none f)
 
@@ -119,16 +120,16 @@ refused_reported (Ok s) e = subst IsReported (sym e) tt
 refused_reported (Err stop) e = tt
 
 -- ---- books whose bytes may not be told
-pub of_text : (most : ℕ) (held old new : Option (List ℕ)) (s : Status) (text : List ℕ) → IfSome held (λ bytes. text ≡ bytes) → EndsWith most text false old new s → WritesBook most held old new s
-of_text most held old new s text t w = record { text = text; told = t; written = w }
+pub of_text : (bounds : Bounds) (held old new : Option (List ℕ)) (s : Status) (text : List ℕ) → IfSome held (λ bytes. text ≡ bytes) → EndsWith bounds text false old new s → WritesBook bounds held old new s
+of_text bounds held old new s text t w = record { text = text; told = t; written = w }
 
-pub of_long_book : (most : ℕ) (held old new : Option (List ℕ)) (line column : ℕ) (s : Status) → (text : List ℕ) × IfSome held (λ bytes. text ≡ bytes) × IsBeyond most_bytes text line column
-    → ((m : ℕ) (text : List ℕ) → IsBeyond most_bytes text line column → EndsWith m text false old new s) → WritesBook most held old new s
-of_long_book most held old new line column s h f = of_text most held old new s h.0 h.1 (f most h.0 h.2)
+pub of_long_book : (bounds : Bounds) (held old new : Option (List ℕ)) (line column : ℕ) (s : Status) → (text : List ℕ) × IfSome held (λ bytes. text ≡ bytes) × IsBeyond most_bytes text line column
+    → ((m : Bounds) (text : List ℕ) → IsBeyond most_bytes text line column → EndsWith m text false old new s) → WritesBook bounds held old new s
+of_long_book bounds held old new line column s h f = of_text bounds held old new s h.0 h.1 (f bounds h.0 h.2)
 
 -- ---- each text has a transcript, and nothing is the front of it
-pub some_transcript : (most : ℕ) (text : List ℕ) → (lines : List (List ℕ)) × (s : Status) × IsTranscript most text lines s
-some_transcript most text = elim (cases_Bool (nat_lt most_bytes (length text))) [
+pub some_transcript : (bounds : Bounds) (text : List ℕ) → (lines : List (List ℕ)) × (s : Status) × IsTranscript bounds text lines s
+some_transcript bounds text = elim (cases_Bool (nat_lt most_bytes (length text))) [
   | inl e ↦
       let place = behind first_place (take most_bytes text) in
       let entries : List Entry = Refused (long_refusal place.line place.column) ∷ [] in
@@ -137,13 +138,13 @@ some_transcript most text = elim (cases_Bool (nat_lt most_bytes (length text))) 
       let names = table first_table text in
       let read = some_reading names (start text) in
       let by : IsReadBy names text read.0 read.1 = record { table = is_table first_table text; reads = read.2; numbered = table_numbers first_table text read.0 read.1 read.2 } in
-      let walk = some_walk names most read.1 first_state read.0 in
+      let walk = some_walk names bounds read.1 first_state read.0 in
       (transcript_lines names walk.0, status_of walk.0, (names, walk.0, short read.0 read.1 walk.0 (ltb-false most_bytes (length text) e) by walk.1, refl, refl))
 ]
 
-pub nothing_written : (most : ℕ) (text : List ℕ) (last : Bool) (old new : Option (List ℕ)) → old ≡ new → WritesFront most text last old new
-nothing_written most text last old new e = let t = some_transcript most text in (t.0, t.1, 0, t.2, subst (λ (o : Option (List ℕ)). Grows old o []) e (grows_nothing old))
+pub nothing_written : (bounds : Bounds) (text : List ℕ) (last : Bool) (old new : Option (List ℕ)) → old ≡ new → WritesFront bounds text last old new
+nothing_written bounds text last old new e = let t = some_transcript bounds text in (t.0, t.1, 0, t.2, subst (λ (o : Option (List ℕ)). Grows old o []) e (grows_nothing old))
 
-pub of_no_memory : (most : ℕ) (held old new : Option (List ℕ)) → old ≡ new → WritesBook most held old new status.NoMemory
-of_no_memory most None old new e = record { text = []; told = tt; written = nothing_written most [] false old new e }
-of_no_memory most (Some t) old new e = record { text = t; told = refl; written = nothing_written most t false old new e }
+pub of_no_memory : (bounds : Bounds) (held old new : Option (List ℕ)) → old ≡ new → WritesBook bounds held old new status.NoMemory
+of_no_memory bounds None old new e = record { text = []; told = tt; written = nothing_written bounds [] false old new e }
+of_no_memory bounds (Some t) old new e = record { text = t; told = refl; written = nothing_written bounds t false old new e }

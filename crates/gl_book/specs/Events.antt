@@ -5,6 +5,7 @@ use Rattle.gl_logic.specs.Object.{Object, Int, Symbol, Cons}
 use Rattle.gl_logic.specs.Exp.{Exp}
 use Rattle.shape_spec.specs.ShapeSeen.{ShapeSeen, Integer}
 use Rattle.shape_spec.specs.Indices.{variables_of}
+use Rattle.shape_spec.specs.declared.theorem.Mode.TheVariants as mode
 use Rattle.gl_decide.specs.Theorem.{Theorem}
 use Rattle.gl_book.specs.Translation.{spells, term_meant}
 use Rattle.gl_book.specs.declared.state.State.{State}
@@ -90,7 +91,7 @@ bindings_meant names form = option_and_then (auto_from names) (elements form)
 -- the variables of a theorem's terms are the bound ones
 abbrev pub theorem_meant : List (List ℕ) → Object → Object → Object → Object → Option Theorem
 theorem_meant names n h c b =
-    option_and_then (λ name. option_and_then (λ bs. option_and_then (λ hyp. option_map (λ concl. record { name = name; hyp = hyp; concl = concl; bindings = bs })
+    option_and_then (λ name. option_and_then (λ bs. option_and_then (λ hyp. option_map (λ concl. record { name = name; hyp = hyp; concl = concl; bindings = bs; hyp_clk = 1000000; concl_clk = 1000000; mode = mode.Bdd; memoized = [] })
     (term_meant names (variables_of bs) c))
     (term_meant names (variables_of bs) h))
     (bindings_meant names b))

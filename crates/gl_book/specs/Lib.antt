@@ -11,3 +11,4 @@ pub mod Lines
 pub mod Walk
 pub mod Transcript
 pub mod Stops
+pub mod Generated

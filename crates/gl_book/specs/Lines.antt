@@ -6,6 +6,8 @@ use Rattle.gl_logic.specs.Object.{Object}
 use Rattle.gl_base.specs.declared.status.Status.{Status}
 use Rattle.gl_base.specs.declared.status.Status.TheVariants as status
 use Rattle.sexp_print.specs.Printed.{name_of, printed}
+use Rattle.shape_spec.specs.declared.theorem.Part.{Part}
+use Rattle.shape_spec.specs.declared.theorem.Part.TheVariants as part
 use Rattle.sexp_reader.specs.declared.ends.ReadCode.{ReadCode}
 use Rattle.sexp_reader.specs.declared.ends.ReadCode.TheVariants as read
 use Rattle.gl_book.specs.Entry.{Entry, Answered, Refused}
@@ -27,11 +29,23 @@ abbrev pub input_lines : List (List ℕ) → List (ℕ × Object) → List (List
 input_lines names [] = []
 input_lines names (p ∷ env) = named_line names (codes "  ") p.0 (codes " = " ++ printed names p.1) ∷ input_lines names env
 
+abbrev pub part_word : Part → List ℕ
+part_word part.Hyp = codes "hyp"
+part_word part.Concl = codes "concl"
+
+-- a cause on an input of a part
+abbrev pub part_lines : List (List ℕ) → ℕ → List ℕ → Part → List (ℕ × Object) → List (List ℕ)
+part_lines names t word p env = named_line names (codes "UNDECIDED ") t (word ++ part_word p) ∷ input_lines names env
+
 abbrev pub verdict_lines : List (List ℕ) → ℕ → Verdict → List (List ℕ)
 verdict_lines names t verdict.Proved = named_line names (codes "PROVED ") t [] ∷ []
 verdict_lines names t verdict.Vacuous = named_line names (codes "VACUOUS ") t [] ∷ []
 verdict_lines names t (verdict.Refuted env) = named_line names (codes "REFUTED ") t [] ∷ input_lines names env
 verdict_lines names t (verdict.Uncovered v) = named_line names (codes "UNDECIDED ") t (codes " uncovered " ++ name_of names v.number) ∷ []
+verdict_lines names t (verdict.Clock p env) = part_lines names t (codes " clock ") p env
+verdict_lines names t (verdict.Width p env) = part_lines names t (codes " width ") p env
+verdict_lines names t (verdict.Steps p env) = part_lines names t (codes " steps ") p env
+verdict_lines names t (verdict.Cells p env) = part_lines names t (codes " cells ") p env
 verdict_lines names t verdict.Unbuilt = named_line names (codes "UNDECIDED ") t (codes " unbuilt") ∷ []
 verdict_lines names t verdict.Memory = named_line names (codes "UNDECIDED ") t (codes " memory") ∷ []
 
@@ -83,6 +97,10 @@ abbrev pub is_undecided : Answer → Bool
 is_undecided answer.TooLarge = true
 is_undecided answer.NoValue = true
 is_undecided (answer.Decided t (verdict.Uncovered v)) = true
+is_undecided (answer.Decided t (verdict.Clock p env)) = true
+is_undecided (answer.Decided t (verdict.Width p env)) = true
+is_undecided (answer.Decided t (verdict.Steps p env)) = true
+is_undecided (answer.Decided t (verdict.Cells p env)) = true
 is_undecided (answer.Decided t verdict.Unbuilt) = true
 is_undecided (answer.Decided t verdict.Memory) = true
 is_undecided _ = false

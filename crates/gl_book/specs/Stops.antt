@@ -1,4 +1,5 @@
 -- What is written of a walk, and what a run that stops has done to the sink.
+use Rattle.gl_decide.specs.Bounds.{Bounds}
 use Rattle.std.specs.Prelude.{◌≡◌, ℕ, ◌+◌, ◌-◌, ◌^◌, ◌<◌, Bool, cond, List, [], ◌∷◌, take, Option, Some, None, Result, Ok, Err, MatchResult}
 use Rattle.std.specs.List.{concat}
 use Rattle.gl_base.specs.Outside.{Grows, Rose}
@@ -58,12 +59,12 @@ WritesLines last_only lines old new = Grows old new (told last_only lines)
 abbrev pub WritesLinesFront : Bool → List (List ℕ) → Option (List ℕ) → Option (List ℕ) → Type 0
 WritesLinesFront last_only lines old new = (n : ℕ) × Grows old new (take n (told last_only lines))
 
-abbrev pub WritesWalk : List (List ℕ) → ℕ → Forms → Bool → Option (List ℕ) → Option (List ℕ) → Status → Type 0
-WritesWalk names most book last_only old new s =
-    (entries : List Entry) × Walk names most first_state book.list book.end entries × WritesLines last_only (transcript_lines names entries) old new × (s ≡ status_of entries)
+abbrev pub WritesWalk : List (List ℕ) → Bounds → Forms → Bool → Option (List ℕ) → Option (List ℕ) → Status → Type 0
+WritesWalk names bounds book last_only old new s =
+    (entries : List Entry) × Walk names bounds first_state book.list book.end entries × WritesLines last_only (transcript_lines names entries) old new × (s ≡ status_of entries)
 
-abbrev pub WritesWalkFront : List (List ℕ) → ℕ → Forms → Bool → Option (List ℕ) → Option (List ℕ) → Type 0
-WritesWalkFront names most book last_only old new = (entries : List Entry) × Walk names most first_state book.list book.end entries × WritesLinesFront last_only (transcript_lines names entries) old new
+abbrev pub WritesWalkFront : List (List ℕ) → Bounds → Forms → Bool → Option (List ℕ) → Option (List ℕ) → Type 0
+WritesWalkFront names bounds book last_only old new = (entries : List Entry) × Walk names bounds first_state book.list book.end entries × WritesLinesFront last_only (transcript_lines names entries) old new
 
 -- lines before the last one: all of them, or none where the last one alone is told
 abbrev pub told_before : Bool → List (List ℕ) → List ℕ
@@ -84,6 +85,6 @@ IsReported status.Usage = ⊥
 IsReported s = Unit {0}
 
 -- what a run over these bytes has written, by how it ends: a status that a transcript gives, or a stop
-abbrev pub EndsBy : ℕ → List ℕ → Bool → Option (List ℕ) → Option (List ℕ) → Result Status Stop → Type 0
-EndsBy most bytes last_only old new (Ok s) = WritesTranscript most bytes last_only old new s
-EndsBy most bytes last_only old new (Err stop) = WritesFront most bytes last_only old new
+abbrev pub EndsBy : Bounds → List ℕ → Bool → Option (List ℕ) → Option (List ℕ) → Result Status Stop → Type 0
+EndsBy bounds bytes last_only old new (Ok s) = WritesTranscript bounds bytes last_only old new s
+EndsBy bounds bytes last_only old new (Err stop) = WritesFront bounds bytes last_only old new

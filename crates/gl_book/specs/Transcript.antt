@@ -1,4 +1,5 @@
 -- The transcript of a book.
+use Rattle.gl_decide.specs.Bounds.{Bounds}
 use Rattle.std.specs.Prelude.{◌≡◌, ℕ, ◌-◌, ◌≤◌, Bool, false, cond, List, [], ◌∷◌, length, take, get_or, All, Option, IfSome}
 use Rattle.std.specs.List.{concat}
 use Rattle.gl_logic.specs.Numbered.{IsNumbered}
@@ -32,14 +33,14 @@ pub record IsReadBy (names : List (List ℕ)) (bytes : List ℕ) (forms : List F
   pub numbered : All (λ form. IsNumbered (length names) form.tree) forms
 
 -- what comes of a text: it is too long, or its forms are walked
-pub data ComesOf (names : List (List ℕ)) (most : ℕ) (bytes : List ℕ) : List Entry → Type 0 where
-  long : (line column : ℕ) → IsBeyond most_bytes bytes line column → ComesOf names most bytes (Refused (long_refusal line column) ∷ [])
+pub data ComesOf (names : List (List ℕ)) (bounds : Bounds) (bytes : List ℕ) : List Entry → Type 0 where
+  long : (line column : ℕ) → IsBeyond most_bytes bytes line column → ComesOf names bounds bytes (Refused (long_refusal line column) ∷ [])
   short : (forms : List Form) (end : End) (entries : List Entry) → length bytes ≤ most_bytes → IsReadBy names bytes forms end
-      → Walk names most first_state forms end entries → ComesOf names most bytes entries
+      → Walk names bounds first_state forms end entries → ComesOf names bounds bytes entries
 
--- `most` is the count of indices up to which a theorem is scanned
-abbrev pub IsTranscript : ℕ → List ℕ → List (List ℕ) → Status → Type 0
-IsTranscript most bytes lines s = (names : List (List ℕ)) × (entries : List Entry) × ComesOf names most bytes entries × (lines ≡ transcript_lines names entries) × (s ≡ status_of entries)
+-- by the limits of the run
+abbrev pub IsTranscript : Bounds → List ℕ → List (List ℕ) → Status → Type 0
+IsTranscript bounds bytes lines s = (names : List (List ℕ)) × (entries : List Entry) × ComesOf names bounds bytes entries × (lines ≡ transcript_lines names entries) × (s ≡ status_of entries)
 
 -- ---- what is written
 -- all lines, or the last one alone
@@ -47,23 +48,23 @@ abbrev pub told : Bool → List (List ℕ) → List ℕ
 told last_only lines = cond last_only (get_or lines (length lines - 1) []) (concat lines)
 
 -- a transcript with this status was written
-abbrev pub WritesTranscript : ℕ → List ℕ → Bool → Option (List ℕ) → Option (List ℕ) → Status → Type 0
-WritesTranscript most bytes last_only old new s = (lines : List (List ℕ)) × IsTranscript most bytes lines s × Grows old new (told last_only lines)
+abbrev pub WritesTranscript : Bounds → List ℕ → Bool → Option (List ℕ) → Option (List ℕ) → Status → Type 0
+WritesTranscript bounds bytes last_only old new s = (lines : List (List ℕ)) × IsTranscript bounds bytes lines s × Grows old new (told last_only lines)
 
 -- the front of one was written
-abbrev pub WritesFront : ℕ → List ℕ → Bool → Option (List ℕ) → Option (List ℕ) → Type 0
-WritesFront most bytes last_only old new = (lines : List (List ℕ)) × (s : Status) × (n : ℕ) × IsTranscript most bytes lines s × Grows old new (take n (told last_only lines))
+abbrev pub WritesFront : Bounds → List ℕ → Bool → Option (List ℕ) → Option (List ℕ) → Type 0
+WritesFront bounds bytes last_only old new = (lines : List (List ℕ)) × (s : Status) × (n : ℕ) × IsTranscript bounds bytes lines s × Grows old new (take n (told last_only lines))
 
 -- what a run over these bytes has written when it ends with a status: a front alone where a write failed or memory was refused
-abbrev pub EndsWith : ℕ → List ℕ → Bool → Option (List ℕ) → Option (List ℕ) → Status → Type 0
-EndsWith most bytes last_only old new status.ReadFault = ⊥
-EndsWith most bytes last_only old new status.Usage = ⊥
-EndsWith most bytes last_only old new status.WriteFault = WritesFront most bytes last_only old new
-EndsWith most bytes last_only old new status.NoMemory = WritesFront most bytes last_only old new
-EndsWith most bytes last_only old new s = WritesTranscript most bytes last_only old new s
+abbrev pub EndsWith : Bounds → List ℕ → Bool → Option (List ℕ) → Option (List ℕ) → Status → Type 0
+EndsWith bounds bytes last_only old new status.ReadFault = ⊥
+EndsWith bounds bytes last_only old new status.Usage = ⊥
+EndsWith bounds bytes last_only old new status.WriteFault = WritesFront bounds bytes last_only old new
+EndsWith bounds bytes last_only old new status.NoMemory = WritesFront bounds bytes last_only old new
+EndsWith bounds bytes last_only old new s = WritesTranscript bounds bytes last_only old new s
 
 -- what a run has written of a book whose bytes may not be told: what it writes of some text, which is the book's where it is told
-pub record WritesBook (most : ℕ) (held old new : Option (List ℕ)) (s : Status) : Type 0 where
+pub record WritesBook (bounds : Bounds) (held old new : Option (List ℕ)) (s : Status) : Type 0 where
   pub text : List ℕ
   pub told : IfSome held (λ bytes. text ≡ bytes)
-  pub written : EndsWith most text false old new s
+  pub written : EndsWith bounds text false old new s

@@ -2,6 +2,7 @@
 
 ghost use Rattle.std.specs.Prelude.{[]};
 ghost use Rattle.gl_logic.specs.TermOf.{term_of};
+ghost use Rattle.gl_decide.specs.Bounds.{bounds_of};
 ghost use Rattle.gl_book.specs.Plain.{IsPlain};
 ghost use Rattle.gl_book.specs.Events.{Value};
 ghost use Rattle.gl_book.specs.EventOf.{event_of};
@@ -35,7 +36,7 @@ pub enum Answer {
 pub fn answer_of(alloc: Global, event: &Event, limits: &Limits) -> Answer
     requires plain { IsPlainEvent (event_of event.now) }
     requires modest { IsModest (event_of event.now) }
-    ensures { IsProperAnswer limits.now.enum_bits (event_of event.now) result }
+    ensures { IsProperAnswer (bounds_of limits.now) (event_of event.now) result }
 {
     match event {
         Event::Value(term) => value_answer(alloc, term),

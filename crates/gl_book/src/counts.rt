@@ -49,9 +49,9 @@ fn undecided(answer: &Answer) -> bool
         Answer::Value(_) => false,
         Answer::TooLarge | Answer::NoValue => true,
         Answer::Decided(_, verdict) => {
-            matches!(
+            !matches!(
                 verdict,
-                Verdict::Uncovered(_) | Verdict::Unbuilt | Verdict::Memory
+                Verdict::Proved | Verdict::Vacuous | Verdict::Refuted(_)
             )
         }
     }

@@ -3,6 +3,8 @@
 ghost use Rattle.std.specs.Prelude.{◌≡◌, ◌≤◌};
 ghost use Rattle.shape_spec.specs.Indices.{variables_of};
 ghost use Rattle.gl_book.specs.Plain.{IsPlain};
+ghost use Rattle.gl_book.specs.Walk.{no_world};
+ghost use Rattle.gl_decide.specs.Bounds.{bounds_of};
 ghost use Rattle.gl_decide.specs.TheoremOf.{theorem_of};
 ghost use Rattle.gl_decide.specs.Verdicts.{IsCovered, IsProperVerdict, NamesTheLeast};
 
@@ -20,25 +22,25 @@ use std::alloc::Global;
 pub fn decide_theorem(alloc: Global, thm: &Thm, limits: &Limits) -> Verdict
     requires hyp { IsPlain (variables_of (theorem_of thm.now).bindings) (theorem_of thm.now).hyp }
     requires concl { IsPlain (variables_of (theorem_of thm.now).bindings) (theorem_of thm.now).concl }
-    ensures proper { IsProperVerdict limits.now.enum_bits (theorem_of thm.now) result }
-    ensures least { NamesTheLeast (theorem_of thm.now) result }
+    ensures proper { IsProperVerdict no_world (bounds_of limits.now) (theorem_of thm.now) result }
+    ensures least { NamesTheLeast no_world (theorem_of thm.now) result }
 {
     match covers(alloc, &thm.hyp, &thm.concl, &thm.bindings) {
-        Ok(None) => decide_covered(alloc, thm, limits.enum_bits),
+        Ok(None) => decide_covered(alloc, thm, limits),
         Ok(Some(variable)) => Verdict::Uncovered(variable),
         Err(_) => Verdict::Memory,
     }
 }
 
-fn decide_covered(alloc: Global, thm: &Thm, enum_bits: u8) -> Verdict
+fn decide_covered(alloc: Global, thm: &Thm, limits: &Limits) -> Verdict
     requires hyp { IsPlain (variables_of (theorem_of thm.now).bindings) (theorem_of thm.now).hyp }
     requires concl { IsPlain (variables_of (theorem_of thm.now).bindings) (theorem_of thm.now).concl }
     requires covered { IsCovered (theorem_of thm.now) }
-    requires most { enum_bits ≤ 16 }
-    ensures proper { IsProperVerdict enum_bits (theorem_of thm.now) result }
-    ensures least { NamesTheLeast (theorem_of thm.now) result }
+    ensures proper { IsProperVerdict no_world (bounds_of limits.now) (theorem_of thm.now) result }
+    ensures least { NamesTheLeast no_world (theorem_of thm.now) result }
 {
-    if bit_count(&thm.bindings) > u32::from(enum_bits) {
+    let limits = *limits;
+    if bit_count(&thm.bindings) > u32::from(limits.enum_bits) {
         return Verdict::Unbuilt;
     }
     match scan(alloc, thm) {

@@ -2,6 +2,7 @@
 //!
 //! - forms to events: `state` of the next form, `one_event` of one form, `event`, `translate`, `marks`, `spelling`, `parts`, `nats`, `nat`, `name_set`;
 //! - events to answers: `answer`, `decide`, `scan`, `walker`, `primitives`, `size`;
+//! - a large book made from a number: `generator`;
 //! - answers to what is written: `walk` over all forms, `lines`, `refusal`, `counts`, `line_list`, `put_lines`, `stop`, `run`.
 #![tactic(auto)]
 
@@ -9,6 +10,7 @@ mod answer;
 mod counts;
 mod decide;
 mod event;
+mod generator;
 mod line_list;
 mod lines;
 mod marks;
@@ -32,5 +34,6 @@ mod walker;
 
 pub use answer::Answer;
 pub use event::Event;
+pub use generator::generate;
 pub use run::{every_text_has_a_transcript, run_book, run_text};
 pub use walk::every_walk_goes_on;

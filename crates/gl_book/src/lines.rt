@@ -2,14 +2,14 @@
 
 ghost use Rattle.std.specs.Prelude.{◌≡◌, [], ◌∷◌, ◌++◌, length, codes, IfOk, OnOk};
 ghost use Rattle.sexp_print.specs.Printed.{name_of, printed};
-ghost use Rattle.gl_book.specs.Lines.{named_line, input_lines, verdict_lines, answer_lines};
+ghost use Rattle.gl_book.specs.Lines.{named_line, input_lines, part_word, part_lines, verdict_lines, answer_lines};
 
 use super::answer::Answer;
 use super::line_list::Lines;
 use gl_decide::Verdict;
 use gl_logic::{NoMemory, TextId, Texts, Tree};
 use sexp_print::print;
-use shape_spec::Inputs;
+use shape_spec::{Inputs, Part};
 use std::alloc::Global;
 
 /// Adds the lines of an answer.
@@ -72,9 +72,56 @@ fn add_verdict(
             add_input(alloc, input, texts, lines)
         }
         Verdict::Uncovered(variable) => add_uncovered(alloc, name, *variable, texts, lines),
+        Verdict::Clock(part, input) => add_part(
+            alloc, name, b" clock ", *part, input, texts, lines,
+        ),
+        Verdict::Width(part, input) => add_part(
+            alloc, name, b" width ", *part, input, texts, lines,
+        ),
+        Verdict::Steps(part, input) => add_part(
+            alloc, name, b" steps ", *part, input, texts, lines,
+        ),
+        Verdict::Cells(part, input) => add_part(
+            alloc, name, b" cells ", *part, input, texts, lines,
+        ),
         Verdict::Unbuilt => add_named(alloc, b"UNDECIDED ", name, b" unbuilt", texts, lines),
         Verdict::Memory => add_named(alloc, b"UNDECIDED ", name, b" memory", texts, lines),
     }
+}
+
+/// The word for a part.
+fn word_of_part(part: Part) -> &'static [u8]
+    ensures { result.now ≡ part_word part }
+{
+    match part {
+        Part::Hyp => b"hyp",
+        Part::Concl => b"concl",
+    }
+}
+
+fn part_words(alloc: Global, word: &[u8], part: Part) -> Result<Vec<u8>, NoMemory>
+    ensures { IfOk result (λ v. v.items ≡ word.now ++ part_word part) }
+{
+    let mut words = word.to_vec(alloc)?;
+    words.extend_from_slice(word_of_part(part))?;
+    Ok(words)
+}
+
+/// A theorem that is left undecided for a cause on an input of a part.
+fn add_part(
+    alloc: Global,
+    name: TextId,
+    word: &[u8],
+    part: Part,
+    input: &Inputs,
+    texts: &Texts,
+    lines: &mut Lines,
+) -> Result<(), NoMemory>
+    ensures { OnOk result (lines.new ≡ lines.old ++ part_lines texts.now name.number word.now part input.now) }
+{
+    let after = part_words(alloc, word, part)?;
+    add_named(alloc, b"UNDECIDED ", name, &after, texts, lines)?;
+    add_input(alloc, input, texts, lines)
 }
 
 fn add_uncovered(

@@ -4,6 +4,7 @@ ghost use Rattle.std.specs.Prelude.{◌≡◌, ◌≢◌, ◌≤◌, ℕ, List, 
 ghost use Rattle.gl_base.specs.Outside.{Rose};
 ghost use Rattle.gl_base.specs.declared.status.Status.{Status as StatusSeen};
 ghost use Rattle.sexp_reader.specs.Book.{IsBeyond};
+ghost use Rattle.gl_decide.specs.Bounds.{Bounds, bounds_of};
 ghost use Rattle.gl_book.specs.Transcript.{IsTranscript, EndsWith, WritesBook, most_bytes};
 ghost use Rattle.gl_book.specs.Stops.{EndsBy, status_from, IsCounted, IsReported};
 
@@ -33,7 +34,7 @@ pub fn run_text<R: Threads + Sync, K: Sink>(
     last_only: bool,
     out: &mut K,
 ) -> Status
-    ensures written { EndsWith limits.now.enum_bits text.now last_only (K.written out.old) (K.written out.new) result }
+    ensures written { EndsWith (bounds_of limits.now) text.now last_only (K.written out.old) (K.written out.new) result }
     ensures write_fault { result ≡ Status.WriteFault → Rose (K.faults out.old) (K.faults out.new) }
     ensures no_write_fault { result ≢ Status.WriteFault → K.faults out.new ≡ K.faults out.old }
     ensures no_read_fault { result ≢ Status.ReadFault }
@@ -57,7 +58,7 @@ pub fn run_book<R: Threads + Sync, S: Shelf, K: Sink>(
     shelf: &mut S,
     out: &mut K,
 ) -> Status
-    ensures written { result ≢ Status.ReadFault → WritesBook limits.now.enum_bits (S.holds shelf.old name.now) (K.written out.old) (K.written out.new) result }
+    ensures written { result ≢ Status.ReadFault → WritesBook (bounds_of limits.now) (S.holds shelf.old name.now) (K.written out.old) (K.written out.new) result }
     ensures read_fault { result ≡ Status.ReadFault → Rose (S.faults shelf.old) (S.faults shelf.new) }
     ensures no_read_fault { result ≢ Status.ReadFault → S.faults shelf.new ≡ S.faults shelf.old }
     ensures unwritten { result ≡ Status.ReadFault → K.written out.new ≡ K.written out.old }
@@ -98,7 +99,7 @@ fn write_text<K: Sink>(
     out: &mut K,
 ) -> Result<Status, Stop>
     requires { length text.now ≤ most_bytes }
-    ensures written { EndsBy limits.now.enum_bits text.now last_only (K.written out.old) (K.written out.new) result }
+    ensures written { EndsBy (bounds_of limits.now) text.now last_only (K.written out.old) (K.written out.new) result }
     ensures reported { IfOk result IsReported }
     ensures cause { IsCounted (K.faults out.old) (K.faults out.new) result }
 {
@@ -119,7 +120,7 @@ fn refuse_long<K: Sink>(
     last_only: bool,
     out: &mut K,
 ) -> Status
-    ensures written { (most : ℕ) (text : List ℕ) → IsBeyond most_bytes text line column → EndsWith most text last_only (K.written out.old) (K.written out.new) result }
+    ensures written { (bounds : Bounds) (text : List ℕ) → IsBeyond most_bytes text line column → EndsWith bounds text last_only (K.written out.old) (K.written out.new) result }
     ensures write_fault { result ≡ Status.WriteFault → Rose (K.faults out.old) (K.faults out.new) }
     ensures no_write_fault { result ≢ Status.WriteFault → K.faults out.new ≡ K.faults out.old }
     ensures no_read_fault { result ≢ Status.ReadFault }
@@ -135,5 +136,5 @@ fn refuse_long<K: Sink>(
 
 /// A law: each text has a transcript.
 pub fn every_text_has_a_transcript()
-    ensures { (most : ℕ) (text : List ℕ) → (lines : List (List ℕ)) × (s : StatusSeen) × IsTranscript most text lines s }
+    ensures { (bounds : Bounds) (text : List ℕ) → (lines : List (List ℕ)) × (s : StatusSeen) × IsTranscript bounds text lines s }
 {}

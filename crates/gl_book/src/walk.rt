@@ -7,6 +7,7 @@ ghost use Rattle.gl_base.specs.Outside.{Grows};
 ghost use Rattle.sexp_reader.specs.Sizes.{IsNarrow};
 ghost use Rattle.sexp_reader.specs.declared.list.Form.{Form};
 ghost use Rattle.sexp_reader.specs.declared.ends.End.{End as EndSeen};
+ghost use Rattle.gl_decide.specs.Bounds.{Bounds, bounds_of};
 ghost use Rattle.gl_book.specs.Entry.{Entry};
 ghost use Rattle.gl_book.specs.Lines.{answer_lines};
 ghost use Rattle.gl_book.specs.Walk.{Walk};
@@ -40,8 +41,8 @@ pub fn walk<K: Sink>(
 ) -> Result<Status, Stop>
     requires narrow { All (λ form. IsNarrow form.tree) book.now.list }
     requires flat { All (λ form. car_steps form.tree ≤ 1000) book.now.list }
-    ensures ok { IfOk result (WritesWalk texts.now limits.now.enum_bits book.now last_only (K.written out.old) (K.written out.new)) }
-    ensures front { OnErr result (WritesWalkFront texts.now limits.now.enum_bits book.now last_only (K.written out.old) (K.written out.new)) }
+    ensures ok { IfOk result (WritesWalk texts.now (bounds_of limits.now) book.now last_only (K.written out.old) (K.written out.new)) }
+    ensures front { OnErr result (WritesWalkFront texts.now (bounds_of limits.now) book.now last_only (K.written out.old) (K.written out.new)) }
     ensures cause { IsCounted (K.faults out.old) (K.faults out.new) result }
 {
     let mut state = State::new(alloc);
@@ -151,6 +152,6 @@ fn lines_that_close(
 
 /// A law: each walk that has come to some forms in some state can be gone on with, whatever memory is refused.
 pub fn every_walk_goes_on()
-    ensures { (names : List (List ℕ)) (most : ℕ) (state : StateSeen) (forms : List Form) (end : EndSeen)
-        → (entries : List Entry) × Walk names most state forms end entries }
+    ensures { (names : List (List ℕ)) (bounds : Bounds) (state : StateSeen) (forms : List Form) (end : EndSeen)
+        → (entries : List Entry) × Walk names bounds state forms end entries }
 {}

@@ -1,4 +1,5 @@
 use Rattle.std.proofs.Common.{sym, refl, [], append-nil}
+use Rattle.gl_decide.specs.Bounds.{bounds_of}
 use Rattle.gl_book.specs.Transcript.{IsReadBy}
 use Rattle.gl_book.proofs.Ends.{walked, walk_reported, nothing_written}
 use Rattle.gl_book.proofs.run.write_text.Goals as goal
@@ -12,7 +13,7 @@ returns-clause-written g c =
       reads = c.in-Ok-forms.ensures.reads names ([], sym (append-nil names));
       numbered = c.in-Ok-forms.ensures.numbered;
     } in
-    walked c.args.limits.now.enum_bits c.args.text.now c.args.last_only _ _ names book c.requires read c.walk.result c.walk.ensures.ok c.walk.ensures.front
+    walked (bounds_of c.args.limits.now) c.args.text.now c.args.last_only _ _ names book c.requires read c.walk.result c.walk.ensures.ok c.walk.ensures.front
 
 pub returns-clause-reported : goal.returns-clause-reported
 returns-clause-reported g c =
@@ -23,10 +24,10 @@ returns-clause-reported g c =
       reads = c.in-Ok-forms.ensures.reads names ([], sym (append-nil names));
       numbered = c.in-Ok-forms.ensures.numbered;
     } in
-    walk_reported c.args.limits.now.enum_bits c.args.text.now c.args.last_only _ _ names book c.requires read c.walk.result c.walk.ensures.ok
+    walk_reported (bounds_of c.args.limits.now) c.args.text.now c.args.last_only _ _ names book c.requires read c.walk.result c.walk.ensures.ok
 
 pub returns-in_default-clause-written : goal.returns-in_default-clause-written
-returns-in_default-clause-written g c = nothing_written c.args.limits.now.enum_bits c.args.text.now c.args.last_only _ _ refl
+returns-in_default-clause-written g c = nothing_written (bounds_of c.args.limits.now) c.args.text.now c.args.last_only _ _ refl
 
 pub returns-in_default-forms-clause-written : goal.returns-in_default-forms-clause-written
-returns-in_default-forms-clause-written g c = nothing_written c.args.limits.now.enum_bits c.args.text.now c.args.last_only _ _ refl
+returns-in_default-forms-clause-written g c = nothing_written (bounds_of c.args.limits.now) c.args.text.now c.args.last_only _ _ refl

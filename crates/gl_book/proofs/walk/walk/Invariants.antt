@@ -1,9 +1,10 @@
 use Rattle.std.proofs.Common.{◌≡◌}
+use Rattle.gl_decide.specs.Bounds.{bounds_of}
 use Rattle.gl_book.proofs.Onward.{Stands}
 use Rattle.gl_book.proofs.walk.walk.Given as goal
 
 abbrev pub invariant-loop-i : goal.invariant-loop-i
 invariant-loop-i g l = record {
   faults : g.K.Sink.faults l.out ≡ g.K.Sink.faults l.fn.out;
-  stands : Stands l.texts l.limits.enum_bits l.book l.last_only (g.K.Sink.written l.fn.out) l.state l.counts l.i (g.K.Sink.written l.out);
+  stands : Stands l.texts (bounds_of l.limits) l.book l.last_only (g.K.Sink.written l.fn.out) l.state l.counts l.i (g.K.Sink.written l.out);
 }
