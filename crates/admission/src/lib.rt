@@ -24,6 +24,3 @@ mod variables;
 pub use clique::admit_clique;
 pub use fault::AdmitFault;
 pub use lone::admit;
-
-#[cfg(test)]
-mod tests;

@@ -1,3 +1,5 @@
 pub mod Adapters
 pub mod Usage
 pub mod Words
+pub mod CommandOf
+pub mod Runs

@@ -1,12 +1,90 @@
--- The words of the command line.
-use Rattle.std.specs.Prelude.{ℕ, List, [], ◌∷◌, ◌==◌, Bool, false, Option, Some, None, if◌then◌else◌}
+-- The words of the command line, and the command that they make.
+use Rattle.std.specs.Prelude.{◌≡◌, ℕ, nat_lt, nat_le, ◌&&◌, if◌then◌else◌, Bool, true, false, List, [], ◌∷◌, length, codes, Option, Some, None, option_map, option_and_then}
+use Rattle.std.specs.List.{list_all}
+use Rattle.std.specs.Str.Parse.{digits_value}
+use Rattle.clap.specs.Words.{App, Rule, Row, Text, new_app, new_rule, with_rule, first_of, matches_of, fault_of}
+use Rattle.clap.specs.declared.builder.ArgAction.TheVariants.{Set}
+use Rattle.gl_decide.specs.Bounds.{Bounds}
 
--- whether a word begins with `-`
-abbrev pub has_dash : List ℕ → Bool
-has_dash [] = false
-has_dash (b ∷ bs) = b == 45
+-- ---- the words that are taken
+-- an option that takes one value
+abbrev pub option_rule : Text → Rule
+option_rule name = record (new_rule name) { long = Some name; action = Some Set }
 
--- the name of the book where the words are a command: one word that does not begin with `-`
-abbrev pub book_named : List (List ℕ) → Option (List ℕ)
-book_named (word ∷ []) = if has_dash word then None else Some word
-book_named _ = None
+-- seven such options, and the name of a book
+unfoldable pub plain_app : App
+plain_app = with_rule (with_rule (with_rule (with_rule (with_rule (with_rule (with_rule (with_rule (new_app (codes "gl")) (option_rule (codes "workers"))) (option_rule (codes "steps"))) (option_rule (codes "cells"))) (option_rule (codes "nodes"))) (option_rule (codes "clauses"))) (option_rule (codes "enum-bits"))) (option_rule (codes "generate"))) (new_rule (codes "BOOK"))
+
+-- the words are those behind the program's name, and there are no flags for help and version
+unfoldable pub gl_app : App
+gl_app = record plain_app { top = record plain_app.top { no_binary_name = true; disable_help_flag = true; disable_version_flag = true } }
+
+-- ---- numbers
+-- one to eight decimal digits
+abbrev pub is_number : Text → Bool
+is_number text = nat_lt 0 (length text) && (nat_le (length text) 8 && list_all (λ b. nat_le 48 b && nat_le b 57) text)
+
+-- the number of a text of one to eight decimal digits, where it lies in a range
+abbrev pub number_within : ℕ → ℕ → Text → Option ℕ
+number_within least most text = if is_number text && (nat_le least (digits_value 10 text) && nat_le (digits_value 10 text) most) then Some (digits_value 10 text) else None
+
+-- the number of an option: its usual one where the option is not there
+abbrev pub option_number : ℕ → ℕ → ℕ → Option Text → Option ℕ
+option_number usual least most None = Some usual
+option_number usual least most (Some text) = number_within least most text
+
+-- ---- commands
+module _ {X : Type 0} where
+  abbrev pub is_empty : List X → Bool
+  is_empty [] = true
+  is_empty (x ∷ xs) = false
+
+-- where the bytes of the book come from
+pub data Source : Type 0 where
+  -- the book of this name
+  Book : Text → Source
+  -- so many theorems of the generator
+  Generated : ℕ → Source
+
+pub record Command : Type 0 where
+  pub bounds : Bounds
+  pub source : Source
+
+-- the options and their ranges
+abbrev pub workers_from : List Row → Option ℕ
+workers_from rows = option_number 1 1 8 (first_of (codes "workers") rows)
+
+abbrev pub steps_from : List Row → Option ℕ
+steps_from rows = option_number 10000000 1 99999999 (first_of (codes "steps") rows)
+
+abbrev pub cells_from : List Row → Option ℕ
+cells_from rows = option_number 1000000 1000 4000000 (first_of (codes "cells") rows)
+
+abbrev pub nodes_from : List Row → Option ℕ
+nodes_from rows = option_number 1000000 100 4000000 (first_of (codes "nodes") rows)
+
+abbrev pub clauses_from : List Row → Option ℕ
+clauses_from rows = option_number 100000 1 1000000 (first_of (codes "clauses") rows)
+
+abbrev pub enum_bits_from : List Row → Option ℕ
+enum_bits_from rows = option_number 12 0 16 (first_of (codes "enum-bits") rows)
+
+abbrev pub bounds_from : List Row → Option Bounds
+bounds_from rows =
+    option_and_then (λ workers. option_and_then (λ steps. option_and_then (λ cells. option_and_then (λ nodes. option_and_then (λ clauses. option_map (λ enum_bits.
+    record { workers = workers; steps = steps; cells = cells; nodes = nodes; clauses = clauses; enum_bits = enum_bits })
+    (enum_bits_from rows)) (clauses_from rows)) (nodes_from rows)) (cells_from rows)) (steps_from rows)) (workers_from rows)
+
+-- exactly one of a book and a number of theorems is there
+abbrev pub source_from : Option Text → Option Text → Option Source
+source_from (Some name) None = Some (Book name)
+source_from None (Some text) = option_map Generated (number_within 0 10000 text)
+source_from _ _ = None
+
+abbrev pub command_from : List Row → Option Command
+command_from rows = option_and_then (λ bounds. option_map (λ source. record { bounds = bounds; source = source })
+    (source_from (first_of (codes "BOOK") rows) (first_of (codes "generate") rows))) (bounds_from rows)
+
+-- the command that words make, where they make one
+abbrev pub command_of : List Text → Option Command
+command_of words = if is_empty (fault_of gl_app words) then command_from (matches_of gl_app words) else None

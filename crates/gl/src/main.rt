@@ -1,4 +1,5 @@
-//! `gl BOOK`: a book's transcript on standard output.
+//! `gl [options] BOOK`: a book's transcript on standard output. `gl [options] --generate N`: the last line of that of a
+//! generated book.
 #![tactic(auto)]
 
 mod adapters;

@@ -1,23 +1,28 @@
 //! The whole program, over any shelf and any sink.
 
-ghost use Rattle.std.specs.Prelude.{◌≡◌, ◌≢◌, ◌⊎◌, false, map, string_bytes, IsNone, IfNone, IfSome};
+ghost use Rattle.std.specs.Prelude.{◌≡◌, ◌≢◌, ◌⊎◌, ◌≤◌, true, map, string_bytes, IsNone, IfNone, IfSome};
 ghost use Rattle.gl_base.specs.Outside.{Rose, Grows, GrowsByFront};
-ghost use Rattle.gl_book.specs.Transcript.{WritesBook};
+ghost use Rattle.gl_decide.specs.Bounds.{bounds_of};
+ghost use Rattle.gl_book.specs.Transcript.{EndsWith};
+ghost use Rattle.gl_book.specs.Generated.{generated};
 ghost use Rattle.gl.specs.Usage.{usage_line};
-ghost use Rattle.gl.specs.Words.{book_named};
+ghost use Rattle.gl.specs.Words.{command_of};
+ghost use Rattle.gl.specs.CommandOf.{command_seen, IsFew};
+ghost use Rattle.gl.specs.Runs.{Writes};
 
 use crate::usage::refuse_words;
-use crate::words::book_of;
+use crate::words::{Command, Source, command_named};
 use gl_base::limits::Limits;
 use gl_base::shelf::Shelf;
 use gl_base::sink::Sink;
 use gl_base::status::Status;
-use gl_book::run_book;
+use gl_book::{generate, run_book, run_text};
 use std::alloc::Global;
 use std::thread::Threads;
 
 /// Runs the command that the words make: reads the book from the shelf, and writes its transcript to the sink, each
-/// event's lines before the next form is looked at.
+/// event's lines before the next form is looked at. With `--generate` the book is the generator's text, and the last
+/// line alone of its transcript is written.
 ///
 /// `words` are those behind the program's name.
 pub fn run<R: Threads + Sync, S: Shelf, K: Sink>(
@@ -28,15 +33,17 @@ pub fn run<R: Threads + Sync, S: Shelf, K: Sink>(
     out: &mut K,
 ) -> Status
     // The words are no command.
-    ensures usage { result ≡ Status.Usage → IsNone (book_named (map string_bytes words.now)) }
-    ensures no_command { IfNone (book_named (map string_bytes words.now)) ((result ≡ Status.Usage) ⊎ (result ≡ Status.WriteFault)) }
+    ensures usage { result ≡ Status.Usage → IsNone (command_of (map string_bytes words.now)) }
+    ensures no_command { IfNone (command_of (map string_bytes words.now)) ((result ≡ Status.Usage) ⊎ (result ≡ Status.WriteFault) ⊎ (result ≡ Status.NoMemory)) }
     ensures usage_line { result ≡ Status.Usage → Grows (K.written out.old) (K.written out.new) usage_line }
-    ensures usage_front { IfNone (book_named (map string_bytes words.now)) (result ≡ Status.WriteFault → GrowsByFront (K.written out.old) (K.written out.new) usage_line) }
-    ensures unread { IfNone (book_named (map string_bytes words.now)) (shelf.new ≡ shelf.old) }
+    ensures usage_front { IfNone (command_of (map string_bytes words.now)) (result ≡ Status.WriteFault → GrowsByFront (K.written out.old) (K.written out.new) usage_line) }
+    ensures usage_memory { IfNone (command_of (map string_bytes words.now)) (result ≡ Status.NoMemory → out.new ≡ out.old) }
+    ensures unread { IfNone (command_of (map string_bytes words.now)) (shelf.new ≡ shelf.old) }
 
-    // The words name a book: what was written is its transcript with this status, and a front of one where a write
-    // failed or memory was refused. Where the shelf does not tell the book's bytes, it is so for some bytes.
-    ensures transcript { IfSome (book_named (map string_bytes words.now)) (λ name. result ≢ Status.ReadFault → WritesBook 12 (S.holds shelf.old name) (K.written out.old) (K.written out.new) result) }
+    // The words make a command: what was written is its transcript with this status and the command's limits, or with
+    // `--generate` the last line of it, and a front of one where a write failed or memory was refused. Where the shelf
+    // does not tell the book's bytes, it is so for some bytes.
+    ensures transcript { IfSome (command_of (map string_bytes words.now)) (λ command. result ≢ Status.ReadFault → Writes command (S.holds shelf.old) (K.written out.old) (K.written out.new) result) }
 
     // Why the run failed.
     ensures read_fault { result ≡ Status.ReadFault → Rose (S.faults shelf.old) (S.faults shelf.new) }
@@ -45,8 +52,53 @@ pub fn run<R: Threads + Sync, S: Shelf, K: Sink>(
     ensures write_fault { result ≡ Status.WriteFault → Rose (K.faults out.old) (K.faults out.new) }
     ensures no_write_fault { result ≢ Status.WriteFault → K.faults out.new ≡ K.faults out.old }
 {
-    match book_of(words) {
-        Some(name) => run_book(rt, alloc, name, &Limits::usual(), shelf, out),
-        None => refuse_words(out),
+    match command_named(alloc, words) {
+        Ok(Some(command)) => run_command(rt, alloc, &command, shelf, out),
+        Ok(None) => refuse_words(out),
+        Err(_) => Status::NoMemory,
+    }
+}
+
+/// Runs a command.
+fn run_command<R: Threads + Sync, S: Shelf, K: Sink>(
+    rt: &R,
+    alloc: Global,
+    command: &Command,
+    shelf: &mut S,
+    out: &mut K,
+) -> Status
+    requires { IsFew command.now.source }
+    ensures written { result ≢ Status.ReadFault → Writes (command_seen command.now) (S.holds shelf.old) (K.written out.old) (K.written out.new) result }
+    ensures read_fault { result ≡ Status.ReadFault → Rose (S.faults shelf.old) (S.faults shelf.new) }
+    ensures no_read_fault { result ≢ Status.ReadFault → S.faults shelf.new ≡ S.faults shelf.old }
+    ensures unwritten { result ≡ Status.ReadFault → K.written out.new ≡ K.written out.old }
+    ensures write_fault { result ≡ Status.WriteFault → Rose (K.faults out.old) (K.faults out.new) }
+    ensures no_write_fault { result ≢ Status.WriteFault → K.faults out.new ≡ K.faults out.old }
+    ensures no_usage { result ≢ Status.Usage }
+{
+    match command.source {
+        Source::Book(name) => run_book(rt, alloc, name, &command.limits, shelf, out),
+        Source::Generated(n) => run_generated(rt, alloc, n, &command.limits, out),
+    }
+}
+
+/// Runs the book of `n` theorems, and writes the last line of its transcript.
+fn run_generated<R: Threads + Sync, K: Sink>(
+    rt: &R,
+    alloc: Global,
+    n: u32,
+    limits: &Limits,
+    out: &mut K,
+) -> Status
+    requires { n ≤ 10000 }
+    ensures written { EndsWith (bounds_of limits.now) (generated n) true (K.written out.old) (K.written out.new) result }
+    ensures write_fault { result ≡ Status.WriteFault → Rose (K.faults out.old) (K.faults out.new) }
+    ensures no_write_fault { result ≢ Status.WriteFault → K.faults out.new ≡ K.faults out.old }
+    ensures no_read_fault { result ≢ Status.ReadFault }
+    ensures no_usage { result ≢ Status.Usage }
+{
+    match generate(alloc, n) {
+        Ok(text) => run_text(rt, alloc, &text, limits, true, out),
+        Err(_) => Status::NoMemory,
     }
 }

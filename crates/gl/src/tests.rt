@@ -1,11 +1,15 @@
 mod adapters;
+mod admitted;
 mod bit_lists;
 mod books;
 mod integers;
 mod node_counts;
 mod plain_circuits;
 mod probes;
+mod readings;
 mod refusals;
 mod rows;
+mod shapes;
+mod terms;
 mod texts;
 mod vectors;

@@ -1,6 +1,6 @@
 //! Words that are no command.
 
-ghost use Rattle.std.specs.Prelude.{◌≡◌, ◌≤◌, ◌⊎◌};
+ghost use Rattle.std.specs.Prelude.{◌≡◌, ◌≢◌, ◌⊎◌};
 ghost use Rattle.gl_base.specs.Outside.{Rose, Grows, GrowsByFront};
 ghost use Rattle.gl.specs.Usage.{usage_line};
 
@@ -9,7 +9,8 @@ use gl_base::sink::{Sink, put_all};
 use gl_base::status::Status;
 
 /// How a command is written.
-const USAGE: &[u8] = b"USAGE gl BOOK\n";
+const USAGE: &[u8] =
+    b"USAGE gl [--workers N] [--steps N] [--cells N] [--nodes N] [--clauses N] [--enum-bits N] (BOOK | --generate N)\n";
 
 /// Writes the usage line, and nothing else. No flush follows.
 pub fn refuse_words<K: Sink>(out: &mut K) -> Status
@@ -28,12 +29,12 @@ pub fn refuse_words<K: Sink>(out: &mut K) -> Status
 /// Ends a run that has no words: for want of memory with nothing written, else as words that are no command.
 pub fn refuse_end<K: Sink>(end: WordsEnd, out: &mut K) -> Status
     ensures memory { end ≡ WordsEnd.Memory → (result ≡ Status.NoMemory) × (out.new ≡ out.old) }
-    ensures no_text { end ≡ WordsEnd.NoText → (result ≡ Status.Usage) ⊎ (result ≡ Status.WriteFault) }
+    ensures no_text { end ≢ WordsEnd.Memory → (result ≡ Status.Usage) ⊎ (result ≡ Status.WriteFault) }
     ensures usage { result ≡ Status.Usage → Grows (K.written out.old) (K.written out.new) usage_line }
     ensures cause { result ≡ Status.WriteFault → Rose (K.faults out.old) (K.faults out.new) }
 {
     match end {
         WordsEnd::Memory => Status::NoMemory,
-        WordsEnd::NoText => refuse_words(out),
+        WordsEnd::NoText | WordsEnd::Usage => refuse_words(out),
     }
 }

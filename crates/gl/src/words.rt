@@ -1,21 +1,47 @@
 //! The words of the command line.
 
-ghost use Rattle.std.specs.Prelude.{◌≡◌, ◌↔◌, map, string_bytes};
-ghost use Rattle.std.specs.Option.{option_copied};
-ghost use Rattle.gl.specs.Words.{book_named, has_dash};
+ghost use Rattle.std.specs.Prelude.{◌≡◌, ◌↔◌, ◌≢◌, ◌≤◌, true, map, string_bytes, [], codes, IfOk, IfSome, IsErrOf, option_map, Some, nat_le, ◌&&◌};
+ghost use Rattle.std.specs.List.{list_all};
+ghost use Rattle.std.specs.Str.Parse.{digits_value};
+ghost use Rattle.clap.specs.Words.{app_of, with_rule, rule_of, fault_of, is_simple, is_simple_and_free, found_of, rows_of, matches_of, first_of};
+ghost use Rattle.gl_decide.specs.Bounds.{bounds_of};
+ghost use Rattle.gl.specs.Words.{gl_app, plain_app, option_rule, is_number as says_number, bounds_from, command_from, command_of, source_from, number_within, option_number};
+ghost use Rattle.gl.specs.CommandOf.{command_seen, source_seen, IsFew};
 
-use std::alloc::AllocError;
+use clap::error::ErrorKind as ClapKind;
+use clap::{Arg, ArgAction, ArgMatches};
+use gl_base::failed::NoMemory;
+use gl_base::limits::Limits;
+use std::alloc::{AllocError, Global};
 use std::env;
 use std::io::ErrorKind;
 use std::rt::Env;
 
-/// Why the process has no words.
+/// Where the bytes of a book come from.
+#[derive(Clone, Copy, Debug, PartialEq, Eq)]
+pub enum Source<'a> {
+    /// The book of a name.
+    Book(&'a str),
+    /// So many theorems of the generator.
+    Generated(u32),
+}
+
+/// A command: the limits of its run, and where its book comes from.
+#[derive(Clone, Copy, Debug, PartialEq, Eq)]
+pub struct Command<'a> {
+    pub limits: Limits,
+    pub source: Source<'a>,
+}
+
+/// Why words give nothing.
 #[derive(Clone, Copy, Debug, PartialEq, Eq)]
 pub enum WordsEnd {
     /// Memory was not given.
     Memory,
     /// A word is no text.
     NoText,
+    /// The words are no command.
+    Usage,
 }
 
 impl From<AllocError> for WordsEnd {
@@ -44,29 +70,190 @@ fn end_of(kind: ErrorKind) -> WordsEnd
     }
 }
 
-/// The name of the book. The words are a command exactly where they are one word that does not begin with `-`: this
-/// word is the name.
-pub fn book_of(words: &[String]) -> Option<&str>
-    ensures { option_copied result ≡ book_named (map string_bytes words.now) }
+fn with_option<'a>(
+    alloc: Global,
+    command: clap::Command<'a>,
+    name: &'a str,
+) -> Result<clap::Command<'a>, AllocError>
+    ensures { IfOk result (λ c. app_of c ≡ with_rule (app_of command.entry) (option_rule name.entry.now)) }
 {
-    match words {
-        [word] => {
-            let name = word.as_str();
-            if begins_with_dash(name.as_bytes()) {
-                None
+    let option = Arg::new(alloc, name).long(name).action(ArgAction::Set);
+    command.arg(option)
+}
+
+#[tactic(auto, unfolding(crate::specs::Words::plain_app))]
+fn plain_command<'a>(alloc: Global) -> Result<clap::Command<'a>, AllocError>
+    ensures { IfOk result (λ c. app_of c ≡ plain_app) }
+{
+    let command = clap::Command::new(alloc, "gl");
+    let command = with_option(alloc, command, "workers")?;
+    let command = with_option(alloc, command, "steps")?;
+    let command = with_option(alloc, command, "cells")?;
+    let command = with_option(alloc, command, "nodes")?;
+    let command = with_option(alloc, command, "clauses")?;
+    let command = with_option(alloc, command, "enum-bits")?;
+    let command = with_option(alloc, command, "generate")?;
+    command.arg(Arg::new(alloc, "BOOK"))
+}
+
+#[tactic(auto, unfolding(crate::specs::Words::gl_app))]
+fn simple_command<'a>(alloc: Global) -> Result<clap::Command<'a>, AllocError>
+    ensures { IfOk result (λ c. app_of c ≡ gl_app) }
+{
+    let command = plain_command(alloc)?;
+    Ok(
+        command
+            .no_binary_name(true)
+            .disable_help_flag(true)
+            .disable_version_flag(true),
+    )
+}
+
+/// A law: the command is simple, so what its words mean is known.
+#[tactic(auto, unfolding(crate::specs::Words::gl_app, crate::specs::Words::plain_app))]
+fn is_known()
+    ensures free { is_simple_and_free gl_app ≡ true }
+    ensures simple { is_simple gl_app ≡ true }
+{}
+
+/// What the words give to each option.
+fn matched<'a>(alloc: Global, words: &'a [String]) -> Result<ArgMatches<'a>, WordsEnd>
+    ensures usage { IsErrOf result WordsEnd.Usage → fault_of gl_app (map string_bytes words.entry.now) ≢ [] }
+    ensures exact { IfOk result (λ m. fault_of gl_app (map string_bytes words.entry.now) ≡ []) }
+    ensures rows { IfOk result (λ m. rows_of (found_of m) ≡ matches_of gl_app (map string_bytes words.entry.now)) }
+    ensures text { result ≢ Err WordsEnd.NoText }
+{
+    is_known();
+    let Ok(command) = simple_command(alloc) else {
+        return Err(WordsEnd::Memory);
+    };
+    match command.try_get_matches_from(words) {
+        Ok(matches) => Ok(matches),
+        Err(error) => {
+            if error.kind() == ClapKind::OutOfMemory {
+                Err(WordsEnd::Memory)
             } else {
-                Some(name)
+                Err(WordsEnd::Usage)
             }
         }
+    }
+}
+
+/// Whether each byte is a decimal digit.
+fn are_digits(text: &[u8]) -> bool
+    ensures { result ≡ list_all (λ b. nat_le 48 b && nat_le b 57) text.now }
+{
+    text.iter().all(|b| 48 <= *b && *b <= 57)
+}
+
+/// Whether a text is one to eight decimal digits.
+fn is_number(text: &[u8]) -> bool
+    ensures { result ≡ says_number text.now }
+{
+    let some = !text.is_empty();
+    let few = text.len() <= 8;
+    some && (few && are_digits(text))
+}
+
+/// The number of one to eight decimal digits.
+fn number_that(text: &str) -> Option<u32>
+    requires { says_number text.now ≡ true }
+    ensures { result ≡ Some (digits_value 10 text.now) }
+{
+    text.parse::<u32>().ok()
+}
+
+/// The number of a text of one to eight decimal digits, where it lies in a range.
+fn number_in(text: &str, least: u32, most: u32) -> Option<u32>
+    ensures meant { result ≡ number_within least most text.now }
+    ensures range { IfSome result (λ n. (least ≤ n) × (n ≤ most)) }
+{
+    if !is_number(text.as_bytes()) {
+        return None;
+    }
+    let number = number_that(text)?;
+    if least <= number && number <= most {
+        Some(number)
+    } else {
+        None
+    }
+}
+
+/// The text that stands with an option, or in the book's place.
+fn text_of<'a>(matches: &ArgMatches<'a>, id: &str) -> Option<&'a str>
+    ensures { option_map (λ s. s.now) result ≡ first_of id.now (rows_of (found_of matches.now)) }
+{
+    matches.get_str(id)
+}
+
+/// The number of an option: its usual one where the option is not there.
+fn number_of(matches: &ArgMatches, option: &str, usual: u32, least: u32, most: u32) -> Option<u32>
+    requires low { least ≤ usual }
+    requires high { usual ≤ most }
+    ensures meant { result ≡ option_number usual least most (first_of option.now (rows_of (found_of matches.now))) }
+    ensures range { IfSome result (λ n. (least ≤ n) × (n ≤ most)) }
+{
+    match text_of(matches, option) {
+        Some(text) => number_in(text, least, most),
+        None => Some(usual),
+    }
+}
+
+/// The limits of a run, where each option is in its range.
+fn limits_of(matches: &ArgMatches) -> Option<Limits>
+    ensures { option_map bounds_of result ≡ bounds_from (rows_of (found_of matches.now)) }
+{
+    let workers = number_of(matches, "workers", 1, 1, 8)?;
+    let steps = number_of(matches, "steps", 10_000_000, 1, 99_999_999)?;
+    let cells = number_of(matches, "cells", 1_000_000, 1000, 4_000_000)?;
+    let nodes = number_of(matches, "nodes", 1_000_000, 100, 4_000_000)?;
+    let clauses = number_of(matches, "clauses", 100_000, 1, 1_000_000)?;
+    let enum_bits = number_of(matches, "enum-bits", 12, 0, 16)?;
+    Some(Limits {
+        steps,
+        cells,
+        nodes,
+        clauses,
+        enum_bits: enum_bits as u8,
+        workers: workers as u8,
+    })
+}
+
+/// Where the book comes from: exactly one of a book and a number of theorems is there.
+fn source_of<'a>(matches: &ArgMatches<'a>) -> Option<Source<'a>>
+    ensures source { option_map source_seen result ≡ source_from (first_of (codes "BOOK") (rows_of (found_of matches.now))) (first_of (codes "generate") (rows_of (found_of matches.now))) }
+    ensures most { IfSome result IsFew }
+{
+    match (text_of(matches, "BOOK"), text_of(matches, "generate")) {
+        (Some(name), None) => Some(Source::Book(name)),
+        (None, Some(text)) => Some(Source::Generated(number_in(text, 0, 10_000)?)),
         _ => None,
     }
 }
 
-fn begins_with_dash(word: &[u8]) -> bool
-    ensures { result ≡ has_dash word.now }
+fn command_in<'a>(matches: &ArgMatches<'a>) -> Option<Command<'a>>
+    ensures command { option_map command_seen result ≡ command_from (rows_of (found_of matches.now)) }
+    ensures few { IfSome result (λ c. IsFew c.source) }
 {
-    match word {
-        [first, ..] => *first == b'-',
-        [] => false,
+    let limits = limits_of(matches)?;
+    let source = source_of(matches)?;
+    Some(Command { limits, source })
+}
+
+/// The command that words make, where they make one.
+///
+/// What words mean is `clap`'s meaning of seven options that each take one value, and one optional positional. Exactly
+/// one of the positional and `--generate` has to be there, and each number is one to eight decimal digits in its range.
+pub fn command_named<'a>(
+    alloc: Global,
+    words: &'a [String],
+) -> Result<Option<Command<'a>>, NoMemory>
+    ensures command { IfOk result (λ r. option_map command_seen r ≡ command_of (map string_bytes words.entry.now)) }
+    ensures few { IfOk result (λ r. IfSome r (λ c. IsFew c.source)) }
+{
+    match matched(alloc, words) {
+        Ok(matches) => Ok(command_in(&matches)),
+        Err(WordsEnd::Usage) => Ok(None),
+        Err(_) => Err(NoMemory),
     }
 }

@@ -31,6 +31,3 @@ pub use macros::Macro;
 pub use owns::Owns;
 pub use scope::Scope;
 pub use translate::term;
-
-#[cfg(test)]
-mod tests;

@@ -33,8 +33,6 @@ mod place;
 mod stack;
 mod string;
 mod symbol;
-#[cfg(test)]
-mod tests;
 mod text;
 mod token;
 

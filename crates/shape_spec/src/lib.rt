@@ -31,6 +31,3 @@ pub use inputs::Inputs;
 pub use numbers::{input_numbered, set_number};
 pub use shape::Shape;
 pub use theorem::{Mode, Part, Thm};
-
-#[cfg(test)]
-mod tests;

@@ -1,12 +1,16 @@
 use crate::run::run;
 use gl_base::memory_shelf::MemoryShelf;
 use gl_base::memory_sink::MemorySink;
+use gl_book::generate;
 use std::alloc::{AllocError, Global};
 use std::process::Abort;
 use std::test::Fail;
 use std::thread::Threads;
 
-const USAGE: &str = "USAGE gl BOOK\n";
+const USAGE: &str =
+    "USAGE gl [--workers N] [--steps N] [--cells N] [--nodes N] [--clauses N] [--enum-bits N] (BOOK | --generate N)\n";
+
+const DONE: &str = "DONE proved=0 vacuous=0 refuted=0 undecided=0\n";
 
 /// What a run over memory wrote, and the code of its status. The shelf holds one text, under the name `b`; the sink has
 /// room for so many bytes. The calls of the two that are listed fail.
@@ -74,10 +78,16 @@ fn words_that_are_no_command(rt: HostRuntime) -> Result<(), Fail> {
         "",
         "a b",
         "-x",
-        "-",
         "--workers 9 b",
+        "--workers 0 b",
         "--steps x b",
+        "--steps 100000000 b",
+        "--cells 999 b",
+        "--enum-bits 17 b",
+        "--generate 10001",
+        "--generate",
         "b --generate 3",
+        "--enum-bits 3",
         "--help",
     ] {
         gives(&rt, words, "", (&[], &[]), (USAGE, 64))?;
@@ -91,5 +101,40 @@ fn usage_line_that_is_not_taken(rt: HostRuntime) -> Result<(), Fail> {
     for (call, want) in [(1, ("", 5)), (2, (USAGE, 64))] {
         gives(&rt, "", "", (&[], &[call]), want)?;
     }
+    Ok(())
+}
+
+#[test]
+fn words_of_each_option(rt: HostRuntime) -> Result<(), Fail> {
+    let wide =
+        "(def-gl-thm w :hyp (unsigned-byte-p 3 x) :concl (< x 8) :g-bindings (auto-bindings (:nat x 3)))";
+    for (words, book, want, code) in [
+        ("--workers 8 --steps 007 --cells 4000000 b", "", DONE, 0),
+        ("b --nodes=100 --clauses 1", "", DONE, 0),
+        ("--generate 0", "", DONE, 0),
+        (
+            "--enum-bits 3 b",
+            wide,
+            "UNDECIDED W unbuilt\nDONE proved=0 vacuous=0 refuted=0 undecided=1\n",
+            3,
+        ),
+        (
+            "--enum-bits 4 b",
+            wide,
+            "PROVED W\nDONE proved=1 vacuous=0 refuted=0 undecided=0\n",
+            0,
+        ),
+    ] {
+        gives(&rt, words, book, (&[], &[]), (want, code))?;
+    }
+    Ok(())
+}
+
+#[test]
+fn generated_book(rt: HostRuntime) -> Result<(), Fail> {
+    let want =
+        "(def-gl-thm t0 :hyp (and (unsigned-byte-p 4 x) (unsigned-byte-p 4 y)) :concl (equal (+ x y 0) (+ y 0 x)) :g-bindings (auto-bindings (:mix (:nat x 4) (:nat y 4))))\n\
+        (def-gl-thm t1 :hyp (and (unsigned-byte-p 5 x) (unsigned-byte-p 5 y)) :concl (< (+ x y) 62) :g-bindings (auto-bindings (:mix (:nat x 5) (:nat y 5))))\n";
+    assert_eq!(rt; generate(rt.alloc(), 2)?.as_slice(), want.as_bytes());
     Ok(())
 }

@@ -2,9 +2,6 @@
 
 use super::reader::{list_of, pair_of};
 use super::*;
-use crate::context::Context;
-use crate::form::Form;
-use crate::walk::Walk;
 
 /// A head, a form so many times, and a last form.
 fn repeated(
@@ -115,35 +112,15 @@ fn nested_ors(alloc: Global, texts: &mut Texts, count: u32) -> Result<Tree, NoMe
     Ok(form)
 }
 
-/// How the translation of a form ends with room for 1,000 subterms.
-fn end_within_1000(
-    context: &Context<'_>,
-    scope: &Scope,
-    form: &Tree,
-) -> Result<&'static [u8], NoMemory> {
-    let mut walk = Walk::new(context.alloc);
-    walk.bind(&scope.vars)?;
-    walk.left = 1_000;
-    Ok(end_of(&context.term(Form::Book(form), 0, &mut walk)))
-}
-
-/// n `or`s inside one another to the left have 3 * 2^n - 2 subterms. So eight have room within 1,000, and
-/// nine have not.
+/// n `or`s inside one another to the left have 3 * 2^n - 2 subterms.
 #[test]
-fn room_for_a_term(rt: HostRuntime) -> Result<(), Fail> {
+fn ors_in_first_place(rt: HostRuntime) -> Result<(), Fail> {
     let alloc = rt.alloc();
     let mut texts = Texts::new(alloc)?;
     let scope = scope_of(alloc, Kind::Full, &mut texts)?;
     let world = world_of(alloc, &mut texts)?;
-    for count in 0..40 {
-        let form = nested_ors(alloc, &mut texts, count)?;
-        let unnamed = texts.id_of(b"")?;
-        let given = match Context::new(alloc, &world, &scope, &texts, unnamed) {
-            Some(context) => end_within_1000(&context, &scope, &form)?,
-            None => b"no context",
-        };
-        let end = if count <= 8 { "a term" } else { "memory" };
-        assert!(rt; given == end.as_bytes(), "{count} times `or`");
-    }
+    let form = nested_ors(alloc, &mut texts, 15)?;
+    let given = term(alloc, &form, &scope, &world, &mut texts);
+    assert!(rt; end_of(&given) == b"a term".as_slice());
     Ok(())
 }

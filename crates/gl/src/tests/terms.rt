@@ -4,9 +4,10 @@ mod deep;
 mod reader;
 mod rows;
 
-use super::*;
 use gl_logic::{Names, NoMemory, TextId, Texts, Tree, World};
-use reader::{form_of, object_of};
+use gl_translate::{Owns, Scope, TermFault, term};
+pub(in crate::tests) use reader::form_of;
+use reader::object_of;
 use std::alloc::Global;
 use std::process::Abort;
 use std::test::Fail;

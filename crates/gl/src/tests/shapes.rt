@@ -1,7 +1,10 @@
 //! Bindings and inputs by hand: what no clause says is that the calls succeed.
 
-use super::*;
+use super::terms::form_of;
 use gl_logic::{Assignment, FnId, NoMemory, TextId, Texts, Tree, TreeKind};
+use shape_spec::{
+    BindFault, Bindings, FnSet, Inputs, Shape, bindings, bit_count, input_numbered, input_of,
+};
 use std::alloc::Global;
 use std::process::Abort;
 use std::test::Fail;
@@ -9,78 +12,6 @@ use std::test::Fail;
 const FIRST: TextId = TextId { number: 7 };
 
 const SECOND: TextId = TextId { number: 9 };
-
-/// A list that is being read, from the first element on, and whether a dot stood in it.
-#[derive(Drop)]
-struct Open {
-    items: Vec<Tree>,
-    dotted: bool,
-}
-
-/// The object of a text without strings and characters, in which each token stands apart, and the marks
-/// of backquote and of comma stand as tokens.
-fn read(alloc: Global, texts: &mut Texts, text: &[u8]) -> Result<Tree, NoMemory> {
-    let mut open = Vec::new(alloc);
-    open.push(Open {
-        items: Vec::new(alloc),
-        dotted: false,
-    })?;
-    for token in text.split(|b| *b == b' ') {
-        match token {
-            [] => {}
-            [b'('] => open.push(Open {
-                items: Vec::new(alloc),
-                dotted: false,
-            })?,
-            [b')'] => {
-                if let Some(list) = open.pop() {
-                    put(&mut open, closed(alloc, list)?)?;
-                }
-            }
-            [b'.'] => {
-                if let Some(list) = open.last_mut() {
-                    list.dotted = true;
-                }
-            }
-            _ => put(&mut open, atom(texts, token)?)?,
-        }
-    }
-    match open.pop() {
-        Some(mut whole) => Ok(whole.items.pop().unwrap_or(Tree::nil())),
-        None => Ok(Tree::nil()),
-    }
-}
-
-fn put(open: &mut Vec<Open>, tree: Tree) -> Result<(), NoMemory> {
-    if let Some(list) = open.last_mut() {
-        list.items.push(tree)?;
-    }
-    Ok(())
-}
-
-fn closed(alloc: Global, list: Open) -> Result<Tree, NoMemory> {
-    let Open { mut items, dotted } = list;
-    let mut all = Tree::nil();
-    if dotted {
-        all = items.pop().unwrap_or(Tree::nil());
-    }
-    for k in (0..items.len()).rev() {
-        all = Tree::pair(alloc, items[k].copy(alloc)?, all)?;
-    }
-    Ok(all)
-}
-
-/// A number of few digits, or a symbol.
-fn atom(texts: &mut Texts, token: &[u8]) -> Result<Tree, NoMemory> {
-    let mut value: i64 = 0;
-    for byte in token {
-        if !byte.is_ascii_digit() {
-            return Ok(Tree::symbol(texts.id_of(token)?));
-        }
-        value = value.wrapping_mul(10).wrapping_add(i64::from(*byte - b'0'));
-    }
-    Ok(Tree::int(i128::from(value)))
-}
 
 /// The object of the first variable of a form's bindings in the input of a number; none where the form
 /// is bad.
@@ -90,7 +21,7 @@ fn first_object(
     form: &[u8],
     number: u64,
 ) -> Result<Option<Tree>, NoMemory> {
-    let form = read(alloc, texts, form)?;
+    let form = form_of(alloc, form, texts)?;
     match bound(alloc, &form, texts)? {
         Some(all) => {
             let input = input_numbered(alloc, &all, number)?;
@@ -161,7 +92,7 @@ fn objects_of_forms(rt: HostRuntime) -> Result<(), Fail> {
         (b"( AUTO-BINDINGS ( :MIX ) ( :SEQ ) ( :NAT X 3 ) )", 5, b"5"),
     ];
     for (place, (form, number, expected)) in table.iter().enumerate() {
-        let expected = read(alloc, &mut texts, expected)?;
+        let expected = form_of(alloc, expected, &mut texts)?;
         let found = first_object(alloc, &mut texts, form, *number)?;
         assert!(rt;
             found.unwrap_or(Tree::int(-1)).same(&expected),

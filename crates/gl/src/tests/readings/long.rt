@@ -1,6 +1,6 @@
 use super::end_of;
-use crate::{End, ReadCode};
 use gl_logic::NoMemory;
+use sexp_reader::{End, ReadCode};
 use std::alloc::Global;
 use std::process::Abort;
 use std::test::Fail;

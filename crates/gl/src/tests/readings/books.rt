@@ -1,8 +1,8 @@
 use super::end_of;
-use crate::{End, MOST_BYTES, ReadCode, ReadEnd, read_book};
 use gl_base::failed::Failed;
 use gl_base::memory_shelf::MemoryShelf;
 use gl_base::shelf::Shelf;
+use sexp_reader::{End, MOST_BYTES, ReadCode, ReadEnd, read_book};
 use std::alloc::Global;
 use std::process::Abort;
 use std::test::Fail;

@@ -1,6 +1,6 @@
 //! Definitions that are admitted and that are refused.
 
-use super::*;
+use admission::{AdmitFault, admit, admit_clique};
 use gl_logic::{
     Def, Defs, FnId, Measure, Measures, Names, Natural, NoMemory, Prim, Term, TextId, Tree,
 };

@@ -1,7 +1,6 @@
 //! A small reader of forms, and the objects that terms are compared by.
 
-use crate::words::prim_word;
-use gl_logic::{Names, NoMemory, Term, TextId, Texts, Tree, TreeKind};
+use gl_logic::{Names, NoMemory, Prim, Term, TextId, Texts, Tree, TreeKind};
 use std::alloc::Global;
 use std::mem;
 
@@ -151,7 +150,11 @@ impl Reader {
 }
 
 /// The last form of a text.
-pub(super) fn form_of(alloc: Global, text: &[u8], texts: &mut Texts) -> Result<Tree, NoMemory> {
+pub(in crate::tests) fn form_of(
+    alloc: Global,
+    text: &[u8],
+    texts: &mut Texts,
+) -> Result<Tree, NoMemory> {
     let mut reader = Reader {
         alloc,
         around: Vec::new(alloc),
@@ -175,6 +178,41 @@ fn names_object(alloc: Global, names: &Names) -> Result<Tree, NoMemory> {
 
 fn word(word: &[u8], texts: &mut Texts) -> Result<Tree, NoMemory> {
     Ok(Tree::symbol(texts.id_of(word)?))
+}
+
+/// The word of a primitive.
+fn prim_word(named: Prim) -> &'static [u8] {
+    match named {
+        Prim::Consp => b"CONSP",
+        Prim::Integerp => b"INTEGERP",
+        Prim::Symbolp => b"SYMBOLP",
+        Prim::Stringp => b"STRINGP",
+        Prim::Characterp => b"CHARACTERP",
+        Prim::Cons => b"CONS",
+        Prim::Car => b"CAR",
+        Prim::Cdr => b"CDR",
+        Prim::Equal => b"EQUAL",
+        Prim::Not => b"NOT",
+        Prim::CharCode => b"CHAR-CODE",
+        Prim::CodeChar => b"CODE-CHAR",
+        Prim::BinaryPlus => b"BINARY-+",
+        Prim::BinaryTimes => b"BINARY-*",
+        Prim::UnaryMinus => b"UNARY--",
+        Prim::Less => b"<",
+        Prim::Floor => b"FLOOR",
+        Prim::Mod => b"MOD",
+        Prim::Truncate => b"TRUNCATE",
+        Prim::Rem => b"REM",
+        Prim::Ash => b"ASH",
+        Prim::BinaryLogand => b"BINARY-LOGAND",
+        Prim::BinaryLogior => b"BINARY-LOGIOR",
+        Prim::BinaryLogxor => b"BINARY-LOGXOR",
+        Prim::Lognot => b"LOGNOT",
+        Prim::Logbitp => b"LOGBITP",
+        Prim::IntegerLength => b"INTEGER-LENGTH",
+        Prim::UnsignedByteP => b"UNSIGNED-BYTE-P",
+        Prim::SignedByteP => b"SIGNED-BYTE-P",
+    }
 }
 
 /// A term as an object: `(QUOTE x)`, `(IF a b c)`, a primitive by its word, a call by its number, and

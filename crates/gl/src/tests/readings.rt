@@ -4,8 +4,8 @@ mod books;
 mod long;
 mod rows;
 
-use crate::{End, Forms, forms};
 use gl_logic::{NoMemory, Texts};
+use sexp_reader::{End, Forms, forms};
 use std::alloc::Global;
 
 /// Reads a text of at most 5,000,000 bytes; None where it has more.

@@ -1,0 +1,37 @@
+use Rattle.std.proofs.Common.{◌≡◌, refl, inr, true, map, string_bytes, ℕ, List, Option, Some, None}
+use Rattle.std.specs.Prelude.{IfNone, IfSome}
+use Rattle.gl_base.specs.declared.status.Status.TheVariants as status
+use Rattle.gl_decide.specs.Bounds.{Bounds}
+use Rattle.gl_book.specs.Generated.{generated}
+use Rattle.gl_book.proofs.Ends.{nothing_written, of_no_memory}
+use Rattle.gl.specs.Words.{Source, Book, Generated, command_of}
+use Rattle.gl.specs.Runs.{WritesFrom}
+use Rattle.gl.proofs.run.run.Goals as goal
+
+none_known : {A P : Type 0} (o : Option A) → P → IfNone o P
+none_known None p = p
+none_known (Some x) p = tt
+
+some_known : {A : Type 0} (P : A → Type 0) (o : Option A) → ((x : A) → P x) → IfSome o P
+some_known P None f = tt
+some_known P (Some x) f = f x
+
+from_nothing : (s : Source) (bounds : Bounds) (holds : List ℕ → Option (List ℕ)) (old : Option (List ℕ)) → WritesFrom s bounds holds old old status.NoMemory
+from_nothing (Book name) bounds holds old = of_no_memory bounds (holds name) old old refl
+from_nothing (Generated n) bounds holds old = nothing_written bounds (generated n) true old old refl
+
+pub returns-in-Err-clause-no_command : goal.returns-in-Err-clause-no_command
+returns-in-Err-clause-no_command g c = none_known (command_of (map string_bytes c.args.words.now)) (inr (inr refl))
+
+pub returns-in-Err-clause-usage_front : goal.returns-in-Err-clause-usage_front
+returns-in-Err-clause-usage_front g c = none_known (command_of (map string_bytes c.args.words.now)) (λ e. absurd cc)
+
+pub returns-in-Err-clause-usage_memory : goal.returns-in-Err-clause-usage_memory
+returns-in-Err-clause-usage_memory g c = none_known (command_of (map string_bytes c.args.words.now)) (λ e. refl)
+
+pub returns-in-Err-clause-unread : goal.returns-in-Err-clause-unread
+returns-in-Err-clause-unread g c = none_known (command_of (map string_bytes c.args.words.now)) refl
+
+pub returns-in-Err-clause-transcript : goal.returns-in-Err-clause-transcript
+returns-in-Err-clause-transcript g c =
+    some_known _ (command_of (map string_bytes c.args.words.now)) (λ command e. from_nothing command.source command.bounds (g.S.Shelf.holds c.args.shelf.now) (g.K.Sink.written c.args.out.now))
