@@ -18,7 +18,7 @@ mod constants;
 pub mod fault;
 mod frames;
 mod kinds;
-mod lent;
+pub mod lent;
 mod memo;
 mod nodes;
 mod numbers;
