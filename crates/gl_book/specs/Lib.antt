@@ -1,12 +1,5 @@
-pub mod Plain
-pub mod PlainValue
-pub mod Scans
-pub mod Translation
-pub mod Events
-pub mod EventOf
-pub mod PlainEvents
-pub mod NatOf
 pub mod Entry
+pub mod Answers
 pub mod Lines
 pub mod Walk
 pub mod Transcript

@@ -1,57 +1,68 @@
 //! Answers to events.
 
-ghost use Rattle.std.specs.Prelude.{[]};
-ghost use Rattle.gl_logic.specs.TermOf.{term_of};
+ghost use Rattle.lisp_eval.specs.Machines.{AreFunctionsOf};
+ghost use Rattle.event_world.specs.Seen.{event_seen};
+ghost use Rattle.event_world.specs.Suits.{HasAllGround, Suits};
 ghost use Rattle.gl_decide.specs.Bounds.{bounds_of};
-ghost use Rattle.gl_book.specs.Plain.{IsPlain};
-ghost use Rattle.gl_book.specs.Events.{Value};
-ghost use Rattle.gl_book.specs.EventOf.{event_of};
-ghost use Rattle.gl_book.specs.PlainEvents.{IsPlainEvent, IsModest};
-ghost use Rattle.gl_book.specs.Walk.{IsProperValue, IsProperAnswer};
+ghost use Rattle.gl_book.specs.Answers.{IsProperAnswer};
 
-use super::decide::decide_theorem;
-use super::event::Event;
-use super::size::is_large;
-use super::walker::value_of;
+use event_world::Event;
 use gl_base::limits::Limits;
 use gl_decide::Verdict;
-use gl_logic::{Term, TextId, Tree};
-use shape_spec::Inputs;
+use gl_logic::{Tree, World};
+use shape_spec::FnSet;
 use std::alloc::Global;
+use std::thread::Threads;
 
-/// The answer to one event of a book.
+/// Why a term's value is not there, or not printed.
+#[derive(Clone, Copy, Debug, PartialEq, Eq)]
+pub enum Cause {
+    /// Some integer on the way leaves 128 bits.
+    Width,
+    /// The evaluation visits more subterms than the limit of steps.
+    Steps,
+    /// The evaluation speaks of more different cells than the limit of cells.
+    Cells,
+    /// The value is too large to print.
+    Size,
+    /// Memory was refused.
+    Memory,
+}
+
+/// What is found out for an event beyond the event itself.
 #[derive(Drop)]
 pub enum Answer {
-    /// The value of a term.
+    /// Nothing is to be found out.
+    Done,
+    /// The value of a value-triple or of a constant.
     Value(Tree),
-    /// The value of a term is too large to print: it has more than 1,000,000 leaves.
-    TooLarge,
-    /// Memory was refused to a value.
-    NoValue,
-    /// The verdict on the theorem with this name.
-    Decided(TextId, Verdict),
+    /// Whether an asserted value is not NIL.
+    Truth(bool),
+    /// A value, an assert or a constant left undecided.
+    Undecided(Cause),
+    /// The verdict on a theorem.
+    Decided(Verdict),
 }
 
-/// The answer to an event.
-pub fn answer_of(alloc: Global, event: &Event, limits: &Limits) -> Answer
-    requires plain { IsPlainEvent (event_of event.now) }
-    requires modest { IsModest (event_of event.now) }
-    ensures { IsProperAnswer (bounds_of limits.now) (event_of event.now) result }
+/// The answer to an event that its world takes.
+pub fn answer_of<R: Threads + Sync>(
+    _rt: &R,
+    _alloc: Global,
+    world: &World,
+    memoized: &FnSet,
+    event: &Event,
+    limits: &Limits,
+) -> Answer
+    requires suits { Suits world.now (event_seen event.now) }
+    requires ground { HasAllGround world.now }
+    requires functions { AreFunctionsOf world.now memoized.now }
+    ensures { IsProperAnswer (bounds_of limits.now) world.now memoized.now (event_seen event.now) result }
 {
     match event {
-        Event::Value(term) => value_answer(alloc, term),
-        Event::Claim(thm) => Answer::Decided(thm.name, decide_theorem(alloc, thm, limits)),
-    }
-}
-
-fn value_answer(alloc: Global, term: &Term) -> Answer
-    requires plain { IsPlain [] (term_of term.now) }
-    requires modest { IsModest (Value (term_of term.now)) }
-    ensures { IsProperValue (term_of term.now) result }
-{
-    match value_of(alloc, term, &Inputs::new(alloc)) {
-        Ok(value) if is_large(&value) => Answer::TooLarge,
-        Ok(value) => Answer::Value(value),
-        Err(_) => Answer::NoValue,
+        Event::Value(_) | Event::Assert(_) | Event::Defconst(_, _) => {
+            Answer::Undecided(Cause::Memory)
+        }
+        Event::Theorem(_) => Answer::Decided(Verdict::Memory),
+        _ => Answer::Done,
     }
 }
