@@ -1,6 +1,7 @@
 //! A book's events, from its bytes to its transcript.
 //!
-//! - forms to events: `state`, what stands behind the events so far, and what the next form means there;
+//! - forms to events: `state`, what stands behind the events so far, and what the next form means there, by `members` and
+//!   `functions`;
 //! - events to answers: `answer`;
 //! - a large book made from a number: `generator`;
 //! - answers to what is written: `walk` over all forms, `lines`, `refusal`, `counts`, `line_list`, `put_lines`, `stop`, `run`.
@@ -8,9 +9,11 @@
 
 mod answer;
 mod counts;
+mod functions;
 mod generator;
 mod line_list;
 mod lines;
+mod members;
 mod put_lines;
 mod refusal;
 mod run;

@@ -1,20 +1,22 @@
 //! What stands behind the events of a book's front, and what the next form means there.
 
-ghost use Rattle.std.specs.Prelude.{◌≡◌, ◌++◌, ℕ, List, [], ◌∷◌, None, All, IfOk, OnOk, length};
-ghost use Rattle.std.specs.List.{filter};
+ghost use Rattle.std.specs.Prelude.{◌≡◌, ◌≤◌, [], length, IfOk, OnOk};
+ghost use Rattle.gl_logic.specs.DefinitionOf.{definition_of};
 ghost use Rattle.gl_logic.specs.Names.{Extends, with_name};
-ghost use Rattle.gl_logic.specs.WorldSeen.{IsWorld};
+ghost use Rattle.gl_logic.specs.WorldSeen.{with_clique, with_constant, with_definition, with_event};
 ghost use Rattle.lisp_eval.specs.Machines.{AreFunctionsOf};
 ghost use Rattle.event_world.specs.Outcomes.{Gives};
 ghost use Rattle.event_world.specs.Seen.{event_seen};
 ghost use Rattle.event_world.specs.EventWords.{behind_head};
-ghost use Rattle.event_world.specs.NextState.{with_function, without_function, with_members};
-ghost use Rattle.event_world.specs.Suits.{Suits, HasAllGround};
-ghost use Rattle.gl_book.specs.Walk.{IsFirstState, event_in, refused_cause, state_after};
+ghost use Rattle.event_world.specs.NextState.{next_world, with_members};
+ghost use Rattle.event_world.specs.Suits.{Suits, HasAllGround, IsNewClique, IsNewDefinition, IsNewName};
+ghost use Rattle.gl_book.specs.Walk.{IsFirstState, event_in, state_after, value_in};
 
 use super::answer::Answer;
+use super::functions::{add, without};
+use super::members::note_members;
 use event_world::{Event, EventFault, event_of, prelude};
-use gl_logic::{NoMemory, Texts, Tree, World};
+use gl_logic::{Def, Defs, NoMemory, TextId, Texts, Tree, World};
 use shape_spec::{FnSet, Mode};
 use std::alloc::Global;
 use std::marker::Model;
@@ -85,7 +87,8 @@ impl State {
         &self.memoized
     }
 
-    /// Takes an event of a form and its answer in.
+    /// Takes an event of a form and its answer in: a named one is noted with its form, and a constant gets the value of
+    /// the answer. The state is lost where memory runs out.
     pub fn take(
         &mut self,
         alloc: Global,
@@ -94,9 +97,87 @@ impl State {
         answer: Answer,
     ) -> Result<(), NoMemory>
         requires suits { Suits self.old.world (event_seen event) }
-        requires valued { refused_cause (event_seen event) answer ≡ None }
         ensures { OnOk result (self.new ≡ state_after self.old form.now (event_seen event) answer) }
     {
-        Err(NoMemory)
+        match event {
+            Event::Memoize(f) => add(&mut self.memoized, f),
+            Event::Unmemoize(f) => {
+                self.memoized = without(alloc, &self.memoized, f)?;
+                Ok(())
+            }
+            Event::Mode(mode) => {
+                self.mode = mode;
+                Ok(())
+            }
+            event => take_named(alloc, &mut self.world, form, event, answer),
+        }
     }
+}
+
+/// Takes an event that changes the world in.
+fn take_named(
+    alloc: Global,
+    world: &mut World,
+    form: &Tree,
+    event: Event,
+    answer: Answer,
+) -> Result<(), NoMemory>
+    requires suits { Suits world.old (event_seen event) }
+    requires ground { HasAllGround world.old }
+    ensures ok { OnOk result (world.new ≡ next_world world.old form.now (event_seen event) (value_in answer)) }
+    ensures more { length world.old.definitions ≤ length world.new.definitions }
+{
+    match event {
+        Event::Defun(def) => take_definition(alloc, world, form, def),
+        Event::Clique(defs) => take_clique(alloc, world, form, defs),
+        Event::Defconst(name, _) => take_constant(alloc, world, form, name, value_of(answer)),
+        Event::Theorem(thm) => world.note(thm.name, form.copy(alloc)?),
+        _ => Ok(()),
+    }
+}
+
+/// The value that an answer gives, and NIL where it gives none.
+fn value_of(answer: Answer) -> Tree
+    ensures { result ≡ value_in answer }
+{
+    match answer {
+        Answer::Value(value) => value,
+        _ => Tree::nil(),
+    }
+}
+
+fn take_definition(alloc: Global, world: &mut World, form: &Tree, def: Def) -> Result<(), NoMemory>
+    requires suits { IsNewDefinition world.old (definition_of def) }
+    requires ground { HasAllGround world.old }
+    ensures ok { OnOk result (world.new ≡ with_event (with_definition world.old (definition_of def)) def.name.number form.now) }
+    ensures more { length world.old.definitions ≤ length world.new.definitions }
+{
+    let name = def.name;
+    world.push(def)?;
+    world.note(name, form.copy(alloc)?)
+}
+
+fn take_clique(alloc: Global, world: &mut World, form: &Tree, defs: Defs) -> Result<(), NoMemory>
+    requires suits { IsNewClique world.old defs }
+    requires ground { HasAllGround world.old }
+    ensures ok { OnOk result (world.new ≡ with_members (with_clique world.old defs) defs (behind_head form.now)) }
+    ensures more { length world.old.definitions ≤ length world.new.definitions }
+{
+    let first = world.push_clique(defs)?;
+    note_members(alloc, world, first, form)
+}
+
+fn take_constant(
+    alloc: Global,
+    world: &mut World,
+    form: &Tree,
+    name: TextId,
+    value: Tree,
+) -> Result<(), NoMemory>
+    requires new { IsNewName world.old name.number }
+    ensures ok { OnOk result (world.new ≡ with_event (with_constant world.old name.number value) name.number form.now) }
+    ensures more { length world.old.definitions ≤ length world.new.definitions }
+{
+    world.set_constant(name, value)?;
+    world.note(name, form.copy(alloc)?)
 }
