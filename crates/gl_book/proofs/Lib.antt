@@ -1,4 +1,7 @@
 pub mod Inputs
+pub mod Places
+pub mod Theorems
+pub mod Evaluated
 pub mod Joined
 pub mod Told
 pub mod Closing
