@@ -1,6 +1,12 @@
 pub mod Inputs
+pub mod Places
+pub mod Theorems
+pub mod Evaluated
 pub mod Joined
 pub mod Told
+pub mod Wideness
+pub mod GoOn
+pub mod FirstStates
 pub mod Closing
 pub mod Onward
 pub mod Ends

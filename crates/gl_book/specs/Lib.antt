@@ -1,5 +1,6 @@
 pub mod Entry
 pub mod Answers
+pub mod Evaluations
 pub mod Lines
 pub mod Walk
 pub mod Transcript

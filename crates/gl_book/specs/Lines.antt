@@ -1,29 +1,38 @@
 -- The lines of a transcript. Each ends with byte 10.
-use Rattle.std.specs.Prelude.{ℕ, Bool, true, false, not, ◌||◌, nat_lt, if◌then◌else◌, List, [], ◌∷◌, ◌++◌, codes, count_by}
+use Rattle.std.specs.Prelude.{ℕ, Bool, true, false, not, ◌||◌, nat_lt, if◌then◌else◌, List, [], ◌∷◌, ◌++◌, map, codes, count_by, Option, None, Some}
 use Rattle.std.specs.List.{flat_map, list_any}
 use Rattle.std.specs.Fmt.{decimal}
 use Rattle.gl_logic.specs.Object.{Object}
+use Rattle.gl_logic.specs.Definition.{Definition}
+use Rattle.gl_logic.specs.declared.def.Natural.{Natural}
+use Rattle.gl_logic.specs.declared.def.Natural.TheVariants as natural
+use Rattle.gl_logic.specs.declared.def.Measure.{Measure}
+use Rattle.gl_logic.specs.declared.def.Measure.TheVariants as measure
 use Rattle.gl_base.specs.declared.status.Status.{Status}
 use Rattle.gl_base.specs.declared.status.Status.TheVariants as status
+use Rattle.gl_translate.specs.declared.fault.TermFault.{TermFault}
+use Rattle.gl_translate.specs.declared.fault.TermFault.TheVariants as term
 use Rattle.sexp_print.specs.Printed.{name_of, printed}
+use Rattle.shape_spec.specs.declared.theorem.Mode.{Mode}
+use Rattle.shape_spec.specs.declared.theorem.Mode.TheVariants as mode
 use Rattle.shape_spec.specs.declared.theorem.Part.{Part}
 use Rattle.shape_spec.specs.declared.theorem.Part.TheVariants as part
 use Rattle.sexp_reader.specs.declared.ends.ReadCode.{ReadCode}
 use Rattle.sexp_reader.specs.declared.ends.ReadCode.TheVariants as read
-use Rattle.event_world.specs.EventSeen.{EventSeen, Redundant, Defun, Defconst, Value, Assert, Theorem as Claim}
 use Rattle.event_world.specs.declared.fault.EventFault.{EventFault}
-use Rattle.event_world.specs.declared.fault.EventFault.TheVariants as fault
-use Rattle.gl_book.specs.declared.answer.Cause.{Cause}
-use Rattle.gl_book.specs.declared.answer.Cause.TheVariants as cause
-use Rattle.gl_book.specs.Entry.{Entry, Answered, Refused}
+use Rattle.event_world.specs.declared.fault.EventFault.TheVariants as event
+use Rattle.event_world.specs.EventSeen.{EventSeen, Redundant, Defun, Defconst, Value, Assert, Memoize, Unmemoize, SetMode, Theorem, Clique, RedundantClique}
+use Rattle.gl_decide.specs.declared.verdict.Verdict.{Verdict}
+use Rattle.gl_decide.specs.declared.verdict.Verdict.TheVariants as verdict
 use Rattle.gl_book.specs.declared.counts.Counts.{Counts}
+use Rattle.gl_book.specs.Entry.{Entry, Answered, Refused}
 use Rattle.gl_book.specs.declared.refusal.Refusal.{Refusal}
 use Rattle.gl_book.specs.declared.refusal.RefusalCode.{RefusalCode}
 use Rattle.gl_book.specs.declared.refusal.RefusalCode.TheVariants as code
+use Rattle.gl_book.specs.declared.answer.Cause.{Cause}
+use Rattle.gl_book.specs.declared.answer.Cause.TheVariants as cause
 use Rattle.gl_book.specs.declared.answer.Answer.{Answer}
 use Rattle.gl_book.specs.declared.answer.Answer.TheVariants as answer
-use Rattle.gl_decide.specs.declared.verdict.Verdict.{Verdict}
-use Rattle.gl_decide.specs.declared.verdict.Verdict.TheVariants as verdict
 
 -- words, a name, and words
 abbrev pub named_line : List (List ℕ) → List ℕ → ℕ → List ℕ → List ℕ
@@ -54,6 +63,33 @@ verdict_lines names t (verdict.Cells p env) = part_lines names t (codes " cells 
 verdict_lines names t verdict.Unbuilt = named_line names (codes "UNDECIDED ") t (codes " unbuilt") ∷ []
 verdict_lines names t verdict.Memory = named_line names (codes "UNDECIDED ") t (codes " memory") ∷ []
 
+-- ---- definitions
+-- the name of a variable between words
+abbrev pub about : List (List ℕ) → List ℕ → ℕ → List ℕ → List ℕ
+about names before v after = before ++ (name_of names v ++ after)
+
+abbrev pub natural_words : List (List ℕ) → Natural → List ℕ
+natural_words names (natural.Count v) = about names (codes "(ACL2-COUNT ") v.number (codes ")")
+natural_words names (natural.Len v) = about names (codes "(LEN ") v.number (codes ")")
+natural_words names (natural.Nat v) = about names (codes "(NFIX ") v.number (codes ")")
+natural_words names (natural.Gap a b) = about names (codes "(NFIX (- ") b.number (about names (codes " ") a.number (codes "))"))
+
+abbrev pub measure_words : List (List ℕ) → Measure → List ℕ
+measure_words names (measure.Count v) = natural_words names (natural.Count v)
+measure_words names (measure.Len v) = natural_words names (natural.Len v)
+measure_words names (measure.Nat v) = natural_words names (natural.Nat v)
+measure_words names (measure.Gap a b) = natural_words names (natural.Gap a b)
+measure_words names (measure.Lex m k) = codes "(MAKE-ORD 1 (+ 1 " ++ (natural_words names m ++ (codes ") " ++ (natural_words names k ++ codes ")")))
+
+abbrev pub stated_measure : List (List ℕ) → Option Measure → List ℕ
+stated_measure names None = []
+stated_measure names (Some m) = codes " " ++ measure_words names m
+
+-- a definition, and its measure where it has one
+abbrev pub defun_line : List (List ℕ) → Definition → List ℕ
+defun_line names d = named_line names (codes "DEFUN ") d.name (stated_measure names d.measure)
+
+-- ---- values
 abbrev pub cause_word : Cause → List ℕ
 cause_word cause.Width = codes "width"
 cause_word cause.Steps = codes "steps"
@@ -61,39 +97,57 @@ cause_word cause.Cells = codes "cells"
 cause_word cause.Size = codes "size"
 cause_word cause.Memory = codes "memory"
 
--- why a value or the truth of one is not there
 abbrev pub undecided_line : List ℕ → Cause → List ℕ
-undecided_line word why = word ++ (codes " undecided " ++ (cause_word why ++ 10 ∷ []))
+undecided_line word c = word ++ (codes " undecided " ++ (cause_word c ++ 10 ∷ []))
 
 abbrev pub value_lines : List (List ℕ) → Answer → List (List ℕ)
 value_lines names (answer.Value x) = (codes "VALUE " ++ (printed names x ++ 10 ∷ [])) ∷ []
-value_lines names (answer.Undecided why) = undecided_line (codes "VALUE") why ∷ []
+value_lines names (answer.Undecided c) = undecided_line (codes "VALUE") c ∷ []
 value_lines names _ = []
 
 abbrev pub truth_word : Bool → List ℕ
-truth_word b = if b then codes "ok" else codes "nil"
+truth_word true = codes "ok"
+truth_word false = codes "nil"
 
-abbrev pub truth_lines : Answer → List (List ℕ)
-truth_lines (answer.Truth b) = (codes "ASSERT " ++ (truth_word b ++ 10 ∷ [])) ∷ []
-truth_lines (answer.Undecided why) = undecided_line (codes "ASSERT") why ∷ []
-truth_lines _ = []
+abbrev pub assert_lines : Answer → List (List ℕ)
+assert_lines (answer.Truth b) = (codes "ASSERT " ++ (truth_word b ++ 10 ∷ [])) ∷ []
+assert_lines (answer.Undecided c) = undecided_line (codes "ASSERT") c ∷ []
+assert_lines _ = []
 
+-- a constant without a value is refused, and has no line of its own
 abbrev pub constant_lines : List (List ℕ) → ℕ → Answer → List (List ℕ)
 constant_lines names t (answer.Value x) = named_line names (codes "DEFCONST ") t (codes " " ++ printed names x) ∷ []
 constant_lines names t _ = []
+
+-- ---- events
+abbrev pub function_lines : List (List ℕ) → List ℕ → Answer → List (List ℕ)
+function_lines names word (answer.Function t) = named_line names word t.number [] ∷ []
+function_lines names word _ = []
 
 abbrev pub theorem_lines : List (List ℕ) → ℕ → Answer → List (List ℕ)
 theorem_lines names t (answer.Decided v) = verdict_lines names t v
 theorem_lines names t _ = []
 
--- the lines of an event with its answer
+abbrev pub mode_line : Mode → List ℕ
+mode_line mode.Bdd = codes "MODE BDD" ++ 10 ∷ []
+mode_line mode.Sat = codes "MODE SAT" ++ 10 ∷ []
+
+abbrev pub redundant_line : List (List ℕ) → ℕ → List ℕ
+redundant_line names t = named_line names (codes "REDUNDANT ") t []
+
+-- of an event with its answer
 abbrev pub event_lines : List (List ℕ) → EventSeen → Answer → List (List ℕ)
-event_lines names (Redundant t) a = named_line names (codes "REDUNDANT ") t [] ∷ []
-event_lines names (Defun d) a = named_line names (codes "DEFUN ") d.name [] ∷ []
-event_lines names (Defconst t e) a = constant_lines names t a
-event_lines names (Value e) a = value_lines names a
-event_lines names (Assert e) a = truth_lines a
-event_lines names (Claim thm) a = theorem_lines names thm.name a
+event_lines names (Redundant t) a = redundant_line names t ∷ []
+event_lines names (RedundantClique ts) a = map (redundant_line names) ts
+event_lines names (Defun d) a = defun_line names d ∷ []
+event_lines names (Clique ds) a = map (defun_line names) ds
+event_lines names (Defconst t body) a = constant_lines names t a
+event_lines names (Value body) a = value_lines names a
+event_lines names (Assert body) a = assert_lines a
+event_lines names (Memoize f) a = function_lines names (codes "MEMOIZE ") a
+event_lines names (Unmemoize f) a = function_lines names (codes "UNMEMOIZE ") a
+event_lines names (SetMode m) a = mode_line m ∷ []
+event_lines names (Theorem thm) a = theorem_lines names thm.name a
 event_lines names _ a = []
 
 -- ---- refusals
@@ -108,26 +162,33 @@ read_word read.BadHash = codes "S7"
 read_word read.TooDeep = codes "S8"
 read_word read.LongName = codes "S9"
 
+abbrev pub term_word : TermFault → List ℕ
+term_word term.UnknownFunction = codes "V4"
+term_word term.WrongCount = codes "V5"
+term_word term.UnboundVariable = codes "V6"
+term_word term.BadUse = codes "V7"
+term_word term.TooDeep = codes "V12"
+-- want of memory refuses no form
+term_word term.Memory = codes "memory"
+
 abbrev pub event_word : EventFault → List ℕ
-event_word fault.UnknownEvent = codes "V1"
-event_word fault.BadEvent = codes "V2"
-event_word fault.Redefined = codes "V3"
-event_word (fault.NotAdmitted call) = codes "V8 " ++ decimal call
-event_word fault.BadBindings = codes "V10"
-event_word fault.BadOption = codes "V11"
-event_word _ = []
+event_word event.UnknownEvent = codes "V1"
+event_word event.BadEvent = codes "V2"
+event_word event.Redefined = codes "V3"
+event_word (event.Term fault) = term_word fault
+event_word (event.NotAdmitted i) = codes "V8 " ++ decimal i
+event_word event.BadBindings = codes "V10"
+event_word event.BadOption = codes "V11"
+event_word event.Memory = codes "memory"
 
 abbrev pub code_word : RefusalCode → List ℕ
-code_word (code.Text flaw) = read_word flaw
+code_word (code.Text fault) = read_word fault
 code_word code.TooLong = codes "S10"
-code_word (code.Event reason) = event_word reason
-code_word (code.Constant why) = codes "V9 " ++ cause_word why
-
-abbrev pub refused_with : ℕ → ℕ → List ℕ → List ℕ
-refused_with line column code = codes "REFUSED " ++ (decimal line ++ (codes " " ++ (decimal column ++ (codes " " ++ (code ++ 10 ∷ [])))))
+code_word (code.Event fault) = event_word fault
+code_word (code.Constant c) = codes "V9 " ++ cause_word c
 
 abbrev pub refused_line : Refusal → List ℕ
-refused_line r = refused_with r.line r.column (code_word r.code)
+refused_line r = codes "REFUSED " ++ (decimal r.line ++ (codes " " ++ (decimal r.column ++ (codes " " ++ (code_word r.code ++ 10 ∷ [])))))
 
 abbrev pub entry_lines : List (List ℕ) → Entry → List (List ℕ)
 entry_lines names (Answered e a) = event_lines names e a

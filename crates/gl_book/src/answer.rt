@@ -1,29 +1,35 @@
 //! Answers to events.
 
+ghost use Rattle.std.specs.Prelude.{◌≡◌, Some, slice_get};
+ghost use Rattle.gl_logic.specs.TermOf.{term_of};
+ghost use Rattle.gl_logic.specs.IsTermOf.{IsTermOf};
+ghost use Rattle.shape_spec.specs.declared.theorem.Thm.{Thm as ThmSeen};
 ghost use Rattle.lisp_eval.specs.Machines.{AreFunctionsOf};
-ghost use Rattle.event_world.specs.Seen.{event_seen};
-ghost use Rattle.event_world.specs.Suits.{HasAllGround, Suits};
+ghost use Rattle.event_world.specs.EventSeen.{Theorem};
+ghost use Rattle.event_world.specs.Seen.{event_seen, theorem_seen};
+ghost use Rattle.event_world.specs.Suits.{Suits, IsNewTheorem};
 ghost use Rattle.gl_decide.specs.Bounds.{bounds_of};
-ghost use Rattle.gl_book.specs.Answers.{IsProperAnswer};
+ghost use Rattle.gl_book.specs.Answers.{IsProperValue, IsProperTruth, IsFunctionNamed, IsDecided, IsProperAnswer, HasPlace};
 
+use super::evaluated::{truth_of, value_of};
 use event_world::Event;
 use gl_base::limits::Limits;
-use gl_decide::Verdict;
-use gl_logic::{Tree, World};
-use shape_spec::FnSet;
+use gl_decide::{Verdict, decide_theorem};
+use gl_logic::{FnId, Term, TextId, Tree, World};
+use shape_spec::{FnSet, Thm};
 use std::alloc::Global;
 use std::thread::Threads;
 
 /// Why a term's value is not there, or not printed.
 #[derive(Clone, Copy, Debug, PartialEq, Eq)]
 pub enum Cause {
-    /// Some integer on the way leaves 128 bits.
+    /// Some value on the way is an integer outside 128 bits.
     Width,
     /// The evaluation visits more subterms than the limit of steps.
     Steps,
     /// The evaluation speaks of more different cells than the limit of cells.
     Cells,
-    /// The value is too large to print.
+    /// The value has more than 1,000,000 leaves, or more than 1,000 car steps on one path.
     Size,
     /// Memory was refused.
     Memory,
@@ -34,35 +40,100 @@ pub enum Cause {
 pub enum Answer {
     /// Nothing is to be found out.
     Done,
-    /// The value of a value-triple or of a constant.
+    /// The name of the function whose calls are kept from now on, or no longer.
+    Function(TextId),
+    /// The value of a `value-triple` or of a constant.
     Value(Tree),
     /// Whether an asserted value is not NIL.
     Truth(bool),
-    /// A value, an assert or a constant left undecided.
+    /// A value, an assert or a constant is left undecided.
     Undecided(Cause),
     /// The verdict on a theorem.
     Decided(Verdict),
 }
 
-/// The answer to an event that its world takes.
+/// The answer to an event of a world, with the functions whose calls are kept at its place.
 pub fn answer_of<R: Threads + Sync>(
-    _rt: &R,
-    _alloc: Global,
+    rt: &R,
+    alloc: Global,
     world: &World,
     memoized: &FnSet,
     event: &Event,
     limits: &Limits,
 ) -> Answer
     requires suits { Suits world.now (event_seen event.now) }
-    requires ground { HasAllGround world.now }
     requires functions { AreFunctionsOf world.now memoized.now }
+    requires place { HasPlace memoized.now (event_seen event.now) }
     ensures { IsProperAnswer (bounds_of limits.now) world.now memoized.now (event_seen event.now) result }
 {
     match event {
-        Event::Value(_) | Event::Assert(_) | Event::Defconst(_, _) => {
-            Answer::Undecided(Cause::Memory)
-        }
-        Event::Theorem(_) => Answer::Decided(Verdict::Memory),
-        _ => Answer::Done,
+        Event::Value(term) => value_answer(alloc, world, memoized, term, limits),
+        Event::Defconst(_, term) => value_answer(alloc, world, memoized, term, limits),
+        Event::Assert(term) => truth_answer(alloc, world, memoized, term, limits),
+        Event::Memoize(function) => name_answer(world, *function),
+        Event::Unmemoize(function) => name_answer(world, *function),
+        Event::Theorem(thm) => theorem_answer(rt, alloc, world, thm, limits),
+        Event::Nothing
+        | Event::Redundant(_)
+        | Event::Defun(_)
+        | Event::Mode(_)
+        | Event::Clique(_)
+        | Event::RedundantClique(_) => Answer::Done,
     }
+}
+
+fn value_answer(
+    alloc: Global,
+    world: &World,
+    memoized: &FnSet,
+    term: &Term,
+    limits: &Limits,
+) -> Answer
+    requires term { IsTermOf world.now.definitions (term_of term.now) }
+    requires functions { AreFunctionsOf world.now memoized.now }
+    ensures { IsProperValue (bounds_of limits.now) world.now memoized.now (term_of term.now) result }
+{
+    match value_of(alloc, world, memoized, term, limits) {
+        Ok(value) => Answer::Value(value),
+        Err(cause) => Answer::Undecided(cause),
+    }
+}
+
+fn truth_answer(
+    alloc: Global,
+    world: &World,
+    memoized: &FnSet,
+    term: &Term,
+    limits: &Limits,
+) -> Answer
+    requires term { IsTermOf world.now.definitions (term_of term.now) }
+    requires functions { AreFunctionsOf world.now memoized.now }
+    ensures { IsProperTruth (bounds_of limits.now) world.now memoized.now (term_of term.now) result }
+{
+    match truth_of(alloc, world, memoized, term, limits) {
+        Ok(truth) => Answer::Truth(truth),
+        Err(cause) => Answer::Undecided(cause),
+    }
+}
+
+/// The name of a function.
+fn name_answer(world: &World, function: FnId) -> Answer
+    requires { function.number < length world.now.definitions }
+    ensures { IsFunctionNamed world.now function.number result }
+{
+    Answer::Function(world.def(function).name)
+}
+
+fn theorem_answer<R: Threads + Sync>(
+    rt: &R,
+    alloc: Global,
+    world: &World,
+    thm: &Thm,
+    limits: &Limits,
+) -> Answer
+    requires suits { IsNewTheorem world.now (theorem_seen thm.now) }
+    requires functions { AreFunctionsOf world.now thm.now.memoized }
+    ensures { IsDecided (bounds_of limits.now) world.now (theorem_seen thm.now) result }
+{
+    Answer::Decided(decide_theorem(rt, alloc, world, thm, limits))
 }

@@ -47,7 +47,7 @@ fn undecided(answer: &Answer) -> bool
     ensures { result ≡ is_undecided answer.now }
 {
     match answer {
-        Answer::Done | Answer::Value(_) | Answer::Truth(_) => false,
+        Answer::Done | Answer::Function(_) | Answer::Value(_) | Answer::Truth(_) => false,
         Answer::Undecided(_) => true,
         Answer::Decided(verdict) => {
             !matches!(

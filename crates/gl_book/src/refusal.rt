@@ -1,11 +1,12 @@
 //! Why a book is refused at a place.
 
 ghost use Rattle.std.specs.Prelude.{◌≡◌, IfOk};
-ghost use Rattle.gl_book.specs.Lines.{read_word as word_of, refused_line, refused_with};
+ghost use Rattle.gl_book.specs.Lines.{read_word as word_of, term_word as word_of_term, cause_word as word_of_cause, event_word, code_word, refused_line};
 
 use super::answer::Cause;
 use event_world::EventFault;
 use gl_logic::NoMemory;
+use gl_translate::TermFault;
 use sexp_reader::ReadCode;
 use std::alloc::Global;
 
@@ -16,9 +17,9 @@ pub enum RefusalCode {
     Text(ReadCode),
     /// A byte more than a book may have: S10.
     TooLong,
-    /// A form that means no event: V1 to V8 and V10 to V12, by the first check that fails.
+    /// A form that means no event: V1 to V8 and V10 to V12. Want of memory refuses no form.
     Event(EventFault),
-    /// A constant that has no value for a cause: V9.
+    /// A constant without a value: V9.
     Constant(Cause),
 }
 
@@ -46,22 +47,71 @@ fn read_word(fault: ReadCode) -> &'static str
     }
 }
 
+fn term_word(fault: TermFault) -> &'static str
+    ensures { result.now ≡ word_of_term fault }
+{
+    match fault {
+        TermFault::UnknownFunction => "V4",
+        TermFault::WrongCount => "V5",
+        TermFault::UnboundVariable => "V6",
+        TermFault::BadUse => "V7",
+        TermFault::TooDeep => "V12",
+        TermFault::Memory => "memory",
+    }
+}
+
+/// The word of a cause.
+pub fn cause_word(cause: Cause) -> &'static str
+    ensures { result.now ≡ word_of_cause cause }
+{
+    match cause {
+        Cause::Width => "width",
+        Cause::Steps => "steps",
+        Cause::Cells => "cells",
+        Cause::Size => "size",
+        Cause::Memory => "memory",
+    }
+}
+
+/// What a transcript has for a form that means no event.
+fn event_words(alloc: Global, fault: EventFault) -> Result<String, NoMemory>
+    ensures { IfOk result (λ s. s ≡ event_word fault) }
+{
+    let word = match fault {
+        EventFault::UnknownEvent => "V1",
+        EventFault::BadEvent => "V2",
+        EventFault::Redefined => "V3",
+        EventFault::Term(fault) => term_word(fault),
+        EventFault::NotAdmitted(call) => return Ok(format!(in alloc; "V8 {call}")?),
+        EventFault::BadBindings => "V10",
+        EventFault::BadOption => "V11",
+        EventFault::Memory => "memory",
+    };
+    Ok(word.to_string(alloc)?)
+}
+
+/// What a transcript has for a code.
+fn words(alloc: Global, code: RefusalCode) -> Result<String, NoMemory>
+    ensures { IfOk result (λ s. s ≡ code_word code) }
+{
+    match code {
+        RefusalCode::Text(fault) => Ok(read_word(fault).to_string(alloc)?),
+        RefusalCode::TooLong => Ok("S10".to_string(alloc)?),
+        RefusalCode::Event(fault) => event_words(alloc, fault),
+        RefusalCode::Constant(cause) => {
+            let cause = cause_word(cause);
+            Ok(format!(in alloc; "V9 {cause}")?)
+        }
+    }
+}
+
 /// The line of a refusal.
 pub fn line_of_refusal(alloc: Global, refusal: Refusal) -> Result<Vec<u8>, NoMemory>
     ensures { IfOk result (λ v. v.items ≡ refused_line refusal) }
 {
-    match refusal.code {
-        RefusalCode::Text(fault) => {
-            refused_by(alloc, refusal.line, refusal.column, read_word(fault))
-        }
-        RefusalCode::TooLong => refused_by(alloc, refusal.line, refusal.column, "S10"),
-        RefusalCode::Event(_) | RefusalCode::Constant(_) => Err(NoMemory),
-    }
-}
-
-fn refused_by(alloc: Global, line: u32, column: u32, code: &str) -> Result<Vec<u8>, NoMemory>
-    ensures { IfOk result (λ v. v.items ≡ refused_with line column code.now) }
-{
+    let line = refusal.line;
+    let column = refusal.column;
+    let code = words(alloc, refusal.code)?;
     let text = format!(in alloc; "REFUSED {line} {column} {code}\n")?;
     Ok(text.as_bytes().to_vec(alloc)?)
 }
