@@ -1,12 +1,14 @@
 -- States from which each walk can be gone on with, and an answer to each of their events.
-use Rattle.std.proofs.Common.{◌≡◌, ◌≢◌, ◌∙◌, ap, sym, refl, subst, ℕ, zero, suc, ◌+◌, ◌≤◌, ◌⊎◌, inl, inr, List, [], ◌∷◌, ◌++◌, length, length-append, Option, Some, None, slice_get, Ok, arith}
+use Rattle.std.proofs.Common.{◌≡◌, ◌≢◌, ◌∙◌, ap, sym, refl, subst, ℕ, zero, suc, ◌+◌, ◌≤◌, ◌⊎◌, inl, inr, List, [], ◌∷◌, ◌++◌, length, get_or, ◌<◌, length-append, Option, Some, None, slice_get, Ok, arith}
 use Rattle.std.specs.Prelude.{IfSome}
+use Rattle.std.proofs.lemmas.Option.{slice_get-get_or}
+use Rattle.std.proofs.lemmas.List.{length-map}
 use Rattle.gl_logic.specs.Object.{Object, Int, Character, Symbol, Text, Cons}
 use Rattle.gl_logic.specs.Exp.{Exp}
 use Rattle.gl_logic.specs.Definition.{Definition}
 use Rattle.gl_logic.specs.Ground.{Ground, ground}
 use Rattle.gl_logic.specs.IsGround.{IsGround}
-use Rattle.gl_logic.specs.WorldSeen.{WorldSeen, IsWorld, IsClique}
+use Rattle.gl_logic.specs.WorldSeen.{WorldSeen, IsWorld, IsClique, definition_names}
 use Rattle.gl_logic.proofs.Worlds.{world_push, clique_of_one}
 use Rattle.gl_logic.proofs.TotalWorlds.{world_is_total}
 use Rattle.gl_logic.proofs.Walks.{walk_of_value}
@@ -87,10 +89,16 @@ some_constant bounds s name t h k =
       | inl wide ↦ record { answer = answer.Undecided cause.Width; proper = wide; comes = inr (cause.Width, refl, cc) }
       | inr narrow ↦
           elim (large_or_not v.0) [
-            | inl large ↦ record { answer = answer.Undecided cause.Size; proper = record { value = v.0; has = record { value = v.1; narrow = narrow }; large = large }; comes = inr (cause.Size, refl, cc) }
-            | inr small ↦ record { answer = answer.Value v.0; proper = (record { value = v.1; narrow = narrow }, small); comes = inl refl }
+            | inl large ↦ record { answer = answer.Undecided cause.Size; proper = (v.0, record { has = v.1; narrow = narrow }, large); comes = inr (cause.Size, refl, cc) }
+            | inr small ↦ record { answer = answer.Value v.0; proper = record { is = record { has = v.1; narrow = narrow }; small = small }; comes = inl refl }
           ]
     ]
+
+abbrev function_answer : WorldSeen → ℕ → Answer
+function_answer w f = answer.Function (record { number = get_or (definition_names w.definitions) f 0 })
+
+function_is : (w : WorldSeen) (f : ℕ) → f < length w.definitions → slice_get (definition_names w.definitions) f ≡ Some (get_or (definition_names w.definitions) f 0)
+function_is w f h = slice_get-get_or (definition_names w.definitions) f 0 (omega (arith, h, length-map w.definitions (λ (d : Definition). d.name)))
 
 pub some_answer : (bounds : Bounds) (s : BookState) (e : EventSeen) → CanGoOn s → Suits s.world e → SomeAnswer bounds s e
 some_answer bounds s Nothing h k = record { answer = answer.Done; proper = tt; comes = inl refl }
@@ -98,9 +106,9 @@ some_answer bounds s (Redundant n) h k = record { answer = answer.Done; proper =
 some_answer bounds s (Defun d) h k = record { answer = answer.Done; proper = tt; comes = inl refl }
 some_answer bounds s (Defconst n t) h k = some_constant bounds s n t h k.1
 some_answer bounds s (Value t) h k = record { answer = answer.Undecided cause.Memory; proper = tt; comes = inl refl }
-some_answer bounds s (Assert t) h k = record { answer = answer.Undecided cause.Memory; proper = tt; comes = inl refl }
-some_answer bounds s (Memoize f) h k = record { answer = answer.Done; proper = tt; comes = inl refl }
-some_answer bounds s (Unmemoize f) h k = record { answer = answer.Done; proper = tt; comes = inl refl }
+some_answer bounds s (Assert t) h k = record { answer = answer.Undecided cause.Memory; proper = record { has = tt; no_size = cc }; comes = inl refl }
+some_answer bounds s (Memoize f) h k = record { answer = function_answer s.world f; proper = function_is s.world f k; comes = inl refl }
+some_answer bounds s (Unmemoize f) h k = record { answer = function_answer s.world f; proper = function_is s.world f k; comes = inl refl }
 some_answer bounds s (SetMode m) h k = record { answer = answer.Done; proper = tt; comes = inl refl }
 some_answer bounds s (Theorem thm) h k = record { answer = answer.Decided verdict.Memory; proper = tt; comes = inl refl }
 some_answer bounds s (Clique ds) h k = record { answer = answer.Done; proper = tt; comes = inl refl }

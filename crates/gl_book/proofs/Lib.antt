@@ -6,6 +6,7 @@ pub mod Joined
 pub mod Told
 pub mod Wideness
 pub mod GoOn
+pub mod TextTables
 pub mod FirstStates
 pub mod Closing
 pub mod Onward
