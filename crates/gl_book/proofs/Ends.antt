@@ -1,7 +1,7 @@
 -- What a run has written, by how it ended.
 use Rattle.gl_decide.specs.Bounds.{Bounds}
 use Rattle.std.proofs.Common.{◌≡◌, ◌≤◌, sym, subst, refl, ℕ, List, [], ◌∷◌, take, length, Bool, true, false, cond, Option, Some, None, inl, inr, arith}
-use Rattle.std.specs.Prelude.{OnOk, OnErr, IfOk, IfSome, Result, Ok, Err, nat_lt}
+use Rattle.std.specs.Prelude.{OnOk, OnErr, IfOk, IfSome, Result, Ok, Err, nat_lt, ◌||◌}
 use Rattle.std.specs.List.{list_any}
 use Rattle.std.proofs.lemmas.Bool.{cases_Bool, ltb-true, ltb-false}
 use Rattle.std.proofs.lemmas.List.{take_all}
@@ -78,7 +78,7 @@ reported_by false false true = tt
 reported_by false false false = tt
 
 reported : (entries : List Entry) → IsReported (status_of entries)
-reported entries = reported_by (list_any is_refusal entries) (nat_lt 0 (counts_of entries).refuted) (nat_lt 0 (counts_of entries).undecided)
+reported entries = reported_by (list_any is_refusal entries) (nat_lt 0 (counts_of entries).refuted || nat_lt 0 (counts_of entries).failed) (nat_lt 0 (counts_of entries).undecided)
 
 module _ (bounds : Bounds) (text : List ℕ) (last : Bool) (old new : Option (List ℕ)) where
   -- ---- a text that is read and walked
@@ -134,7 +134,7 @@ some_transcript bounds text = elim (cases_Bool (nat_lt most_bytes (length text))
       (transcript_lines [] entries, status_of entries, ([], entries, long place.line place.column (ltb-true most_bytes (length text) e, refl), refl, refl))
   | inr e ↦
       let first = some_table text in
-      let walk = some_walk first.names bounds first.end first.state first.forms first.open in
+      let walk = some_walk first.names bounds first.end first.state first.forms first.can in
       (transcript_lines first.names walk.0, status_of walk.0, (first.names, walk.0, short first.forms first.end first.state walk.0 (ltb-false most_bytes (length text) e) first.read first.begins walk.1, refl, refl))
 ]
 

@@ -53,7 +53,7 @@ holds_all names w p = record {
   events = p.events;
 }
 
-later_prelude : (names new : List (List ℕ)) (w : WorldSeen) → IsTable new → Extends names new → IsPrelude names w → IsPrelude new w
+pub later_prelude : (names new : List (List ℕ)) (w : WorldSeen) → IsTable new → Extends names new → IsPrelude names w → IsPrelude new w
 later_prelude names new w table grown p = is_prelude new w table (later_holds names new 43 w (omega arith) grown (holds_all names w p))
 
 pub later_first : (names new : List (List ℕ)) (s : BookState) → IsTable new → Extends names new → IsFirstState names s → IsFirstState new s
@@ -191,7 +191,7 @@ pub record FirstTable (bytes : List ℕ) : Type 0 where
   pub state : BookState
   pub read : IsReadBy names bytes forms end
   pub begins : IsFirstState names state
-  pub open : CanGoOn state
+  pub can : CanGoOn state
 
 with_same : (names : List (List ℕ)) (w : List ℕ) → list_any (bytes_eq w) names ≡ true → with_name names w ≡ names
 with_same names w h = rw h refl
@@ -217,5 +217,5 @@ some_table bytes =
         numbered = table_numbers named named_table bytes reading.0 reading.1 reading.2;
       };
       begins = record { world = is_prelude names all.world its_table (later_holds all.names names 43 all.world (omega arith) grown all.holds); mode = refl; memoized = refl };
-      open = record { ground = (is_prelude all.names all.world all.table all.holds).all; total = all.total };
+      can = record { ground = (is_prelude all.names all.world all.table all.holds).all; total = all.total };
     }

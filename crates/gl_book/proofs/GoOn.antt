@@ -75,6 +75,15 @@ pub after_event : (names : List (List ℕ)) (s : BookState) (form : Object) (e :
 after_event names s form e a h k = after_suited s form e a h (event_suits names s.world s.mode s.memoized form e k)
 
 -- ---- an answer that memory alone does not hinder
+width_is_other : cause.Width ≡ cause.Memory → ⊥
+width_is_other e = cc
+
+size_is_other : cause.Size ≡ cause.Memory → ⊥
+size_is_other e = cc
+
+memory_is_other : cause.Memory ≡ cause.Size → ⊥
+memory_is_other e = cc
+
 pub record SomeAnswer (bounds : Bounds) (s : BookState) (e : EventSeen) : Type 0 where
   pub answer : Answer
   pub proper : IsProperAnswer bounds s.world s.memoized e answer
@@ -86,10 +95,10 @@ some_constant bounds s name t h k =
     let v = world_is_total ds s.world.cliques h.total [] t k.term in
     let r = walk_of_value ds v.1.0 [] t v.0 v.1.1 in
     elim (wide_or_narrow ds [] t v.1.0 r.0 r.1.0) [
-      | inl wide ↦ record { answer = answer.Undecided cause.Width; proper = wide; comes = inr (cause.Width, refl, cc) }
+      | inl wide ↦ record { answer = answer.Undecided cause.Width; proper = wide; comes = inr (cause.Width, refl, width_is_other) }
       | inr narrow ↦
           elim (large_or_not v.0) [
-            | inl large ↦ record { answer = answer.Undecided cause.Size; proper = (v.0, record { has = v.1; narrow = narrow }, large); comes = inr (cause.Size, refl, cc) }
+            | inl large ↦ record { answer = answer.Undecided cause.Size; proper = (v.0, record { has = v.1; narrow = narrow }, large); comes = inr (cause.Size, refl, size_is_other) }
             | inr small ↦ record { answer = answer.Value v.0; proper = record { is = record { has = v.1; narrow = narrow }; small = small }; comes = inl refl }
           ]
     ]
@@ -106,7 +115,7 @@ some_answer bounds s (Redundant n) h k = record { answer = answer.Done; proper =
 some_answer bounds s (Defun d) h k = record { answer = answer.Done; proper = tt; comes = inl refl }
 some_answer bounds s (Defconst n t) h k = some_constant bounds s n t h k.1
 some_answer bounds s (Value t) h k = record { answer = answer.Undecided cause.Memory; proper = tt; comes = inl refl }
-some_answer bounds s (Assert t) h k = record { answer = answer.Undecided cause.Memory; proper = record { has = tt; no_size = cc }; comes = inl refl }
+some_answer bounds s (Assert t) h k = record { answer = answer.Undecided cause.Memory; proper = record { has = tt; no_size = memory_is_other }; comes = inl refl }
 some_answer bounds s (Memoize f) h k = record { answer = function_answer s.world f; proper = function_is s.world f k; comes = inl refl }
 some_answer bounds s (Unmemoize f) h k = record { answer = function_answer s.world f; proper = function_is s.world f k; comes = inl refl }
 some_answer bounds s (SetMode m) h k = record { answer = answer.Done; proper = tt; comes = inl refl }

@@ -1,11 +1,12 @@
 pub mod Inputs
 pub mod Places
-pub mod Theorems
 pub mod Evaluated
 pub mod Joined
 pub mod Told
 pub mod Wideness
 pub mod GoOn
+pub mod Noting
+pub mod Kept
 pub mod TextTables
 pub mod FirstStates
 pub mod Closing

@@ -79,7 +79,7 @@ module _ (names : List (List ℕ)) (bounds : Bounds) (start : BookState) (book :
   -- so many forms are answered
   pub record Stands (state : BookState) (counts : Counts) (i : ℕ) (now : Option (List ℕ)) : Type 0 where
     pub done : List Entry
-    pub open : CanGoOn state
+    pub can : CanGoOn state
     -- each walk of what is left makes a walk of the whole
     pub onward : (entries : List Entry) → Walk names bounds state (drop i book.list) book.end entries → IsWhole (done ++ entries)
     pub counted : counts ≡ counts_of done
@@ -88,7 +88,7 @@ module _ (names : List (List ℕ)) (bounds : Bounds) (start : BookState) (book :
     pub written : Grows old now (so_far last names done)
 
   pub begins : CanGoOn start → Stands start (counts_of []) 0 old
-  begins h = record { done = []; open = h; onward = λ entries w. w; counted = refl; many = refl; answered = refl; written = begun last }
+  begins h = record { done = []; can = h; onward = λ entries w. w; counted = refl; many = refl; answered = refl; written = begun last }
     where
       begun : (b : Bool) → Grows old old (so_far b names [])
       begun true = grows_nothing old
@@ -110,7 +110,7 @@ module _ (names : List (List ℕ)) (bounds : Bounds) (start : BookState) (book :
     -- what is written is the front of what some walk tells
     pub front_here : (new : Option (List ℕ)) → new ≡ now → WritesWalkFront names bounds start book last old new
     front_here new same =
-        let rest = some_walk names bounds book.end state (drop i book.list) s.open in
+        let rest = some_walk names bounds book.end state (drop i book.list) s.can in
         (s.done ++ rest.0, s.onward rest.0 rest.1, front_of old new _ _ _ (told_whole last names s.done rest.0) (grows_same old now new _ s.written same))
 
     module _ (form : Form) (at : slice_get book.list i ≡ Some form) where
@@ -126,7 +126,7 @@ module _ (names : List (List ℕ)) (bounds : Bounds) (start : BookState) (book :
         pub goes_on : (new : Option (List ℕ)) → Grows now new (told_before last (event_lines names e a)) → Stands (state_after state form.tree e a) (counts_with counts a) (i + 1) new
         goes_on new g = record {
           done = s.done ++ Answered e a ∷ [];
-          open = after_event names state form.tree e a s.open is;
+          can = after_event names state form.tree e a s.can is;
           onward = onward_next;
           counted = ap (λ c. counts_with c a) s.counted ∙ counts_more s.done e a;
           many = omega (arith, s.many, length-append s.done (Answered e a ∷ []));
@@ -137,7 +137,7 @@ module _ (names : List (List ℕ)) (bounds : Bounds) (start : BookState) (book :
         -- a front of its lines
         pub front_next : (new : Option (List ℕ)) → (n : ℕ) × Grows now new (take n (told_before last (event_lines names e a))) → WritesWalkFront names bounds start book last old new
         front_next new g =
-            let rest = some_walk names bounds book.end (state_after state form.tree e a) (drop (i + 1) book.list) (after_event names state form.tree e a s.open is) in
+            let rest = some_walk names bounds book.end (state_after state form.tree e a) (drop (i + 1) book.list) (after_event names state form.tree e a s.can is) in
             let entries = (s.done ++ Answered e a ∷ []) ++ rest.0 in
             let tail = told last (flat_map (entry_lines names) rest.0 ++ done_line (counts_of entries) ∷ []) in
             let whole = told_whole last names (s.done ++ Answered e a ∷ []) rest.0 ∙ (ap (λ bs. bs ++ tail) (so_far_more last names s.done e a) ∙ append_assoc (so_far last names s.done) (told_before last (event_lines names e a)) tail) in

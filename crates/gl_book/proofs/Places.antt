@@ -1,6 +1,7 @@
--- A theorem that is meant keeps the calls of the functions that are kept at its place.
-use Rattle.std.proofs.Common.{◌≡◌, refl, sym, subst, ℕ, Bool, not, List, [], ◌∷◌, length, map, Option, Some, None}
+-- What a form means can be answered at its place.
+use Rattle.std.proofs.Common.{◌≡◌, ◌∙◌, ◌<◌, refl, sym, subst, ℕ, Bool, not, ◌||◌, eqb, List, [], ◌∷◌, length, map, Option, Some, None}
 use Rattle.std.specs.Prelude.{Result, Ok, Err}
+use Rattle.std.specs.List.{All, list_any}
 use Rattle.std.specs.Option.{option_and_then}
 use Rattle.gl_logic.specs.Object.{Object}
 use Rattle.gl_logic.specs.Exp.{Exp}
@@ -16,7 +17,7 @@ use Rattle.event_world.specs.declared.fault.EventFault.{EventFault}
 use Rattle.event_world.specs.declared.fault.EventFault.TheVariants as code
 use Rattle.event_world.specs.declared.word.EventWord.{EventWord}
 use Rattle.event_world.specs.declared.word.EventWord.TheVariants as word
-use Rattle.event_world.specs.EventSeen.{EventSeen, Nothing, Redundant, RedundantClique, SetMode, Memoize, Unmemoize, Value, Assert, Defun, Defconst, Theorem, Clique}
+use Rattle.event_world.specs.EventSeen.{TheoremSeen, EventSeen, Nothing, Redundant, RedundantClique, SetMode, Memoize, Unmemoize, Value, Assert, Defun, Defconst, Theorem, Clique}
 use Rattle.event_world.specs.Outcomes.{Outcome, and_then, found_or, holds_or}
 use Rattle.event_world.specs.EventWords.{word_of, behind_head}
 use Rattle.event_world.specs.PartsOf.{is_empty, one_of, two_of, three_of}
@@ -24,13 +25,25 @@ use Rattle.event_world.specs.NamesMeant.{is_taken}
 use Rattle.event_world.specs.Declares.{stated_measure}
 use Rattle.event_world.specs.PlainMeant.{is_package, is_book, closed_meant, evaluation_meant, function_in, memo_meant, constant_in, defconst_meant}
 use Rattle.event_world.specs.DefunMeant.{defun_parts, formals_meant, body_meant, admitted, definition_made, defun_meant}
-use Rattle.event_world.specs.CliqueMeant.{clique_parts, all_stated, are_new, all_made, owns_of, members_meant, settled, with_settled, clique_admitted, clique_judged, clique_made, clique_meant}
+use Rattle.admission.specs.Admitted.{settled}
+use Rattle.event_world.specs.CliqueMeant.{clique_parts, all_stated, are_new, all_made, owns_of, members_meant, with_settled, clique_admitted, clique_judged, clique_made, clique_meant}
 use Rattle.admission.specs.Refused.{first_refused}
 use Rattle.event_world.specs.TheoremMeant.{theorem_parts, clocks_meant, claim_meant, hyp_meant, bound_meant, theorem_made, theorem_meant}
 use Rattle.event_world.specs.RedundantMeant.{repeated_name, repeated_member, are_repeated, checked_repeated, redundant, redundant_meant}
 use Rattle.event_world.specs.EventMeant.{checked, unless_redundant, event_meant}
-use Rattle.event_world.proofs.Inversions.{given, same_given, no_code, found_ok, holds_ok, then_ok, none_some, map_some, if_some}
-use Rattle.gl_book.specs.Answers.{HasPlace}
+use Rattle.event_world.specs.Suits.{Suits, IsNewTheorem}
+use Rattle.event_world.proofs.Inversions.{given, same_given, no_code, found_ok, holds_ok, then_ok, none_some, map_some, if_some, or_true}
+use Rattle.event_world.proofs.SuitedEvents.{event_suits}
+use Rattle.gl_logic.specs.FreeVariables.{is_free_in}
+use Rattle.admission.proofs.Arguments.{eqb_turned}
+use Rattle.shape_spec.specs.Indices.{variables_of}
+use Rattle.coverage.specs.Sound.{AllAreBound}
+use Rattle.gl_book.specs.Answers.{IsOfDefinitions, IsAnswerable}
+
+-- its calls are kept of the functions that are kept at its place
+abbrev pub HasPlace : List ℕ → EventSeen → Type 0
+HasPlace memoized (Theorem thm) = thm.memoized ≡ memoized
+HasPlace memoized _ = Unit {0}
 
 module _ (memoized : List ℕ) where
   placed_at : (event e : EventSeen) → HasPlace memoized event → given event ≡ Ok e → HasPlace memoized e
@@ -137,3 +150,33 @@ module _ (memoized : List ℕ) where
         unless_place (redundant_meant names w k form parts) (found_or code.BadEvent parts (checked names w now memoized k)) e
         (λ r hr. redundant_place k form parts r hr)
         (λ z. found_ok code.BadEvent parts (checked names w now memoized k) e z (λ xs hxs y. checked_place now k xs e y)) q)
+
+-- ---- events that can be answered
+any_turned : (v : ℕ) (vs : List ℕ) → list_any (λ u. eqb u v) vs ≡ list_any (eqb v) vs
+any_turned v [] = refl
+any_turned v (u ∷ us) = λ i. eqb_turned u v i || any_turned v us i
+
+all_bound : (w : WorldSeen) (thm : TheoremSeen) → IsNewTheorem w thm → AllAreBound thm.hyp thm.concl thm.bindings
+all_bound w thm h = λ v free. any_turned v (variables_of thm.bindings) ∙ or_true (is_free_in thm.hyp v) (is_free_in thm.concl v) free (h.hyp_bound v) (h.concl_bound v)
+
+of_definitions : (w : WorldSeen) (memoized : List ℕ) (e : EventSeen) → All (λ f. f < length w.definitions) memoized → Suits w e → HasPlace memoized e → IsOfDefinitions w.definitions e
+of_definitions w memoized Nothing fs s p = tt
+of_definitions w memoized (Redundant name) fs s p = tt
+of_definitions w memoized (Defun d) fs s p = tt
+of_definitions w memoized (Defconst name t) fs s p = s.1.term
+of_definitions w memoized (Value t) fs s p = s.term
+of_definitions w memoized (Assert t) fs s p = s.term
+of_definitions w memoized (Memoize f) fs s p = s
+of_definitions w memoized (Unmemoize f) fs s p = s
+of_definitions w memoized (SetMode m) fs s p = tt
+of_definitions w memoized (Theorem thm) fs s p = record {
+  hyp = s.hyp;
+  concl = s.concl;
+  functions = subst (λ (ms : List ℕ). All (λ f. f < length w.definitions) ms) (sym p) fs;
+  bound = all_bound w thm s;
+}
+of_definitions w memoized (Clique ds) fs s p = tt
+of_definitions w memoized (RedundantClique ns) fs s p = tt
+
+pub answerable : (names : List (List ℕ)) (w : WorldSeen) (now : Mode) (memoized : List ℕ) (form : Object) (e : EventSeen) → All (λ f. f < length w.definitions) memoized → event_meant names w now memoized form ≡ Ok e → IsAnswerable w.definitions memoized e
+answerable names w now memoized form e fs h = record { functions = fs; event = of_definitions w memoized e fs (event_suits names w now memoized form e h) (meant_place memoized names w now form e h) }

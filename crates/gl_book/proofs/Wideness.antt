@@ -1,5 +1,6 @@
 -- Whether a term without variables leaves 128 bits on the way, and whether its value is too large.
-use Rattle.std.proofs.Common.{◌≡◌, ◌∙◌, ap, sym, refl, subst, ℕ, zero, suc, ◌<◌, ◌≤◌, ℤ, pos, negsuc, ◌≤ℤ◌, ◌⊎◌, inl, inr, List, [], ◌∷◌, Option, Some, None, slice_get, leb, ltb, arith, ints}
+use Rattle.std.proofs.Common.{◌≡◌, ◌∙◌, ◌-◌, ◌^◌, ap, sym, refl, subst, ℕ, zero, suc, ◌<◌, ◌≤◌, ℤ, pos, negsuc, ◌≤ℤ◌, ◌⊎◌, inl, inr, List, [], ◌∷◌, Option, Some, None, slice_get, leb, ltb, arith}
+use Rattle.std.proofs.lemmas.Int.{ints}
 use Rattle.std.proofs.lemmas.Bool.{cases_Bool, leb-true, leb-false, ltb-true, ltb-false}
 use Rattle.gl_logic.specs.Object.{Object, Int, Character, Symbol, Text, Cons}
 use Rattle.gl_logic.specs.Width.{Fits}
@@ -30,7 +31,7 @@ within_or_not low high (negsuc n) = elim (cases_Bool (leb n low)) [
 ]
 
 wide_or_not : (x : Object) → IsWideObject x ⊎ (IsWideObject x → ⊥)
-wide_or_not (Int z) = elim (within_or_not _ _ z) [ inl h ↦ inr (λ w. w h) | inr h ↦ inl h ]
+wide_or_not (Int z) = elim (within_or_not (2 ^ 127 - 1) (2 ^ 127 - 1) z) [ inl h ↦ inr (λ w. w h) | inr h ↦ inl h ]
 wide_or_not (Character n) = inr (λ w. w)
 wide_or_not (Symbol n) = inr (λ w. w)
 wide_or_not (Text n) = inr (λ w. w)

@@ -1,12 +1,15 @@
 -- When the answer to an event is proper.
-use Rattle.std.specs.Prelude.{◌≡◌, ◌≢◌, ℕ, Bool, not, List, [], Some, slice_get}
+use Rattle.std.specs.Prelude.{◌≡◌, ◌≢◌, ◌<◌, ℕ, Bool, not, List, [], length, All, Some, slice_get}
 use Rattle.gl_logic.specs.Object.{Object}
 use Rattle.gl_logic.specs.ObjectEq.{is_nil}
 use Rattle.gl_logic.specs.Parts.{IsLarge}
 use Rattle.gl_logic.specs.Exp.{Exp}
+use Rattle.gl_logic.specs.Definition.{Definition}
+use Rattle.gl_logic.specs.IsTermOf.{IsTermOf}
 use Rattle.gl_logic.specs.Evaluate.{HasValue}
 use Rattle.gl_logic.specs.Wide.{IsWide}
 use Rattle.gl_logic.specs.WorldSeen.{WorldSeen, definition_names}
+use Rattle.coverage.specs.Sound.{AllAreBound}
 use Rattle.event_world.specs.EventSeen.{TheoremSeen, EventSeen, Defconst, Value, Assert, Memoize, Unmemoize, Theorem}
 use Rattle.gl_decide.specs.Bounds.{Bounds}
 use Rattle.gl_decide.specs.Causes.{IsOutOfWidth, IsOutOfSteps, IsOutOfCells}
@@ -99,8 +102,25 @@ IsProperAnswer bounds w memoized (Unmemoize f) a = IsFunctionNamed w f a
 IsProperAnswer bounds w memoized (Theorem thm) a = IsDecided bounds w thm a
 IsProperAnswer bounds w memoized _ a = IsDone a
 
--- ---- what an event is at its place
--- a theorem keeps the calls of the functions that are kept at its place
-abbrev pub HasPlace : List ℕ → EventSeen → Type 0
-HasPlace memoized (Theorem thm) = thm.memoized ≡ memoized
-HasPlace memoized _ = Unit {0}
+-- ---- events that can be answered
+-- its terms and its functions are the world's, and the bindings have all variables of its terms
+pub record IsReadyTheorem (definitions : List Definition) (thm : TheoremSeen) : Type 0 where
+  pub hyp : IsTermOf definitions thm.hyp
+  pub concl : IsTermOf definitions thm.concl
+  pub functions : All (λ f. f < length definitions) thm.memoized
+  pub bound : AllAreBound thm.hyp thm.concl thm.bindings
+
+-- the terms and the functions of an event are those of these definitions
+abbrev pub IsOfDefinitions : List Definition → EventSeen → Type 0
+IsOfDefinitions definitions (Value t) = IsTermOf definitions t
+IsOfDefinitions definitions (Defconst name t) = IsTermOf definitions t
+IsOfDefinitions definitions (Assert t) = IsTermOf definitions t
+IsOfDefinitions definitions (Memoize f) = f < length definitions
+IsOfDefinitions definitions (Unmemoize f) = f < length definitions
+IsOfDefinitions definitions (Theorem thm) = IsReadyTheorem definitions thm
+IsOfDefinitions definitions _ = Unit {0}
+
+-- and so are the functions whose calls are kept at its place
+pub record IsAnswerable (definitions : List Definition) (memoized : List ℕ) (e : EventSeen) : Type 0 where
+  pub functions : All (λ f. f < length definitions) memoized
+  pub event : IsOfDefinitions definitions e

@@ -1,5 +1,5 @@
 -- What comes of a book's forms, one after the other.
-use Rattle.std.specs.Prelude.{◌≡◌, ◌≢◌, ℕ, List, [], ◌∷◌, Option, Some, None, Ok, Err, refl}
+use Rattle.std.specs.Prelude.{◌≡◌, ◌≢◌, ℕ, zero, List, [], ◌∷◌, Option, Some, None, Ok, Err, refl}
 use Rattle.std.specs.Coded.{Coded, code_by, coded×, coded_ℕ, coded_list}
 use Rattle.gl_logic.specs.Object.{Object, nil}
 use Rattle.gl_logic.specs.WorldSeen.{WorldSeen, IsWorld, coded_world}
@@ -92,7 +92,7 @@ mode_code mode.Bdd = 0
 mode_code mode.Sat = 1
 
 abbrev pub mode_from : ℕ → Mode
-mode_from 0 = mode.Bdd
+mode_from zero = mode.Bdd
 mode_from _ = mode.Sat
 
 abbrev pub mode_back : (m : Mode) → mode_from (mode_code m) ≡ m

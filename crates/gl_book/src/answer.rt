@@ -1,15 +1,12 @@
 //! Answers to events.
 
-ghost use Rattle.std.specs.Prelude.{◌≡◌, Some, slice_get};
+ghost use Rattle.std.specs.Prelude.{◌<◌, length};
 ghost use Rattle.gl_logic.specs.TermOf.{term_of};
 ghost use Rattle.gl_logic.specs.IsTermOf.{IsTermOf};
-ghost use Rattle.shape_spec.specs.declared.theorem.Thm.{Thm as ThmSeen};
 ghost use Rattle.lisp_eval.specs.Machines.{AreFunctionsOf};
-ghost use Rattle.event_world.specs.EventSeen.{Theorem};
 ghost use Rattle.event_world.specs.Seen.{event_seen, theorem_seen};
-ghost use Rattle.event_world.specs.Suits.{Suits, IsNewTheorem};
 ghost use Rattle.gl_decide.specs.Bounds.{bounds_of};
-ghost use Rattle.gl_book.specs.Answers.{IsProperValue, IsProperTruth, IsFunctionNamed, IsDecided, IsProperAnswer, HasPlace};
+ghost use Rattle.gl_book.specs.Answers.{IsProperValue, IsProperTruth, IsFunctionNamed, IsDecided, IsProperAnswer, IsReadyTheorem, IsAnswerable};
 
 use super::evaluated::{truth_of, value_of};
 use event_world::Event;
@@ -61,9 +58,7 @@ pub fn answer_of<R: Threads + Sync>(
     event: &Event,
     limits: &Limits,
 ) -> Answer
-    requires suits { Suits world.now (event_seen event.now) }
-    requires functions { AreFunctionsOf world.now memoized.now }
-    requires place { HasPlace memoized.now (event_seen event.now) }
+    requires { IsAnswerable world.now.definitions memoized.now (event_seen event.now) }
     ensures { IsProperAnswer (bounds_of limits.now) world.now memoized.now (event_seen event.now) result }
 {
     match event {
@@ -131,8 +126,7 @@ fn theorem_answer<R: Threads + Sync>(
     thm: &Thm,
     limits: &Limits,
 ) -> Answer
-    requires suits { IsNewTheorem world.now (theorem_seen thm.now) }
-    requires functions { AreFunctionsOf world.now thm.now.memoized }
+    requires { IsReadyTheorem world.now.definitions (theorem_seen thm.now) }
     ensures { IsDecided (bounds_of limits.now) world.now (theorem_seen thm.now) result }
 {
     Answer::Decided(decide_theorem(rt, alloc, world, thm, limits))

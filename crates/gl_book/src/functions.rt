@@ -1,6 +1,6 @@
 //! Lists of functions with one more, and with one less.
 
-ghost use Rattle.std.specs.Prelude.{◌≡◌, eqb, not, IfOk, OnOk, OnErr};
+ghost use Rattle.std.specs.Prelude.{◌≡◌, ◌<◌, ℕ, eqb, not, All, IfOk, OnOk, OnErr};
 ghost use Rattle.std.specs.List.{filter, list_any};
 ghost use Rattle.event_world.specs.NextState.{with_function, without_function};
 
@@ -33,7 +33,7 @@ pub fn add(functions: &mut FnSet, f: FnId) -> Result<(), NoMemory>
 }
 
 /// The functions without one of them.
-pub fn without(alloc: Global, functions: &FnSet, f: FnId) -> Result<FnSet, NoMemory>
+fn without(alloc: Global, functions: &FnSet, f: FnId) -> Result<FnSet, NoMemory>
     ensures { IfOk result (λ fs. fs ≡ without_function functions.now f.number) }
 {
     let mut left = FnSet::new(alloc);
@@ -44,4 +44,14 @@ pub fn without(alloc: Global, functions: &FnSet, f: FnId) -> Result<FnSet, NoMem
         }
     }
     Ok(left)
+}
+
+/// Takes a function out, where it is there.
+pub fn remove(alloc: Global, functions: &mut FnSet, f: FnId) -> Result<(), NoMemory>
+    ensures ok { OnOk result (functions.new ≡ without_function functions.old f.number) }
+    ensures err { OnErr result (functions.new ≡ functions.old) }
+    ensures among { (n : ℕ) → All (λ g. g < n) functions.old → All (λ g. g < n) functions.new }
+{
+    *functions = without(alloc, functions, f)?;
+    Ok(())
 }

@@ -21,7 +21,8 @@ pub fn note_members(
     requires within { first.number ≤ length world.old.definitions }
     requires different { AreDifferentNames (definition_names (drop first.number world.old.definitions)) }
     requires free { Every (IsFree (names_of world.old.events)) (definition_names (drop first.number world.old.definitions)) }
-    ensures { OnOk result (world.new ≡ with_members world.old (drop first.number world.old.definitions) (behind_head form.now)) }
+    ensures same { world.new.definitions ≡ world.old.definitions }
+    ensures ok { OnOk result (world.new ≡ with_members world.old (drop first.number world.old.definitions) (behind_head form.now)) }
 {
     let elements = form.elements();
     let mut left = elements.len().saturating_sub(1);

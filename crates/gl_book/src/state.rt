@@ -10,10 +10,11 @@ ghost use Rattle.event_world.specs.Seen.{event_seen};
 ghost use Rattle.event_world.specs.EventWords.{behind_head};
 ghost use Rattle.event_world.specs.NextState.{next_world, with_members};
 ghost use Rattle.event_world.specs.Suits.{Suits, HasAllGround, IsNewClique, IsNewDefinition, IsNewName};
-ghost use Rattle.gl_book.specs.Walk.{IsFirstState, event_in, state_after, value_in};
+ghost use Rattle.gl_book.specs.Answers.{IsAnswerable};
+ghost use Rattle.gl_book.specs.Walk.{IsFirstState, CanGoOn, event_in, state_after, value_in};
 
 use super::answer::Answer;
-use super::functions::{add, without};
+use super::functions::{add, remove};
 use super::members::note_members;
 use event_world::{Event, EventFault, event_of, prelude};
 use gl_logic::{Def, Defs, NoMemory, TextId, Texts, Tree, World};
@@ -49,11 +50,15 @@ impl State {
     /// and the empty one.
     pub fn new(alloc: Global, texts: &mut Texts) -> Result<State, NoMemory>
         ensures first { IfOk result (IsFirstState texts.new) }
+        ensures can_go_on { IfOk result CanGoOn }
         ensures empty { OnOk result (with_name texts.new [] ≡ texts.new) }
         ensures extends { Extends texts.old texts.new }
     {
         let world = prelude(alloc, texts)?;
         let _empty = texts.id_of(b"")?;
+        texts.is_table();
+        // its definitions make a world
+        let _count = world.count();
         Ok(State {
             world,
             mode: Mode::Bdd,
@@ -66,6 +71,7 @@ impl State {
         requires empty { with_name texts.old [] ≡ texts.old }
         ensures meant { Gives event_seen (event_in texts.old self.now form.now) result }
         ensures suits { IfOk result (λ e. Suits self.now.world (event_seen e)) }
+        ensures answerable { IfOk result (λ e. IsAnswerable self.now.world.definitions self.now.memoized (event_seen e)) }
         ensures texts { texts.new ≡ texts.old }
     {
         event_of(alloc, form, &self.world, self.mode, &self.memoized, texts)
@@ -101,10 +107,7 @@ impl State {
     {
         match event {
             Event::Memoize(f) => add(&mut self.memoized, f),
-            Event::Unmemoize(f) => {
-                self.memoized = without(alloc, &self.memoized, f)?;
-                Ok(())
-            }
+            Event::Unmemoize(f) => remove(alloc, &mut self.memoized, f),
             Event::Mode(mode) => {
                 self.mode = mode;
                 Ok(())

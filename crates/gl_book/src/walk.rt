@@ -44,6 +44,7 @@ pub fn walk<R: Threads + Sync, K: Sink>(
     out: &mut K,
 ) -> Result<Status, Stop>
     requires empty { with_name texts.old [] ≡ texts.old }
+    requires can_go_on { CanGoOn state.old }
     ensures ok { IfOk result (WritesWalk texts.old (bounds_of limits.now) state.old book.now last_only (K.written out.old) (K.written out.new)) }
     ensures front { OnErr result (WritesWalkFront texts.old (bounds_of limits.now) state.old book.now last_only (K.written out.old) (K.written out.new)) }
     ensures cause { IsCounted (K.faults out.old) (K.faults out.new) result }
