@@ -54,20 +54,24 @@ pub fn walk<R: Threads + Sync, K: Sink>(
         let form = book.list.at(i);
         let event = match state.event(alloc, &form.tree, texts) {
             Ok(event) => event,
-            Err(EventFault::Memory) => return Err(Stop::Memory),
-            Err(fault) => {
-                let refusal = refusal_at(form, RefusalCode::Event(fault));
-                return close(alloc, Some(refusal), counts, last_only, out);
-            }
+            Err(fault) => match fault {
+                EventFault::Memory => return Err(Stop::Memory),
+                _ => {
+                    let refusal = refusal_at(form, RefusalCode::Event(fault));
+                    return close(alloc, Some(refusal), counts, last_only, out);
+                }
+            },
         };
         let answer = answer_of(rt, alloc, state.world(), state.memoized(), &event, limits);
         match refused_cause(&event, &answer) {
             None => {}
-            Some(Cause::Memory) => return Err(Stop::Memory),
-            Some(cause) => {
-                let refusal = refusal_at(form, RefusalCode::Constant(cause));
-                return close(alloc, Some(refusal), counts, last_only, out);
-            }
+            Some(cause) => match cause {
+                Cause::Memory => return Err(Stop::Memory),
+                _ => {
+                    let refusal = refusal_at(form, RefusalCode::Constant(cause));
+                    return close(alloc, Some(refusal), counts, last_only, out);
+                }
+            },
         }
         put_event(alloc, &event, &answer, texts, last_only, out)?;
         counts = counts.with(&answer);
