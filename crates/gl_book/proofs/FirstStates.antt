@@ -1,8 +1,9 @@
 -- States of a book's first form.
-use Rattle.std.proofs.Common.{◌≡◌, ◌∙◌, ap, sym, refl, subst, ℕ, zero, suc, ◌+◌, ◌≤◌, ◌<◌, ◌||◌, Bool, true, false, List, [], ◌∷◌, ◌++◌, length, get_or, Option, Some, None, slice_get, inl, inr, arith}
+use Rattle.std.proofs.Common.{◌≡◌, ◌∙◌, ap, sym, refl, subst, ℕ, zero, suc, ◌+◌, ◌≤◌, ◌<◌, ◌||◌, Bool, true, false, cond, List, [], ◌∷◌, ◌++◌, length, length-append, get_or, Option, Some, None, slice_get, inl, inr, arith}
 use Rattle.std.specs.Prelude.{Result, Ok, Err, bytes_eq, pos}
 use Rattle.std.specs.List.{list_any}
 use Rattle.std.proofs.lemmas.Bool.{cases_Bool}
+use Rattle.std.proofs.lemmas.List.Folds.{list_any-append}
 use Rattle.std.proofs.lemmas.Option.{slice_get-get_or}
 use Rattle.gl_logic.specs.Object.{Object, Int, Symbol, Cons}
 use Rattle.gl_logic.specs.Exp.{Exp}
@@ -195,6 +196,18 @@ pub record FirstTable (bytes : List ℕ) : Type 0 where
 
 with_same : (names : List (List ℕ)) (w : List ℕ) → list_any (bytes_eq w) names ≡ true → with_name names w ≡ names
 with_same names w h = rw h refl
+
+empty_there : (names : List (List ℕ)) (b : Bool) → list_any (bytes_eq []) names ≡ b → with_name names [] ≡ names → list_any (bytes_eq []) names ≡ true
+empty_there names true e h = e
+empty_there names false e h =
+    let z : names ++ [] ∷ [] ≡ names = sym (ap (λ (b : Bool). cond b names (names ++ [] ∷ [])) e) ∙ h in
+    absurd (omega (arith, ap length z, length-append names ([] ∷ [])))
+
+-- a table that has the empty text, and what is put behind it
+pub still_empty : (names new : List (List ℕ)) → Extends names new → with_name names [] ≡ names → with_name new [] ≡ new
+still_empty names new grown h =
+    let e = empty_there names (list_any (bytes_eq []) names) refl h in
+    with_same new [] (ap (list_any (bytes_eq [])) grown.1 ∙ (list_any-append (bytes_eq []) names grown.0 ∙ ap (λ (b : Bool). b || list_any (bytes_eq []) grown.0) e))
 
 pub some_table : (bytes : List ℕ) → FirstTable bytes
 some_table bytes =
