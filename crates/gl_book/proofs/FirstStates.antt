@@ -175,7 +175,7 @@ module _ (k : ℕ) (small : k < 43) (so_far : Held k) where
         world = with_definition so_far.world d;
         table = new_table;
         holds = subst (λ (n : ℕ). HoldsFirst n new (with_definition so_far.world d)) further
-        (holds_more new new k so_far.world d (omega (arith, small)) (extends_same new) held ground (its_title new k its_parts.name vars its_parts.body next new (extends_same new)) (its_variables new k its_parts.name vars its_parts.body next new (extends_same new) vars refl) e);
+            (holds_more new new k so_far.world d (omega (arith, small)) (extends_same new) held ground (its_title new k its_parts.name vars its_parts.body next new (extends_same new)) (its_variables new k its_parts.name vars its_parts.body next new (extends_same new) vars refl) e);
         total = world_push so_far.world.definitions so_far.world.cliques (d ∷ []) so_far.total clique;
       }
   one_more (Err i) e = absurd (is_admitted new k its_parts.name vars its_parts.body next apart body refl i e)

@@ -1,6 +1,7 @@
 pub mod Inputs
 pub mod Places
-pub mod Evaluated
+pub mod Refusals
+pub mod ManyLines
 pub mod Joined
 pub mod Told
 pub mod Wideness

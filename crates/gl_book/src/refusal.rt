@@ -1,6 +1,6 @@
 //! Why a book is refused at a place.
 
-ghost use Rattle.std.specs.Prelude.{◌≡◌, IfOk};
+ghost use Rattle.std.specs.Prelude.{◌≡◌, IfOk, string_bytes};
 ghost use Rattle.gl_book.specs.Lines.{read_word as word_of, term_word as word_of_term, cause_word as word_of_cause, event_word, code_word, refused_line};
 
 use super::answer::Cause;
@@ -75,7 +75,7 @@ pub fn cause_word(cause: Cause) -> &'static str
 
 /// What a transcript has for a form that means no event.
 fn event_words(alloc: Global, fault: EventFault) -> Result<String, NoMemory>
-    ensures { IfOk result (λ s. s ≡ event_word fault) }
+    ensures { IfOk result (λ s. string_bytes s ≡ event_word fault) }
 {
     let word = match fault {
         EventFault::UnknownEvent => "V1",
@@ -92,7 +92,7 @@ fn event_words(alloc: Global, fault: EventFault) -> Result<String, NoMemory>
 
 /// What a transcript has for a code.
 fn words(alloc: Global, code: RefusalCode) -> Result<String, NoMemory>
-    ensures { IfOk result (λ s. s ≡ code_word code) }
+    ensures { IfOk result (λ s. string_bytes s ≡ code_word code) }
 {
     match code {
         RefusalCode::Text(fault) => Ok(read_word(fault).to_string(alloc)?),

@@ -1,5 +1,5 @@
--- What a machine's refusals tell of a term without variables.
-use Rattle.std.proofs.Common.{◌≡◌, ◌≢◌, refl, sym, subst, ℕ, List, [], Result, Ok, Err, inr}
+-- What a machine's answers and refusals tell of a term without variables.
+use Rattle.std.proofs.Common.{◌≡◌, ◌≢◌, ◌∙◌, ap, refl, sym, subst, ℕ, List, [], Result, Ok, Err, inr}
 use Rattle.std.specs.List.{All, Contains, flat_map}
 use Rattle.std.proofs.lemmas.List.Elements.{All-contains}
 use Rattle.gl_logic.specs.Object.{Object}
@@ -18,7 +18,12 @@ use Rattle.lisp_eval.specs.declared.fault.EvalFault.TheVariants as fault
 use Rattle.gl_decide.specs.Bounds.{Bounds}
 use Rattle.gl_decide.specs.Causes.{IsOutOfSteps, IsOutOfCells}
 use Rattle.gl_decide.proofs.Causes.{from_constants, from_dear, from_crowd}
-use Rattle.gl_book.specs.Answers.{LacksValue}
+use Rattle.gl_logic.specs.Evaluate.{HasValue}
+use Rattle.gl_logic.specs.Parts.{IsLarge}
+use Rattle.hons_arena.specs.Held.{Held}
+use Rattle.hons_arena.specs.Ids.{object_at}
+use Rattle.lisp_eval.specs.Answers.{IsValueOf}
+use Rattle.gl_book.specs.Answers.{IsValue, IsPrintedValue, IsTooLarge, LacksValue}
 use Rattle.gl_book.specs.Evaluations.{BeginsFor, cause_from}
 
 module _ (bounds : Bounds) (w : WorldSeen) (memoized : List ℕ) (t : Exp) where
@@ -41,3 +46,14 @@ module _ (bounds : Bounds) (w : WorldSeen) (memoized : List ℕ) (t : Exp) where
     no_size = λ p. absurd cc;
   }
   not_evaluated m b fault.Memory r e l = record { has = tt; no_size = λ p. absurd cc }
+
+-- ---- values
+module _ (w : WorldSeen) (t : Exp) (arena other : Held) (id : Id) (same : other ≡ arena) (v : IsValueOf w [] t arena.objects id) where
+  value_there : IsValue w t (object_at other.objects id)
+  value_there = record { has = subst (λ (a : Held). HasValue w.definitions [] t (object_at a.objects id)) (sym same) v.value; narrow = v.narrow }
+
+  pub printed_value : (x : Object) → x ≡ object_at other.objects id → (IsLarge (object_at other.objects id) → ⊥) → IsPrintedValue w t x
+  printed_value x at small = subst (IsPrintedValue w t) (sym at) (record { is = value_there; small = small })
+
+  pub too_large : IsLarge (object_at other.objects id) → IsTooLarge w t
+  too_large l = (object_at other.objects id, value_there, l)
