@@ -13,3 +13,4 @@ mod shapes;
 mod terms;
 mod texts;
 mod vectors;
+mod worked;

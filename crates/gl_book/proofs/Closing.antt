@@ -5,8 +5,9 @@ use Rattle.std.specs.List.{flat_map, list_any}
 use Rattle.std.proofs.lemmas.List.Sums.{count_by-le-length, sum_by-append, sum_by-cons}
 use Rattle.std.proofs.lemmas.List.Folds.{list_any-append}
 use Rattle.gl_base.specs.declared.status.Status.TheVariants as status
+use Rattle.event_world.specs.EventSeen.{EventSeen}
 use Rattle.gl_book.specs.Entry.{Entry, Answered, Refused}
-use Rattle.gl_book.specs.Lines.{entry_lines, done_line, is_answer, is_proved, is_vacuous, is_refuted, is_undecided, counts_of, is_refusal, status_by, status_of}
+use Rattle.gl_book.specs.Lines.{entry_lines, done_line, is_answer, is_proved, is_vacuous, is_refuted, is_undecided, is_failed, counts_of, is_refusal, status_by, status_of}
 use Rattle.gl_book.specs.Stops.{one_more, counts_with, HasRoom, closing_lines, closing_status}
 use Rattle.gl_book.specs.declared.answer.Answer.{Answer}
 use Rattle.gl_book.specs.declared.refusal.Refusal.{Refusal}
@@ -22,17 +23,17 @@ count_more p xs y =
     sum_by-append f xs (y ∷ []) ∙ one_last (p y) (count_by p xs) (count_by p (y ∷ [])) (sum_by-cons f y [])
 
 module _ (done : List Entry) where
-  pub counts_more : (a : Answer) → counts_with (counts_of done) a ≡ counts_of (done ++ Answered a ∷ [])
-  counts_more a = rw (count_more (is_answer is_proved) done (Answered a), count_more (is_answer is_vacuous) done (Answered a), count_more (is_answer is_refuted) done (Answered a), count_more (is_answer is_undecided) done (Answered a)) refl
+  pub counts_more : (e : EventSeen) (a : Answer) → counts_with (counts_of done) a ≡ counts_of (done ++ Answered e a ∷ [])
+  counts_more e a = rw (count_more (is_answer is_proved) done (Answered e a), count_more (is_answer is_vacuous) done (Answered e a), count_more (is_answer is_refuted) done (Answered e a), count_more (is_answer is_undecided) done (Answered e a), count_more (is_answer is_failed) done (Answered e a)) refl
 
   pub counts_refused : (r : Refusal) → counts_of (done ++ Refused r ∷ []) ≡ counts_of done
-  counts_refused r = rw (count_more (is_answer is_proved) done (Refused r), count_more (is_answer is_vacuous) done (Refused r), count_more (is_answer is_refuted) done (Refused r), count_more (is_answer is_undecided) done (Refused r)) refl
+  counts_refused r = rw (count_more (is_answer is_proved) done (Refused r), count_more (is_answer is_vacuous) done (Refused r), count_more (is_answer is_refuted) done (Refused r), count_more (is_answer is_undecided) done (Refused r), count_more (is_answer is_failed) done (Refused r)) refl
 
   pub room : length done < 2 ^ 64 - 1 → HasRoom (counts_of done)
   room h =
       let few : (p : Entry → Bool) → count_by p done ≤ length done = λ p. count_by-le-length p done in
       let one : (p : Entry → Bool) → count_by p done < 2 ^ 64 - 1 = λ p. let k = few p in omega (arith, k, h) in
-      (one (is_answer is_proved), one (is_answer is_vacuous), one (is_answer is_refuted), one (is_answer is_undecided))
+      (one (is_answer is_proved), one (is_answer is_vacuous), one (is_answer is_refuted), one (is_answer is_undecided), one (is_answer is_failed))
 
 -- ---- the end
 abbrev pub closing : Option Refusal → List Entry
@@ -51,5 +52,5 @@ module _ (names : List (List ℕ)) (done : List Entry) where
       let some : list_any is_refusal (done ++ Refused r ∷ []) ≡ true = list_any-append is_refusal done (Refused r ∷ []) ∙ ap (λ b. b || true) none in
       ap (λ b. cond b status.BookRefused (status_by (counts_of (done ++ Refused r ∷ [])))) (sym some)
 
-pub still_answered : (done : List Entry) (a : Answer) → list_any is_refusal done ≡ false → list_any is_refusal (done ++ Answered a ∷ []) ≡ false
-still_answered done a none = list_any-append is_refusal done (Answered a ∷ []) ∙ ap (λ b. b || false) none
+pub still_answered : (done : List Entry) (e : EventSeen) (a : Answer) → list_any is_refusal done ≡ false → list_any is_refusal (done ++ Answered e a ∷ []) ≡ false
+still_answered done e a none = list_any-append is_refusal done (Answered e a ∷ []) ∙ ap (λ b. b || false) none

@@ -1,7 +1,7 @@
 -- What a run has written, by how it ended.
 use Rattle.gl_decide.specs.Bounds.{Bounds}
 use Rattle.std.proofs.Common.{◌≡◌, ◌≤◌, sym, subst, refl, ℕ, List, [], ◌∷◌, take, length, Bool, true, false, cond, Option, Some, None, inl, inr, arith}
-use Rattle.std.specs.Prelude.{OnOk, OnErr, IfOk, IfSome, Result, Ok, Err, nat_lt}
+use Rattle.std.specs.Prelude.{OnOk, OnErr, IfOk, IfSome, Result, Ok, Err, nat_lt, ◌||◌}
 use Rattle.std.specs.List.{list_any}
 use Rattle.std.proofs.lemmas.Bool.{cases_Bool, ltb-true, ltb-false}
 use Rattle.std.proofs.lemmas.List.{take_all}
@@ -11,11 +11,9 @@ use Rattle.gl_base.specs.declared.status.Status.TheVariants as status
 use Rattle.sexp_reader.specs.declared.ends.Forms.{Forms}
 use Rattle.sexp_reader.specs.Book.{IsBeyond}
 use Rattle.sexp_reader.specs.Places.{behind, first_place}
-use Rattle.sexp_reader.specs.Reads.{start}
-use Rattle.sexp_reader.proofs.Exact.{some_reading}
-use Rattle.sexp_reader.proofs.FirstTable.{first_table}
-use Rattle.sexp_reader.proofs.Tabled.{table, is_table, table_numbers}
-use Rattle.gl_book.specs.Events.{first_state}
+use Rattle.event_world.specs.NextState.{BookState}
+use Rattle.gl_book.specs.Walk.{IsFirstState}
+use Rattle.gl_book.proofs.FirstStates.{FirstTable, some_table}
 use Rattle.gl_book.specs.Entry.{Entry, Refused}
 use Rattle.gl_book.specs.Lines.{transcript_lines, status_of, counts_of, is_refusal}
 use Rattle.gl_book.specs.Transcript.{most_bytes, long_refusal, IsReadBy, long, short, IsTranscript, WritesFront, WritesTranscript, EndsWith, WritesBook}
@@ -80,22 +78,22 @@ reported_by false false true = tt
 reported_by false false false = tt
 
 reported : (entries : List Entry) → IsReported (status_of entries)
-reported entries = reported_by (list_any is_refusal entries) (nat_lt 0 (counts_of entries).refuted) (nat_lt 0 (counts_of entries).undecided)
+reported entries = reported_by (list_any is_refusal entries) (nat_lt 0 (counts_of entries).refuted || nat_lt 0 (counts_of entries).failed) (nat_lt 0 (counts_of entries).undecided)
 
 module _ (bounds : Bounds) (text : List ℕ) (last : Bool) (old new : Option (List ℕ)) where
   -- ---- a text that is read and walked
-  module _ (names : List (List ℕ)) (book : Forms) (within : length text ≤ most_bytes) (read : IsReadBy names text book.list book.end) where
-    walk_written : (s : Status) → WritesWalk names bounds book last old new s → WritesTranscript bounds text last old new s
-    walk_written s w = (transcript_lines names w.0, (names, w.0, short book.list book.end w.0 within read w.1, refl, w.3), w.2)
+  module _ (names : List (List ℕ)) (book : Forms) (within : length text ≤ most_bytes) (read : IsReadBy names text book.list book.end) (first : BookState) (begins : IsFirstState names first) where
+    walk_written : (s : Status) → WritesWalk names bounds first book last old new s → WritesTranscript bounds text last old new s
+    walk_written s w = (transcript_lines names w.0, (names, w.0, short book.list book.end first w.0 within read begins w.1, refl, w.3), w.2)
 
-    pub walk_reported : (run : Result Status Stop) → IfOk run (WritesWalk names bounds book last old new) → IfOk run IsReported
+    pub walk_reported : (run : Result Status Stop) → IfOk run (WritesWalk names bounds first book last old new) → IfOk run IsReported
     walk_reported (Ok s) w = subst IsReported (sym w.3) (reported w.0)
     walk_reported (Err stop) w = tt
 
-    pub front_written : WritesWalkFront names bounds book last old new → WritesFront bounds text last old new
-    front_written w = (transcript_lines names w.0, status_of w.0, w.2.0, (names, w.0, short book.list book.end w.0 within read w.1, refl, refl), w.2.1)
+    pub front_written : WritesWalkFront names bounds first book last old new → WritesFront bounds text last old new
+    front_written w = (transcript_lines names w.0, status_of w.0, w.2.0, (names, w.0, short book.list book.end first w.0 within read begins w.1, refl, refl), w.2.1)
 
-    pub walked : (run : Result Status Stop) → IfOk run (WritesWalk names bounds book last old new) → OnErr run (WritesWalkFront names bounds book last old new) → EndsBy bounds text last old new run
+    pub walked : (run : Result Status Stop) → IfOk run (WritesWalk names bounds first book last old new) → OnErr run (WritesWalkFront names bounds first book last old new) → EndsBy bounds text last old new run
     walked (Ok s) h f = walk_written s h
     walked (Err stop) h f = front_written f
 
@@ -135,11 +133,9 @@ some_transcript bounds text = elim (cases_Bool (nat_lt most_bytes (length text))
       let entries : List Entry = Refused (long_refusal place.line place.column) ∷ [] in
       (transcript_lines [] entries, status_of entries, ([], entries, long place.line place.column (ltb-true most_bytes (length text) e, refl), refl, refl))
   | inr e ↦
-      let names = table first_table text in
-      let read = some_reading names (start text) in
-      let by : IsReadBy names text read.0 read.1 = record { table = is_table first_table text; reads = read.2; numbered = table_numbers first_table text read.0 read.1 read.2 } in
-      let walk = some_walk names bounds read.1 first_state read.0 in
-      (transcript_lines names walk.0, status_of walk.0, (names, walk.0, short read.0 read.1 walk.0 (ltb-false most_bytes (length text) e) by walk.1, refl, refl))
+      let first = some_table text in
+      let walk = some_walk first.names bounds first.end first.state first.forms first.can in
+      (transcript_lines first.names walk.0, status_of walk.0, (first.names, walk.0, short first.forms first.end first.state walk.0 (ltb-false most_bytes (length text) e) first.read first.begins walk.1, refl, refl))
 ]
 
 pub nothing_written : (bounds : Bounds) (text : List ℕ) (last : Bool) (old new : Option (List ℕ)) → old ≡ new → WritesFront bounds text last old new

@@ -1,12 +1,6 @@
-pub mod Plain
-pub mod PlainValue
-pub mod Scans
-pub mod Translation
-pub mod Events
-pub mod EventOf
-pub mod PlainEvents
-pub mod NatOf
 pub mod Entry
+pub mod Answers
+pub mod Evaluations
 pub mod Lines
 pub mod Walk
 pub mod Transcript

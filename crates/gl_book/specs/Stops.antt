@@ -8,9 +8,9 @@ use Rattle.gl_base.specs.declared.status.Status.TheVariants as status
 use Rattle.sexp_reader.specs.declared.ends.Forms.{Forms}
 use Rattle.sexp_reader.specs.declared.ends.End.{End}
 use Rattle.sexp_reader.specs.declared.ends.End.TheVariants.{Clean, Bad}
-use Rattle.gl_book.specs.Events.{first_state}
+use Rattle.event_world.specs.NextState.{BookState}
 use Rattle.gl_book.specs.Entry.{Entry}
-use Rattle.gl_book.specs.Lines.{refused_line, is_proved, is_vacuous, is_refuted, is_undecided, done_line, status_by, transcript_lines, status_of}
+use Rattle.gl_book.specs.Lines.{refused_line, is_proved, is_vacuous, is_refuted, is_undecided, is_failed, done_line, status_by, transcript_lines, status_of}
 use Rattle.gl_book.specs.Walk.{Walk, text_refusal}
 use Rattle.gl_book.specs.Transcript.{told, WritesTranscript, WritesFront}
 use Rattle.gl_book.specs.declared.answer.Answer.{Answer}
@@ -33,10 +33,10 @@ abbrev pub one_more : Bool → ℕ → ℕ
 one_more b n = cond b (n + 1) n
 
 abbrev pub counts_with : Counts → Answer → Counts
-counts_with c a = record { proved = one_more (is_proved a) c.proved; vacuous = one_more (is_vacuous a) c.vacuous; refuted = one_more (is_refuted a) c.refuted; undecided = one_more (is_undecided a) c.undecided }
+counts_with c a = record { proved = one_more (is_proved a) c.proved; vacuous = one_more (is_vacuous a) c.vacuous; refuted = one_more (is_refuted a) c.refuted; undecided = one_more (is_undecided a) c.undecided; failed = one_more (is_failed a) c.failed }
 
 abbrev pub HasRoom : Counts → Type 0
-HasRoom c = (c.proved < 2 ^ 64 - 1) × (c.vacuous < 2 ^ 64 - 1) × (c.refuted < 2 ^ 64 - 1) × (c.undecided < 2 ^ 64 - 1)
+HasRoom c = (c.proved < 2 ^ 64 - 1) × (c.vacuous < 2 ^ 64 - 1) × (c.refuted < 2 ^ 64 - 1) × (c.undecided < 2 ^ 64 - 1) × (c.failed < 2 ^ 64 - 1)
 
 -- ---- the end of a transcript
 abbrev pub end_refusal : End → Option Refusal
@@ -59,12 +59,12 @@ WritesLines last_only lines old new = Grows old new (told last_only lines)
 abbrev pub WritesLinesFront : Bool → List (List ℕ) → Option (List ℕ) → Option (List ℕ) → Type 0
 WritesLinesFront last_only lines old new = (n : ℕ) × Grows old new (take n (told last_only lines))
 
-abbrev pub WritesWalk : List (List ℕ) → Bounds → Forms → Bool → Option (List ℕ) → Option (List ℕ) → Status → Type 0
-WritesWalk names bounds book last_only old new s =
-    (entries : List Entry) × Walk names bounds first_state book.list book.end entries × WritesLines last_only (transcript_lines names entries) old new × (s ≡ status_of entries)
+abbrev pub WritesWalk : List (List ℕ) → Bounds → BookState → Forms → Bool → Option (List ℕ) → Option (List ℕ) → Status → Type 0
+WritesWalk names bounds first book last_only old new s =
+    (entries : List Entry) × Walk names bounds first book.list book.end entries × WritesLines last_only (transcript_lines names entries) old new × (s ≡ status_of entries)
 
-abbrev pub WritesWalkFront : List (List ℕ) → Bounds → Forms → Bool → Option (List ℕ) → Option (List ℕ) → Type 0
-WritesWalkFront names bounds book last_only old new = (entries : List Entry) × Walk names bounds first_state book.list book.end entries × WritesLinesFront last_only (transcript_lines names entries) old new
+abbrev pub WritesWalkFront : List (List ℕ) → Bounds → BookState → Forms → Bool → Option (List ℕ) → Option (List ℕ) → Type 0
+WritesWalkFront names bounds first book last_only old new = (entries : List Entry) × Walk names bounds first book.list book.end entries × WritesLinesFront last_only (transcript_lines names entries) old new
 
 -- lines before the last one: all of them, or none where the last one alone is told
 abbrev pub told_before : Bool → List (List ℕ) → List ℕ

@@ -3,7 +3,7 @@ use Rattle.gl_decide.specs.Bounds.{Bounds}
 use Rattle.std.specs.Prelude.{◌≡◌, ℕ, ◌-◌, ◌≤◌, Bool, false, cond, List, [], ◌∷◌, length, take, get_or, All, Option, IfSome}
 use Rattle.std.specs.List.{concat}
 use Rattle.gl_logic.specs.Numbered.{IsNumbered}
-use Rattle.gl_logic.specs.Names.{IsTable}
+use Rattle.gl_logic.specs.Names.{IsTable, with_name}
 use Rattle.gl_base.specs.Outside.{Grows}
 use Rattle.gl_base.specs.declared.status.Status.{Status}
 use Rattle.gl_base.specs.declared.status.Status.TheVariants as status
@@ -11,10 +11,10 @@ use Rattle.sexp_reader.specs.declared.list.Form.{Form}
 use Rattle.sexp_reader.specs.declared.ends.End.{End}
 use Rattle.sexp_reader.specs.Book.{IsBeyond}
 use Rattle.sexp_reader.specs.Reads.{Reads}
-use Rattle.gl_book.specs.Events.{first_state}
+use Rattle.event_world.specs.NextState.{BookState}
 use Rattle.gl_book.specs.Entry.{Entry, Refused}
 use Rattle.gl_book.specs.Lines.{transcript_lines, status_of}
-use Rattle.gl_book.specs.Walk.{Walk}
+use Rattle.gl_book.specs.Walk.{IsFirstState, Walk}
 use Rattle.gl_book.specs.declared.refusal.Refusal.{Refusal}
 use Rattle.gl_book.specs.declared.refusal.RefusalCode.TheVariants as code
 
@@ -26,17 +26,18 @@ most_bytes = 4194304
 abbrev pub long_refusal : ℕ → ℕ → Refusal
 long_refusal line column = record { line = line; column = column; code = code.TooLong }
 
--- the forms of a text and its end, whose symbols and strings a table of texts numbers
+-- the forms of a text and its end, whose symbols and strings a table of texts numbers. The table has the empty text
 pub record IsReadBy (names : List (List ℕ)) (bytes : List ℕ) (forms : List Form) (end : End) : Type 0 where
   pub table : IsTable names
+  pub empty : with_name names [] ≡ names
   pub reads : Reads names bytes forms end
   pub numbered : All (λ form. IsNumbered (length names) form.tree) forms
 
 -- what comes of a text: it is too long, or its forms are walked
 pub data ComesOf (names : List (List ℕ)) (bounds : Bounds) (bytes : List ℕ) : List Entry → Type 0 where
   long : (line column : ℕ) → IsBeyond most_bytes bytes line column → ComesOf names bounds bytes (Refused (long_refusal line column) ∷ [])
-  short : (forms : List Form) (end : End) (entries : List Entry) → length bytes ≤ most_bytes → IsReadBy names bytes forms end
-      → Walk names bounds first_state forms end entries → ComesOf names bounds bytes entries
+  short : (forms : List Form) (end : End) (first : BookState) (entries : List Entry) → length bytes ≤ most_bytes → IsReadBy names bytes forms end
+      → IsFirstState names first → Walk names bounds first forms end entries → ComesOf names bounds bytes entries
 
 -- by the limits of the run
 abbrev pub IsTranscript : Bounds → List ℕ → List (List ℕ) → Status → Type 0

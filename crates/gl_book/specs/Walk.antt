@@ -1,48 +1,57 @@
 -- What comes of a book's forms, one after the other.
-use Rattle.gl_decide.specs.Bounds.{Bounds}
-use Rattle.std.specs.Prelude.{◌≡◌, ℕ, List, [], ◌∷◌, Ok, Err}
-use Rattle.gl_logic.specs.Object.{Object}
-use Rattle.gl_logic.specs.Parts.{IsLarge}
-use Rattle.gl_logic.specs.Exp.{Exp}
-use Rattle.gl_logic.specs.Evaluate.{HasValue}
-use Rattle.gl_logic.specs.Wide.{IsWide}
-use Rattle.gl_logic.specs.WorldSeen.{WorldSeen}
+use Rattle.std.specs.Prelude.{◌≡◌, ◌≢◌, ℕ, zero, List, [], ◌∷◌, Option, Some, None, Ok, Err, refl}
+use Rattle.std.specs.Coded.{Coded, code_by, coded×, coded_ℕ, coded_list}
+use Rattle.gl_logic.specs.Object.{Object, nil}
+use Rattle.gl_logic.specs.WorldSeen.{WorldSeen, IsWorld, coded_world}
+use Rattle.shape_spec.specs.declared.theorem.Mode.{Mode}
+use Rattle.shape_spec.specs.declared.theorem.Mode.TheVariants as mode
 use Rattle.sexp_reader.specs.declared.list.Form.{Form}
 use Rattle.sexp_reader.specs.declared.ends.ReadCode.{ReadCode}
 use Rattle.sexp_reader.specs.declared.ends.End.{End}
 use Rattle.sexp_reader.specs.declared.ends.End.TheVariants.{Clean, Bad}
-use Rattle.gl_decide.specs.Verdicts.{IsProperVerdict}
-use Rattle.gl_book.specs.Events.{Event, Value, Claim, event_meant, next_state}
+use Rattle.event_world.specs.declared.fault.EventFault.{EventFault}
+use Rattle.event_world.specs.EventSeen.{EventSeen, Defconst}
+use Rattle.event_world.specs.EventMeant.{event_meant}
+use Rattle.event_world.specs.NextState.{BookState, next_state}
+use Rattle.event_world.specs.Outcomes.{Outcome}
+use Rattle.event_world.specs.Prelude.{IsPrelude}
+use Rattle.event_world.specs.Suits.{HasAllGround}
+use Rattle.gl_decide.specs.Bounds.{Bounds}
+use Rattle.gl_book.specs.Answers.{IsProperAnswer}
 use Rattle.gl_book.specs.Entry.{Entry, Answered, Refused}
-use Rattle.gl_book.specs.declared.state.State.{State}
 use Rattle.gl_book.specs.declared.refusal.Refusal.{Refusal}
 use Rattle.gl_book.specs.declared.refusal.RefusalCode.{RefusalCode}
 use Rattle.gl_book.specs.declared.refusal.RefusalCode.TheVariants as code
 use Rattle.gl_book.specs.declared.answer.Answer.{Answer}
 use Rattle.gl_book.specs.declared.answer.Answer.TheVariants as answer
+use Rattle.gl_book.specs.declared.answer.Cause.{Cause}
+use Rattle.gl_book.specs.declared.answer.Cause.TheVariants as cause
 
--- ---- the world of today's language, in which nothing is defined
-abbrev pub no_world : WorldSeen
-no_world = record { definitions = []; cliques = []; constants = []; events = [] }
+-- ---- states
+-- a book's first form stands behind the ground definitions alone, in BDD mode, with nothing memoized
+pub record IsFirstState (names : List (List ℕ)) (s : BookState) : Type 0 where
+  pub world : IsPrelude names s.world
+  pub mode : s.mode ≡ mode.Bdd
+  pub memoized : s.memoized ≡ []
 
--- ---- answers
--- the value of a term without variables, by the definitions alone
-abbrev pub IsProperValue : Exp → Answer → Type 0
--- no value on the way leaves 128 bits, and it is not too large to print
-IsProperValue t (answer.Value x) = HasValue [] [] t x × (¬ IsWide [] [] t × ¬ IsLarge x)
--- no value on the way leaves 128 bits, and it is too large to print
-IsProperValue t answer.TooLarge = ¬ IsWide [] [] t × ((x : Object) × HasValue [] [] t x × IsLarge x)
--- where memory is refused there is none
-IsProperValue t answer.NoValue = Unit {0}
-IsProperValue t (answer.Decided name v) = ⊥
+-- the event that a form means in a state, or the code of its refusal
+abbrev pub event_in : List (List ℕ) → BookState → Object → Outcome EventSeen
+event_in names s form = event_meant names s.world s.mode s.memoized form
 
--- and a theorem's verdict is proper by the limits of the run
-abbrev pub IsProperAnswer : Bounds → Event → Answer → Type 0
-IsProperAnswer bounds (Value t) a = IsProperValue t a
-IsProperAnswer bounds (Claim thm) (answer.Decided name v) = (name.number ≡ thm.name) × IsProperVerdict no_world bounds thm v
-IsProperAnswer bounds (Claim thm) _ = ⊥
+-- the value that an answer gives
+abbrev pub value_in : Answer → Object
+value_in (answer.Value x) = x
+value_in _ = nil
 
--- ---- forms
+abbrev pub state_after : BookState → Object → EventSeen → Answer → BookState
+state_after s form e a = next_state s form e (value_in a)
+
+-- a state whose world has all ground definitions, and whose definitions are cliques of admissible ones, so that each term has a value
+pub record CanGoOn (s : BookState) : Type 0 where
+  pub ground : HasAllGround s.world
+  pub total : IsWorld s.world.definitions s.world.cliques
+
+-- ---- refusals
 -- a refusal at a form's place
 abbrev pub refusal_at : Form → RefusalCode → Refusal
 refusal_at form code = record { line = form.line; column = form.column; code = code }
@@ -50,14 +59,46 @@ refusal_at form code = record { line = form.line; column = form.column; code = c
 abbrev pub text_refusal : ℕ → ℕ → ReadCode → Refusal
 text_refusal line column fault = record { line = line; column = column; code = code.Text fault }
 
+-- the cause for which a constant has no value
+abbrev pub constant_cause : Answer → Option Cause
+constant_cause (answer.Undecided why) = Some why
+constant_cause _ = None
+
+abbrev pub refused_cause : EventSeen → Answer → Option Cause
+refused_cause (Defconst name t) a = constant_cause a
+refused_cause _ a = None
+
+-- ---- forms
 -- what comes of forms from a state on, by the limits of the run
-pub data Walk (names : List (List ℕ)) (bounds : Bounds) : State → List Form → End → List Entry → Type 0 where
+pub data Walk (names : List (List ℕ)) (bounds : Bounds) : BookState → List Form → End → List Entry → Type 0 where
   -- no form is left: nothing more, or the text's own refusal
-  ended : (state : State) → Walk names bounds state [] Clean []
-  bad : (state : State) (line column : ℕ) (fault : ReadCode) → Walk names bounds state [] (Bad line column fault) (Refused (text_refusal line column fault) ∷ [])
+  ended : (s : BookState) → Walk names bounds s [] Clean []
+  bad : (s : BookState) (line column : ℕ) (fault : ReadCode) → Walk names bounds s [] (Bad line column fault) (Refused (text_refusal line column fault) ∷ [])
   -- the next form is refused, which ends the book
-  refused : (state : State) (form : Form) (forms : List Form) (end : End) (code : RefusalCode) → event_meant names state form.tree ≡ Err code
-      → Walk names bounds state (form ∷ forms) end (Refused (refusal_at form code) ∷ [])
-  -- or it means an event, which is answered before the next one is looked at
-  event : (state : State) (form : Form) (forms : List Form) (end : End) (entries : List Entry) (e : Event) (a : Answer) → event_meant names state form.tree ≡ Ok e
-      → IsProperAnswer bounds e a → Walk names bounds (next_state state e) forms end entries → Walk names bounds state (form ∷ forms) end (Answered a ∷ entries)
+  refused : (s : BookState) (form : Form) (forms : List Form) (end : End) (fault : EventFault) → event_in names s form.tree ≡ Err fault
+      → Walk names bounds s (form ∷ forms) end (Refused (refusal_at form (code.Event fault)) ∷ [])
+  -- or it means a constant that has no value for a cause other than memory, which ends the book
+  without_value : (s : BookState) (form : Form) (forms : List Form) (end : End) (e : EventSeen) (a : Answer) (why : Cause) → event_in names s form.tree ≡ Ok e
+      → IsProperAnswer bounds s.world s.memoized e a → refused_cause e a ≡ Some why → why ≢ cause.Memory
+      → Walk names bounds s (form ∷ forms) end (Refused (refusal_at form (code.Constant why)) ∷ [])
+  -- or it means an event, which is answered before the next form is looked at
+  event : (s : BookState) (form : Form) (forms : List Form) (end : End) (entries : List Entry) (e : EventSeen) (a : Answer) → event_in names s form.tree ≡ Ok e
+      → IsProperAnswer bounds s.world s.memoized e a → refused_cause e a ≡ None → Walk names bounds (state_after s form.tree e a) forms end entries
+      → Walk names bounds s (form ∷ forms) end (Answered e a ∷ entries)
+
+-- ---- how a ghost value keeps a state
+abbrev pub mode_code : Mode → ℕ
+mode_code mode.Bdd = 0
+mode_code mode.Sat = 1
+
+abbrev pub mode_from : ℕ → Mode
+mode_from zero = mode.Bdd
+mode_from _ = mode.Sat
+
+abbrev pub mode_back : (m : Mode) → mode_from (mode_code m) ≡ m
+mode_back mode.Bdd = refl
+mode_back mode.Sat = refl
+
+abbrev pub coded_state : Coded BookState
+coded_state =
+    code_by (WorldSeen × (ℕ × List ℕ)) (coded× coded_world (coded× coded_ℕ (coded_list coded_ℕ))) (λ s. (s.world, (mode_code s.mode, s.memoized))) (λ p. record { world = p.0; mode = mode_from p.1.0; memoized = p.1.1 }) (λ s. λ i. record { world = s.world; mode = mode_back s.mode i; memoized = s.memoized })

@@ -1,57 +1,133 @@
 //! Answers to events.
 
-ghost use Rattle.std.specs.Prelude.{[]};
+ghost use Rattle.std.specs.Prelude.{◌<◌, length};
 ghost use Rattle.gl_logic.specs.TermOf.{term_of};
+ghost use Rattle.gl_logic.specs.IsTermOf.{IsTermOf};
+ghost use Rattle.lisp_eval.specs.Machines.{AreFunctionsOf};
+ghost use Rattle.event_world.specs.Seen.{event_seen, theorem_seen};
 ghost use Rattle.gl_decide.specs.Bounds.{bounds_of};
-ghost use Rattle.gl_book.specs.Plain.{IsPlain};
-ghost use Rattle.gl_book.specs.Events.{Value};
-ghost use Rattle.gl_book.specs.EventOf.{event_of};
-ghost use Rattle.gl_book.specs.PlainEvents.{IsPlainEvent, IsModest};
-ghost use Rattle.gl_book.specs.Walk.{IsProperValue, IsProperAnswer};
+ghost use Rattle.gl_book.specs.Answers.{IsProperValue, IsProperTruth, IsFunctionNamed, IsDecided, IsProperAnswer, IsReadyTheorem, IsAnswerable};
 
-use super::decide::decide_theorem;
-use super::event::Event;
-use super::size::is_large;
-use super::walker::value_of;
+use super::evaluated::{truth_of, value_of};
+use event_world::Event;
 use gl_base::limits::Limits;
-use gl_decide::Verdict;
-use gl_logic::{Term, TextId, Tree};
-use shape_spec::Inputs;
+use gl_decide::{Verdict, decide_theorem};
+use gl_logic::{FnId, Term, TextId, Tree, World};
+use shape_spec::{FnSet, Thm};
 use std::alloc::Global;
+use std::thread::Threads;
 
-/// The answer to one event of a book.
+/// Why a term's value is not there, or not printed.
+#[derive(Clone, Copy, Debug, PartialEq, Eq)]
+pub enum Cause {
+    /// Some value on the way is an integer outside 128 bits.
+    Width,
+    /// The evaluation visits more subterms than the limit of steps.
+    Steps,
+    /// The evaluation speaks of more different cells than the limit of cells.
+    Cells,
+    /// The value has more than 1,000,000 leaves, or more than 1,000 car steps on one path.
+    Size,
+    /// Memory was refused.
+    Memory,
+}
+
+/// What is found out for an event beyond the event itself.
 #[derive(Drop)]
 pub enum Answer {
-    /// The value of a term.
+    /// Nothing is to be found out.
+    Done,
+    /// The name of the function whose calls are kept from now on, or no longer.
+    Function(TextId),
+    /// The value of a `value-triple` or of a constant.
     Value(Tree),
-    /// The value of a term is too large to print: it has more than 1,000,000 leaves.
-    TooLarge,
-    /// Memory was refused to a value.
-    NoValue,
-    /// The verdict on the theorem with this name.
-    Decided(TextId, Verdict),
+    /// Whether an asserted value is not NIL.
+    Truth(bool),
+    /// A value, an assert or a constant is left undecided.
+    Undecided(Cause),
+    /// The verdict on a theorem.
+    Decided(Verdict),
 }
 
-/// The answer to an event.
-pub fn answer_of(alloc: Global, event: &Event, limits: &Limits) -> Answer
-    requires plain { IsPlainEvent (event_of event.now) }
-    requires modest { IsModest (event_of event.now) }
-    ensures { IsProperAnswer (bounds_of limits.now) (event_of event.now) result }
+/// The answer to an event of a world, with the functions whose calls are kept at its place.
+pub fn answer_of<R: Threads + Sync>(
+    rt: &R,
+    alloc: Global,
+    world: &World,
+    memoized: &FnSet,
+    event: &Event,
+    limits: &Limits,
+) -> Answer
+    requires { IsAnswerable world.now.definitions memoized.now (event_seen event.now) }
+    ensures { IsProperAnswer (bounds_of limits.now) world.now memoized.now (event_seen event.now) result }
 {
     match event {
-        Event::Value(term) => value_answer(alloc, term),
-        Event::Claim(thm) => Answer::Decided(thm.name, decide_theorem(alloc, thm, limits)),
+        Event::Value(term) => value_answer(alloc, world, memoized, term, limits),
+        Event::Defconst(_, term) => value_answer(alloc, world, memoized, term, limits),
+        Event::Assert(term) => truth_answer(alloc, world, memoized, term, limits),
+        Event::Memoize(function) => name_answer(world, *function),
+        Event::Unmemoize(function) => name_answer(world, *function),
+        Event::Theorem(thm) => theorem_answer(rt, alloc, world, thm, limits),
+        Event::Nothing
+        | Event::Redundant(_)
+        | Event::Defun(_)
+        | Event::Mode(_)
+        | Event::Clique(_)
+        | Event::RedundantClique(_) => Answer::Done,
     }
 }
 
-fn value_answer(alloc: Global, term: &Term) -> Answer
-    requires plain { IsPlain [] (term_of term.now) }
-    requires modest { IsModest (Value (term_of term.now)) }
-    ensures { IsProperValue (term_of term.now) result }
+fn value_answer(
+    alloc: Global,
+    world: &World,
+    memoized: &FnSet,
+    term: &Term,
+    limits: &Limits,
+) -> Answer
+    requires term { IsTermOf world.now.definitions (term_of term.now) }
+    requires functions { AreFunctionsOf world.now memoized.now }
+    ensures { IsProperValue (bounds_of limits.now) world.now memoized.now (term_of term.now) result }
 {
-    match value_of(alloc, term, &Inputs::new(alloc)) {
-        Ok(value) if is_large(&value) => Answer::TooLarge,
+    match value_of(alloc, world, memoized, term, limits) {
         Ok(value) => Answer::Value(value),
-        Err(_) => Answer::NoValue,
+        Err(cause) => Answer::Undecided(cause),
     }
+}
+
+fn truth_answer(
+    alloc: Global,
+    world: &World,
+    memoized: &FnSet,
+    term: &Term,
+    limits: &Limits,
+) -> Answer
+    requires term { IsTermOf world.now.definitions (term_of term.now) }
+    requires functions { AreFunctionsOf world.now memoized.now }
+    ensures { IsProperTruth (bounds_of limits.now) world.now memoized.now (term_of term.now) result }
+{
+    match truth_of(alloc, world, memoized, term, limits) {
+        Ok(truth) => Answer::Truth(truth),
+        Err(cause) => Answer::Undecided(cause),
+    }
+}
+
+/// The name of a function.
+fn name_answer(world: &World, function: FnId) -> Answer
+    requires { function.number < length world.now.definitions }
+    ensures { IsFunctionNamed world.now function.number result }
+{
+    Answer::Function(world.def(function).name)
+}
+
+fn theorem_answer<R: Threads + Sync>(
+    rt: &R,
+    alloc: Global,
+    world: &World,
+    thm: &Thm,
+    limits: &Limits,
+) -> Answer
+    requires { IsReadyTheorem world.now.definitions (theorem_seen thm.now) }
+    ensures { IsDecided (bounds_of limits.now) world.now (theorem_seen thm.now) result }
+{
+    Answer::Decided(decide_theorem(rt, alloc, world, thm, limits))
 }

@@ -1,7 +1,7 @@
 //! The counts of a transcript's last line.
 
 ghost use Rattle.std.specs.Prelude.{◌≡◌, ◌<◌, ◌-◌, ◌^◌, [], IfOk};
-ghost use Rattle.gl_book.specs.Lines.{done_line, is_proved, is_vacuous, is_refuted, is_undecided, counts_of, status_by};
+ghost use Rattle.gl_book.specs.Lines.{done_line, is_proved, is_vacuous, is_refuted, is_undecided, is_failed, counts_of, status_by};
 ghost use Rattle.gl_book.specs.Stops.{one_more, counts_with, HasRoom};
 
 use super::answer::Answer;
@@ -11,34 +11,35 @@ use gl_logic::NoMemory;
 use std::alloc::Global;
 
 /// The numbers of a transcript's last line: of the theorems that are proved, vacuous and refuted, and of the
-/// theorems and values that are left undecided.
+/// theorems, values and asserts that are left undecided. Beside them, how many asserted values are NIL.
 #[derive(Clone, Copy, Debug, PartialEq, Eq)]
 pub struct Counts {
     pub proved: u64,
     pub vacuous: u64,
     pub refuted: u64,
     pub undecided: u64,
+    pub failed: u64,
 }
 
 /// Whether an answer is a theorem that is proved.
 fn proved(answer: &Answer) -> bool
     ensures { result ≡ is_proved answer.now }
 {
-    matches!(answer, Answer::Decided(_, Verdict::Proved))
+    matches!(answer, Answer::Decided(Verdict::Proved))
 }
 
 /// Whether an answer is a theorem whose hypothesis nothing meets.
 fn vacuous(answer: &Answer) -> bool
     ensures { result ≡ is_vacuous answer.now }
 {
-    matches!(answer, Answer::Decided(_, Verdict::Vacuous))
+    matches!(answer, Answer::Decided(Verdict::Vacuous))
 }
 
 /// Whether an answer is a theorem that is refuted.
 fn refuted(answer: &Answer) -> bool
     ensures { result ≡ is_refuted answer.now }
 {
-    matches!(answer, Answer::Decided(_, Verdict::Refuted(_)))
+    matches!(answer, Answer::Decided(Verdict::Refuted(_)))
 }
 
 /// Whether an answer leaves its event undecided.
@@ -46,14 +47,24 @@ fn undecided(answer: &Answer) -> bool
     ensures { result ≡ is_undecided answer.now }
 {
     match answer {
-        Answer::Value(_) => false,
-        Answer::TooLarge | Answer::NoValue => true,
-        Answer::Decided(_, verdict) => {
+        Answer::Done | Answer::Function(_) | Answer::Value(_) | Answer::Truth(_) => false,
+        Answer::Undecided(_) => true,
+        Answer::Decided(verdict) => {
             !matches!(
                 verdict,
                 Verdict::Proved | Verdict::Vacuous | Verdict::Refuted(_)
             )
         }
+    }
+}
+
+/// Whether an answer is an asserted value that is NIL.
+fn failed(answer: &Answer) -> bool
+    ensures { result ≡ is_failed answer.now }
+{
+    match answer {
+        Answer::Truth(holds) => !*holds,
+        _ => false,
     }
 }
 
@@ -74,6 +85,7 @@ impl Counts {
             vacuous: 0,
             refuted: 0,
             undecided: 0,
+            failed: 0,
         }
     }
 
@@ -87,6 +99,7 @@ impl Counts {
             vacuous: more(self.vacuous, vacuous(answer)),
             refuted: more(self.refuted, refuted(answer)),
             undecided: more(self.undecided, undecided(answer)),
+            failed: more(self.failed, failed(answer)),
         }
     }
 
@@ -108,7 +121,7 @@ impl Counts {
     pub fn status(self) -> Status
         ensures { result ≡ status_by self }
     {
-        if self.refuted > 0 {
+        if self.refuted > 0 || self.failed > 0 {
             Status::Refuted
         } else if self.undecided > 0 {
             Status::Undecided

@@ -1,58 +1,205 @@
 //! The lines of a transcript.
 
-ghost use Rattle.std.specs.Prelude.{◌≡◌, [], ◌∷◌, ◌++◌, length, codes, IfOk, OnOk};
+ghost use Rattle.std.specs.Prelude.{◌≡◌, [], ◌∷◌, ◌++◌, length, codes, map, IfOk, OnOk};
+ghost use Rattle.gl_logic.specs.DefinitionOf.{definition_of};
 ghost use Rattle.sexp_print.specs.Printed.{name_of, printed};
-ghost use Rattle.gl_book.specs.Lines.{named_line, input_lines, part_word, part_lines, verdict_lines, answer_lines};
+ghost use Rattle.event_world.specs.Seen.{event_seen};
+ghost use Rattle.gl_book.specs.Lines.{named_line, input_lines, part_word, part_lines, verdict_lines, redundant_line, defun_line, constant_lines, value_lines, assert_lines, undecided_line, function_lines, mode_line, theorem_lines, event_lines};
 
-use super::answer::Answer;
+use super::answer::{Answer, Cause};
 use super::line_list::Lines;
+use super::measure_words::stated_measure;
+use super::refusal::cause_word;
+use event_world::Event;
 use gl_decide::Verdict;
-use gl_logic::{NoMemory, TextId, Texts, Tree};
+use gl_logic::{Def, Defs, Names, NoMemory, TextId, Texts, Tree};
 use sexp_print::print;
-use shape_spec::{Inputs, Part};
+use shape_spec::{Inputs, Mode, Part};
 use std::alloc::Global;
 
-/// Adds the lines of an answer.
-pub fn add_answer(
+/// Adds the lines of an event with its answer.
+pub fn add_event_lines(
+    alloc: Global,
+    event: &Event,
+    answer: &Answer,
+    texts: &Texts,
+    lines: &mut Lines,
+) -> Result<(), NoMemory>
+    ensures { OnOk result (lines.new ≡ lines.old ++ event_lines texts.now (event_seen event.now) answer.now) }
+{
+    match event {
+        Event::Nothing => Ok(()),
+        Event::Redundant(name) => add_redundant(alloc, *name, texts, lines),
+        Event::RedundantClique(names) => add_redundant_clique(alloc, names, texts, lines),
+        Event::Defun(def) => add_defun(alloc, def, texts, lines),
+        Event::Clique(defs) => add_clique(alloc, defs, texts, lines),
+        Event::Defconst(name, _) => add_constant(alloc, *name, answer, texts, lines),
+        Event::Value(_) => add_value(alloc, answer, texts, lines),
+        Event::Assert(_) => add_assert(alloc, answer, lines),
+        Event::Memoize(_) => add_function(alloc, b"MEMOIZE ", answer, texts, lines),
+        Event::Unmemoize(_) => add_function(alloc, b"UNMEMOIZE ", answer, texts, lines),
+        Event::Mode(mode) => add_mode(alloc, *mode, lines),
+        Event::Theorem(thm) => add_theorem(alloc, thm.name, answer, texts, lines),
+    }
+}
+
+fn add_redundant(
+    alloc: Global,
+    name: TextId,
+    texts: &Texts,
+    lines: &mut Lines,
+) -> Result<(), NoMemory>
+    ensures { OnOk result (lines.new ≡ lines.old ++ redundant_line texts.now name.number ∷ []) }
+{
+    add_named(alloc, b"REDUNDANT ", name, b"", texts, lines)
+}
+
+/// A line for each member of a redundant clique.
+fn add_redundant_clique(
+    alloc: Global,
+    names: &Names,
+    texts: &Texts,
+    lines: &mut Lines,
+) -> Result<(), NoMemory>
+    ensures { OnOk result (lines.new ≡ lines.old ++ map (redundant_line texts.now) names.now) }
+{
+    for i in 0..names.len() {
+        add_redundant(alloc, *names.at(i), texts, lines)?;
+    }
+    Ok(())
+}
+
+fn add_defun(alloc: Global, def: &Def, texts: &Texts, lines: &mut Lines) -> Result<(), NoMemory>
+    ensures { OnOk result (lines.new ≡ lines.old ++ defun_line texts.now (definition_of def.now) ∷ []) }
+{
+    let measure = stated_measure(alloc, def.measure, texts)?;
+    add_named(alloc, b"DEFUN ", def.name, &measure, texts, lines)
+}
+
+/// A line for each member of a clique.
+fn add_clique(alloc: Global, defs: &Defs, texts: &Texts, lines: &mut Lines) -> Result<(), NoMemory>
+    ensures { OnOk result (lines.new ≡ lines.old ++ map (defun_line texts.now) defs.now) }
+{
+    for i in 0..defs.len() {
+        add_defun(alloc, defs.at(i), texts, lines)?;
+    }
+    Ok(())
+}
+
+/// A constant's line, where it has a value.
+fn add_constant(
+    alloc: Global,
+    name: TextId,
+    answer: &Answer,
+    texts: &Texts,
+    lines: &mut Lines,
+) -> Result<(), NoMemory>
+    ensures { OnOk result (lines.new ≡ lines.old ++ constant_lines texts.now name.number answer.now) }
+{
+    match answer {
+        Answer::Value(value) => {
+            let mut after = Vec::new(alloc);
+            after.push(b' ')?;
+            print(alloc, value, texts, &mut after)?;
+            add_named(alloc, b"DEFCONST ", name, &after, texts, lines)
+        }
+        _ => Ok(()),
+    }
+}
+
+fn add_value(
     alloc: Global,
     answer: &Answer,
     texts: &Texts,
     lines: &mut Lines,
 ) -> Result<(), NoMemory>
-    ensures { OnOk result (lines.new ≡ lines.old ++ answer_lines texts.now answer.now) }
+    ensures { OnOk result (lines.new ≡ lines.old ++ value_lines texts.now answer.now) }
 {
     match answer {
-        Answer::Value(value) => add_value(alloc, value, texts, lines),
-        Answer::TooLarge => lines.push(size_line(alloc)?),
-        Answer::NoValue => lines.push(memory_line(alloc)?),
-        Answer::Decided(name, verdict) => add_verdict(alloc, *name, verdict, texts, lines),
+        Answer::Value(value) => {
+            let mut bytes = Vec::new(alloc);
+            bytes.extend_from_slice(b"VALUE ")?;
+            print(alloc, value, texts, &mut bytes)?;
+            bytes.push(b'\n')?;
+            lines.push(bytes)
+        }
+        Answer::Undecided(cause) => add_undecided(alloc, b"VALUE", *cause, lines),
+        _ => Ok(()),
     }
 }
 
-fn size_line(alloc: Global) -> Result<Vec<u8>, NoMemory>
-    ensures { IfOk result (λ v. v.items ≡ codes "VALUE undecided size" ++ 10 ∷ []) }
+fn add_assert(alloc: Global, answer: &Answer, lines: &mut Lines) -> Result<(), NoMemory>
+    ensures { OnOk result (lines.new ≡ lines.old ++ assert_lines answer.now) }
 {
-    let mut bytes = Vec::new(alloc);
-    bytes.extend_from_slice(b"VALUE undecided size\n")?;
-    Ok(bytes)
+    match answer {
+        Answer::Truth(true) => add_plain(alloc, b"ASSERT ok\n", lines),
+        Answer::Truth(false) => add_plain(alloc, b"ASSERT nil\n", lines),
+        Answer::Undecided(cause) => add_undecided(alloc, b"ASSERT", *cause, lines),
+        _ => Ok(()),
+    }
 }
 
-fn memory_line(alloc: Global) -> Result<Vec<u8>, NoMemory>
-    ensures { IfOk result (λ v. v.items ≡ codes "VALUE undecided memory" ++ 10 ∷ []) }
+/// A value or an assert that is left undecided.
+fn add_undecided(
+    alloc: Global,
+    word: &[u8],
+    cause: Cause,
+    lines: &mut Lines,
+) -> Result<(), NoMemory>
+    ensures { OnOk result (lines.new ≡ lines.old ++ undecided_line word.now cause ∷ []) }
 {
-    let mut bytes = Vec::new(alloc);
-    bytes.extend_from_slice(b"VALUE undecided memory\n")?;
-    Ok(bytes)
-}
-
-fn add_value(alloc: Global, value: &Tree, texts: &Texts, lines: &mut Lines) -> Result<(), NoMemory>
-    ensures { OnOk result (lines.new ≡ lines.old ++ (codes "VALUE " ++ (printed texts.now value.now ++ 10 ∷ [])) ∷ []) }
-{
-    let mut bytes = Vec::new(alloc);
-    bytes.extend_from_slice(b"VALUE ")?;
-    print(alloc, value, texts, &mut bytes)?;
+    let mut bytes = word.to_vec(alloc)?;
+    bytes.extend_from_slice(b" undecided ")?;
+    bytes.extend_from_slice(cause_word(cause).as_bytes())?;
     bytes.push(b'\n')?;
     lines.push(bytes)
+}
+
+/// A function whose calls are kept from now on, or no longer.
+fn add_function(
+    alloc: Global,
+    word: &[u8],
+    answer: &Answer,
+    texts: &Texts,
+    lines: &mut Lines,
+) -> Result<(), NoMemory>
+    ensures { OnOk result (lines.new ≡ lines.old ++ function_lines texts.now word.now answer.now) }
+{
+    match answer {
+        Answer::Function(name) => add_named(alloc, word, *name, b"", texts, lines),
+        _ => Ok(()),
+    }
+}
+
+fn add_mode(alloc: Global, mode: Mode, lines: &mut Lines) -> Result<(), NoMemory>
+    ensures { OnOk result (lines.new ≡ lines.old ++ mode_line mode ∷ []) }
+{
+    match mode {
+        Mode::Bdd => add_plain(alloc, b"MODE BDD\n", lines),
+        Mode::Sat => add_plain(alloc, b"MODE SAT\n", lines),
+    }
+}
+
+fn add_theorem(
+    alloc: Global,
+    name: TextId,
+    answer: &Answer,
+    texts: &Texts,
+    lines: &mut Lines,
+) -> Result<(), NoMemory>
+    ensures { OnOk result (lines.new ≡ lines.old ++ theorem_lines texts.now name.number answer.now) }
+{
+    match answer {
+        Answer::Decided(verdict) => add_verdict(alloc, name, verdict, texts, lines),
+        _ => Ok(()),
+    }
+}
+
+/// A line of these bytes.
+fn add_plain(alloc: Global, line: &[u8], lines: &mut Lines) -> Result<(), NoMemory>
+    ensures { OnOk result (lines.new ≡ lines.old ++ line.now ∷ []) }
+{
+    lines.push(line.to_vec(alloc)?)
 }
 
 fn add_verdict(

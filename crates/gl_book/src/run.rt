@@ -10,6 +10,7 @@ ghost use Rattle.gl_book.specs.Stops.{EndsBy, status_from, IsCounted, IsReported
 
 use super::counts::Counts;
 use super::refusal::{Refusal, RefusalCode};
+use super::state::State;
 use super::stop::Stop;
 use super::walk::{close, walk};
 use gl_base::limits::Limits;
@@ -27,7 +28,7 @@ use std::thread::Threads;
 /// WriteFault where a write or the flush failed; a front of the transcript was then taken. NoMemory where
 /// memory was refused outside a value or a theorem; what was written is then a front of a transcript.
 pub fn run_text<R: Threads + Sync, K: Sink>(
-    _rt: &R,
+    rt: &R,
     alloc: Global,
     text: &[u8],
     limits: &Limits,
@@ -43,7 +44,7 @@ pub fn run_text<R: Threads + Sync, K: Sink>(
     if let Some((line, column)) = too_long(text) {
         return refuse_long(alloc, line, column, last_only, out);
     }
-    status_of_run(write_text(alloc, text, limits, last_only, out))
+    status_of_run(write_text(rt, alloc, text, limits, last_only, out))
 }
 
 /// Reads the book of a name, and writes its transcript.
@@ -90,8 +91,9 @@ fn status_of_run(run: Result<Status, Stop>) -> Status
     }
 }
 
-/// Reads a text's forms, and walks over them.
-fn write_text<K: Sink>(
+/// Makes the first state, reads a text's forms, and walks over them.
+fn write_text<R: Threads + Sync, K: Sink>(
+    rt: &R,
     alloc: Global,
     text: &[u8],
     limits: &Limits,
@@ -106,10 +108,15 @@ fn write_text<K: Sink>(
     let Ok(mut texts) = Texts::new(alloc) else {
         return Err(Stop::Memory);
     };
+    let Ok(mut state) = State::new(alloc, &mut texts) else {
+        return Err(Stop::Memory);
+    };
     let Ok(book) = forms(alloc, text, &mut texts) else {
         return Err(Stop::Memory);
     };
-    walk(alloc, &book, limits, &texts, last_only, out)
+    walk(
+        rt, alloc, &book, limits, &mut state, &mut texts, last_only, out,
+    )
 }
 
 /// Writes the transcript of a book that is too long at a place.

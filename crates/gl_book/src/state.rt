@@ -1,69 +1,186 @@
 //! What stands behind the events of a book's front, and what the next form means there.
 
-ghost use Rattle.std.specs.Prelude.{◌≡◌, ◌≤◌, true, Ok, Err, IfOk, MatchResult};
-ghost use Rattle.gl_logic.specs.Parts.{car_steps};
-ghost use Rattle.sexp_reader.specs.Sizes.{IsNarrow};
-ghost use Rattle.gl_book.specs.Events.{first_state, next_state, may_follow, event_meant};
-ghost use Rattle.gl_book.specs.EventOf.{event_of};
-ghost use Rattle.gl_book.specs.PlainEvents.{IsPlainEvent, IsModest};
+ghost use Rattle.std.specs.Prelude.{◌≡◌, ◌≤◌, [], length, IfOk, OnOk};
+ghost use Rattle.gl_logic.specs.DefinitionOf.{definition_of};
+ghost use Rattle.gl_logic.specs.Names.{Extends, with_name};
+ghost use Rattle.gl_logic.specs.WorldSeen.{with_clique, with_constant, with_definition, with_event};
+ghost use Rattle.lisp_eval.specs.Machines.{AreFunctionsOf};
+ghost use Rattle.event_world.specs.Outcomes.{Gives};
+ghost use Rattle.event_world.specs.Seen.{event_seen};
+ghost use Rattle.event_world.specs.EventWords.{behind_head};
+ghost use Rattle.event_world.specs.NextState.{next_world, with_members};
+ghost use Rattle.event_world.specs.Suits.{Suits, HasAllGround, IsNewClique, IsNewDefinition, IsNewName};
+ghost use Rattle.gl_book.specs.Answers.{IsAnswerable};
+ghost use Rattle.gl_book.specs.Walk.{IsFirstState, CanGoOn, event_in, state_after, value_in};
 
-use super::event::Event;
-use super::name_set::NameSet;
-use super::one_event::event_of_form;
-use super::refusal::RefusalCode;
-use gl_logic::{NoMemory, Texts, Tree};
+use super::answer::Answer;
+use super::functions::{add, remove};
+use super::members::note_members;
+use event_world::{Event, EventFault, event_of, prelude};
+use gl_logic::{Def, Defs, NoMemory, TextId, Texts, Tree, World};
+use shape_spec::{FnSet, Mode};
 use std::alloc::Global;
+use std::marker::Model;
 
-/// What the events so far have made.
+/// What the events so far have made: a world, the mode of later theorems, and the functions whose calls are kept.
 #[derive(Drop)]
 pub struct State {
-    /// The names of the theorems, in the order of their coming.
-    pub theorems: NameSet,
+    world: World,
+    mode: Mode,
+    memoized: FnSet,
+}
+
+impl Model for State {
+    ghost use Rattle.event_world.specs.NextState.{BookState};
+    ghost use Rattle.event_world.specs.Suits.{HasAllGround};
+    ghost use Rattle.lisp_eval.specs.Machines.{AreFunctionsOf};
+    ghost use Rattle.gl_book.specs.Walk.{coded_state};
+
+    ghost Value = { BookState };
+
+    ghost coded = { coded_state };
+
+    ghost view = { λ s. record { world = s.world; mode = s.mode; memoized = s.memoized } };
+
+    ghost invariant = { λ s. HasAllGround s.world × AreFunctionsOf s.world s.memoized };
 }
 
 impl State {
-    /// The state of a book's first form. Takes no memory.
-    pub fn new(alloc: Global) -> State
-        ensures { result ≡ first_state }
+    /// The state of a book's first form: the ground definitions, BDD mode, and nothing memoized. The table gains their texts
+    /// and the empty one.
+    pub fn new(alloc: Global, texts: &mut Texts) -> Result<State, NoMemory>
+        ensures first { IfOk result (IsFirstState texts.new) }
+        ensures can_go_on { IfOk result CanGoOn }
+        ensures empty { OnOk result (with_name texts.new [] ≡ texts.new) }
+        ensures extends { Extends texts.old texts.new }
     {
-        State {
-            theorems: NameSet::new(alloc),
-        }
+        let world = prelude(alloc, texts)?;
+        let _empty = texts.id_of(b"")?;
+        texts.is_table();
+        // its definitions make a world
+        let _count = world.count();
+        Ok(State {
+            world,
+            mode: Mode::Bdd,
+            memoized: FnSet::new(alloc),
+        })
     }
 
-    /// The event that a form means here, which makes the next form's state; or the code of the form's refusal.
-    pub fn event(
+    /// The event that a form means here, or the code of its refusal, in a table that has the empty text.
+    pub fn event(&self, alloc: Global, form: &Tree, texts: &mut Texts) -> Result<Event, EventFault>
+        requires empty { with_name texts.old [] ≡ texts.old }
+        ensures meant { Gives event_seen (event_in texts.old self.now form.now) result }
+        ensures suits { IfOk result (λ e. Suits self.now.world (event_seen e)) }
+        ensures answerable { IfOk result (λ e. IsAnswerable self.now.world.definitions self.now.memoized (event_seen e)) }
+        ensures texts { texts.new ≡ texts.old }
+    {
+        event_of(alloc, form, &self.world, self.mode, &self.memoized, texts)
+    }
+
+    /// The world.
+    pub fn world(&self) -> &World
+        ensures world { result.now ≡ self.now.world }
+        ensures ground { HasAllGround result.now }
+    {
+        &self.world
+    }
+
+    /// The functions whose calls are kept. They are definitions of the world.
+    pub fn memoized(&self) -> &FnSet
+        ensures memoized { result.now ≡ self.now.memoized }
+        ensures functions { AreFunctionsOf self.now.world result.now }
+    {
+        &self.memoized
+    }
+
+    /// Takes an event of a form and its answer in: a named one is noted with its form, and a constant gets the value of
+    /// the answer. The state is lost where memory runs out.
+    pub fn take(
         &mut self,
         alloc: Global,
         form: &Tree,
-        texts: &Texts,
-    ) -> Result<Result<Event, RefusalCode>, NoMemory>
-        requires narrow { IsNarrow form.now }
-        requires flat { car_steps form.now ≤ 1000 }
-        ensures meant { IfOk result (λ r. MatchResult r
-            (λ e. event_meant texts.now self.old form.now ≡ Ok (event_of e)) (λ code. event_meant texts.now self.old form.now ≡ Err code)) }
-        ensures next { IfOk result (λ r. IfOk r (λ e. self.new ≡ next_state self.old (event_of e))) }
-        ensures plain { IfOk result (λ r. IfOk r (λ e. IsPlainEvent (event_of e))) }
-        ensures modest { IfOk result (λ r. IfOk r (λ e. IsModest (event_of e))) }
-    {
-        let Some(event) = event_of_form(alloc, form, texts)? else {
-            return Ok(Err(RefusalCode::Form));
-        };
-        if self.takes(&event)? {
-            Ok(Ok(event))
-        } else {
-            Ok(Err(RefusalCode::Form))
-        }
-    }
-
-    /// Takes an event in. False where it may not follow, and then nothing changes.
-    fn takes(&mut self, event: &Event) -> Result<bool, NoMemory>
-        ensures may { IfOk result (λ b. b ≡ may_follow self.old (event_of event.now)) }
-        ensures next { IfOk result (λ b. b ≡ true → self.new ≡ next_state self.old (event_of event.now)) }
+        event: Event,
+        answer: Answer,
+    ) -> Result<(), NoMemory>
+        requires suits { Suits self.old.world (event_seen event) }
+        ensures { OnOk result (self.new ≡ state_after self.old form.now (event_seen event) answer) }
     {
         match event {
-            Event::Value(_) => Ok(true),
-            Event::Claim(thm) => self.theorems.insert(thm.name),
+            Event::Memoize(f) => add(&mut self.memoized, f),
+            Event::Unmemoize(f) => remove(alloc, &mut self.memoized, f),
+            Event::Mode(mode) => {
+                self.mode = mode;
+                Ok(())
+            }
+            event => take_named(alloc, &mut self.world, form, event, answer),
         }
     }
+}
+
+/// Takes an event that changes the world in.
+fn take_named(
+    alloc: Global,
+    world: &mut World,
+    form: &Tree,
+    event: Event,
+    answer: Answer,
+) -> Result<(), NoMemory>
+    requires suits { Suits world.old (event_seen event) }
+    requires ground { HasAllGround world.old }
+    ensures ok { OnOk result (world.new ≡ next_world world.old form.now (event_seen event) (value_in answer)) }
+    ensures more { length world.old.definitions ≤ length world.new.definitions }
+{
+    match event {
+        Event::Defun(def) => take_definition(alloc, world, form, def),
+        Event::Clique(defs) => take_clique(alloc, world, form, defs),
+        Event::Defconst(name, _) => take_constant(alloc, world, form, name, value_of(answer)),
+        Event::Theorem(thm) => world.note(thm.name, form.copy(alloc)?),
+        _ => Ok(()),
+    }
+}
+
+/// The value that an answer gives, and NIL where it gives none.
+fn value_of(answer: Answer) -> Tree
+    ensures { result ≡ value_in answer }
+{
+    match answer {
+        Answer::Value(value) => value,
+        _ => Tree::nil(),
+    }
+}
+
+fn take_definition(alloc: Global, world: &mut World, form: &Tree, def: Def) -> Result<(), NoMemory>
+    requires suits { IsNewDefinition world.old (definition_of def) }
+    requires ground { HasAllGround world.old }
+    ensures ok { OnOk result (world.new ≡ with_event (with_definition world.old (definition_of def)) def.name.number form.now) }
+    ensures more { length world.old.definitions ≤ length world.new.definitions }
+{
+    let name = def.name;
+    world.push(def)?;
+    world.note(name, form.copy(alloc)?)
+}
+
+fn take_clique(alloc: Global, world: &mut World, form: &Tree, defs: Defs) -> Result<(), NoMemory>
+    requires suits { IsNewClique world.old defs }
+    requires ground { HasAllGround world.old }
+    ensures ok { OnOk result (world.new ≡ with_members (with_clique world.old defs) defs (behind_head form.now)) }
+    ensures more { length world.old.definitions ≤ length world.new.definitions }
+{
+    let first = world.push_clique(defs)?;
+    note_members(alloc, world, first, form)
+}
+
+fn take_constant(
+    alloc: Global,
+    world: &mut World,
+    form: &Tree,
+    name: TextId,
+    value: Tree,
+) -> Result<(), NoMemory>
+    requires new { IsNewName world.old name.number }
+    ensures ok { OnOk result (world.new ≡ with_event (with_constant world.old name.number value) name.number form.now) }
+    ensures more { length world.old.definitions ≤ length world.new.definitions }
+{
+    world.set_constant(name, value)?;
+    world.note(name, form.copy(alloc)?)
 }

@@ -8,17 +8,17 @@ const DONE: &str = "DONE proved=0 vacuous=0 refuted=0 undecided=0\n";
 fn refused_books(rt: HostRuntime) -> Result<(), Fail> {
     let rows = [
         // a form that is no event, by itself and behind an event
-        ("(value-triple (car x))", "REFUSED 1 1 FORM\n", 2),
-        ("(value-triple 1-)", "REFUSED 1 1 FORM\n", 2),
-        ("(value-triple 1 2)", "REFUSED 1 1 FORM\n", 2),
-        ("(value-triple (car 1 2))", "REFUSED 1 1 FORM\n", 2),
-        ("value-triple", "REFUSED 1 1 FORM\n", 2),
-        ("(value-triple . 1)", "REFUSED 1 1 FORM\n", 2),
-        ("(value-triple '(a . `b))", "REFUSED 1 1 FORM\n", 2),
-        ("(value-triple '(a ,b))", "REFUSED 1 1 FORM\n", 2),
+        ("(value-triple (car x))", "REFUSED 1 1 V6\n", 2),
+        ("(value-triple 1-)", "REFUSED 1 1 V6\n", 2),
+        ("(value-triple 1 2)", "REFUSED 1 1 V2\n", 2),
+        ("(value-triple (car 1 2))", "REFUSED 1 1 V5\n", 2),
+        ("value-triple", "REFUSED 1 1 V1\n", 2),
+        ("(value-triple . 1)", "REFUSED 1 1 V2\n", 2),
+        ("(value-triple '(a . `b))", "REFUSED 1 1 V7\n", 2),
+        ("(value-triple '(a ,b))", "REFUSED 1 1 V7\n", 2),
         (
             "(value-triple 1)\n ; two\n  (value-triple 2) (car 1) (value-triple 3)",
-            "VALUE 1\nVALUE 2\nREFUSED 3 20 FORM\n",
+            "VALUE 1\nVALUE 2\nREFUSED 3 20 V1\n",
             2,
         ),
         // a fault of the text behind an event, and one behind a form that is refused
@@ -28,7 +28,7 @@ fn refused_books(rt: HostRuntime) -> Result<(), Fail> {
             2,
         ),
         ("(value-triple 1))", "VALUE 1\nREFUSED 1 17 S2\n", 2),
-        ("(value-triple x))", "REFUSED 1 1 FORM\n", 2),
+        ("(value-triple x))", "REFUSED 1 1 V6\n", 2),
         (
             "(value-triple 170141183460469231731687303715884105728)",
             "REFUSED 1 15 S5\n",
@@ -40,38 +40,33 @@ fn refused_books(rt: HostRuntime) -> Result<(), Fail> {
             "VALUE 1\nREFUSED 3 1 S1\n",
             2,
         ),
-        // options in another order, one missing, a name that is none
-        (
-            "(def-gl-thm n :concl t :hyp t :g-bindings (auto-bindings))",
-            "REFUSED 1 1 FORM\n",
-            2,
-        ),
-        ("(def-gl-thm n :hyp t :concl t)", "REFUSED 1 1 FORM\n", 2),
+        // an option missing, a name that is none
+        ("(def-gl-thm n :hyp t :concl t)", "REFUSED 1 1 V2\n", 2),
         (
             "(def-gl-thm t :hyp t :concl t :g-bindings (auto-bindings))",
-            "REFUSED 1 1 FORM\n",
+            "REFUSED 1 1 V2\n",
             2,
         ),
         // a variable bound twice, one that is not bound
         (
             "(def-gl-thm n :hyp t :concl t :g-bindings (auto-bindings (:nat x 1) (:nat x 1)))",
-            "REFUSED 1 1 FORM\n",
+            "REFUSED 1 1 V10\n",
             2,
         ),
         (
             "(def-gl-thm n :hyp t :concl (< y 1) :g-bindings (auto-bindings (:nat x 1)))",
-            "REFUSED 1 1 FORM\n",
+            "REFUSED 1 1 V10\n",
             2,
         ),
         // 128 bits, and 1,025 indices
         (
             "(def-gl-thm n :hyp t :concl t :g-bindings (auto-bindings (:nat x 128)))",
-            "REFUSED 1 1 FORM\n",
+            "REFUSED 1 1 V10\n",
             2,
         ),
         (
             "(def-gl-thm n :hyp t :concl t :g-bindings (auto-bindings (:nat a 127) (:nat b 127) (:nat c 127) (:nat d 127) (:nat e 127) (:nat f 127) (:nat g 127) (:nat h 127) (:nat i 0)))",
-            "REFUSED 1 1 FORM\n",
+            "REFUSED 1 1 V10\n",
             2,
         ),
     ];
@@ -82,7 +77,7 @@ fn refused_books(rt: HostRuntime) -> Result<(), Fail> {
 fn second_theorem_of_a_name(rt: HostRuntime) -> Result<(), Fail> {
     let rows = [(
         "(def-gl-thm n :hyp t :concl t :g-bindings (auto-bindings)) (def-gl-thm N :hyp t :concl nil :g-bindings (auto-bindings))",
-        "PROVED N\nREFUSED 1 60 FORM\nDONE proved=1 vacuous=0 refuted=0 undecided=0\n",
+        "PROVED N\nREFUSED 1 60 V3\nDONE proved=1 vacuous=0 refuted=0 undecided=0\n",
         2,
     )];
     each_gives(&rt, &rows, "")

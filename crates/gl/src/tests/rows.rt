@@ -57,6 +57,17 @@ pub fn each_gives<R: AllocGlobal + Threads + Sync + Abort>(
     Ok(())
 }
 
+/// A run: its words, the book `b`, what is written, and the code of the status.
+pub type Row = (&'static str, &'static str, &'static str, u8);
+
+/// Compares what each run wrote, and the code of its status.
+pub fn all_give<R: AllocGlobal + Threads + Sync + Abort>(rt: &R, rows: &[Row]) -> Result<(), Fail> {
+    for (words, book, want, code) in rows.iter().copied() {
+        gives(rt, words, book, (&[], &[]), (want, code))?;
+    }
+    Ok(())
+}
+
 /// A shelf with one text, under the name `b`. The calls that are listed fail.
 pub fn shelf_of(alloc: Global, bytes: Vec<u8>, fails: Vec<u64>) -> Result<MemoryShelf, Fail> {
     let name = String::from_str(alloc, "b")?;

@@ -1,16 +1,15 @@
-use Rattle.std.proofs.Common.{◌≡◌, sym, Some}
-use Rattle.gl_book.specs.Events.{event_spelled}
-use Rattle.gl_book.specs.EventOf.{event_of}
-use Rattle.gl_book.proofs.PlainForms.{plain_event}
-use Rattle.gl_book.proofs.Modest.{modest_event}
+use Rattle.std.proofs.Common.{subst}
+use Rattle.std.specs.Prelude.{IfOk}
+use Rattle.event_world.specs.NextState.{BookState}
+use Rattle.event_world.specs.Seen.{event_seen}
+use Rattle.event_world.proofs.SuitedEvents.{given_has}
+use Rattle.gl_book.specs.Answers.{IsAnswerable}
+use Rattle.gl_book.proofs.Places.{answerable}
 use Rattle.gl_book.proofs.state.State.event.Goals as goal
 
-pub returns-then-branch-clause-plain : goal.returns-then-branch-clause-plain
-returns-then-branch-clause-plain c =
-    let spelled : Some (event_of c.in-Some.event) ≡ event_spelled c.args.texts.now c.args.form.now = rw c.in-Some.is at c.in_ok-event.ensures in
-    plain_event c.args.texts.now c.args.form.now (event_of c.in-Some.event) (sym spelled)
-
-pub returns-then-branch-clause-modest : goal.returns-then-branch-clause-modest
-returns-then-branch-clause-modest c =
-    let spelled : Some (event_of c.in-Some.event) ≡ event_spelled c.args.texts.now c.args.form.now = rw c.in-Some.is at c.in_ok-event.ensures in
-    modest_event c.args.texts.now c.args.form.now (event_of c.in-Some.event) (record { flat = c.requires.flat; narrow = c.requires.narrow }) (sym spelled)
+pub returns-clause-answerable : goal.returns-clause-answerable
+returns-clause-answerable c =
+    let w = c.self.inside.world in
+    let kept = c.self.inside.memoized in
+    subst (λ (s : BookState). IfOk c.event_of.result (λ e. IsAnswerable s.world.definitions s.memoized (event_seen e))) c.self.view_is
+    (given_has event_seen _ c.event_of.result (λ e. IsAnswerable w.definitions kept e) (λ e h. answerable c.event_of.new.texts w c.self.inside.mode kept c.args.form.now e c.self.invariant.1 h) c.event_of.ensures.meant)

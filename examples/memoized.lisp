@@ -1,0 +1,5 @@
+(defun fib (n)
+  (declare (xargs :measure (nfix n)))
+  (if (zp n) 0 (if (equal n 1) 1 (+ (fib (- n 1)) (fib (- n 2))))))
+(memoize 'fib)
+(value-triple (fib 80))
