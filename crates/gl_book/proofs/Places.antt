@@ -25,7 +25,8 @@ use Rattle.event_world.specs.NamesMeant.{is_taken}
 use Rattle.event_world.specs.Declares.{stated_measure}
 use Rattle.event_world.specs.PlainMeant.{is_package, is_book, closed_meant, evaluation_meant, function_in, memo_meant, constant_in, defconst_meant}
 use Rattle.event_world.specs.DefunMeant.{defun_parts, formals_meant, body_meant, admitted, definition_made, defun_meant}
-use Rattle.event_world.specs.CliqueMeant.{clique_parts, all_stated, are_new, all_made, owns_of, members_meant, settled, with_settled, clique_admitted, clique_judged, clique_made, clique_meant}
+use Rattle.admission.specs.Admitted.{settled}
+use Rattle.event_world.specs.CliqueMeant.{clique_parts, all_stated, are_new, all_made, owns_of, members_meant, with_settled, clique_admitted, clique_judged, clique_made, clique_meant}
 use Rattle.admission.specs.Refused.{first_refused}
 use Rattle.event_world.specs.TheoremMeant.{theorem_parts, clocks_meant, claim_meant, hyp_meant, bound_meant, theorem_made, theorem_meant}
 use Rattle.event_world.specs.RedundantMeant.{repeated_name, repeated_member, are_repeated, checked_repeated, redundant, redundant_meant}
