@@ -13,19 +13,19 @@ use Rattle.admission.specs.Admitted.{verdict}
 use Rattle.shape_spec.specs.Wording.{elements, all_meant}
 use Rattle.shape_spec.specs.declared.theorem.Mode.{Mode}
 use Rattle.shape_spec.specs.declared.theorem.Mode.TheVariants as mode
-use Rattle.event_world.specs.declared.fault.EventFault.{EventFault}
 use Rattle.event_world.specs.declared.fault.EventFault.TheVariants as code
 use Rattle.event_world.specs.declared.word.EventWord.{EventWord}
 use Rattle.event_world.specs.declared.word.EventWord.TheVariants as word
 use Rattle.event_world.specs.EventSeen.{TheoremSeen, EventSeen, Nothing, Redundant, RedundantClique, SetMode, Memoize, Unmemoize, Value, Assert, Defun, Defconst, Theorem, Clique}
-use Rattle.event_world.specs.Outcomes.{Outcome, and_then, found_or, holds_or}
+use Rattle.event_world.specs.Outcomes.{Outcome, found_or, holds_or}
 use Rattle.event_world.specs.EventWords.{word_of, behind_head}
 use Rattle.event_world.specs.PartsOf.{is_empty, one_of, two_of, three_of}
 use Rattle.event_world.specs.NamesMeant.{is_taken}
 use Rattle.event_world.specs.Declares.{stated_measure}
 use Rattle.event_world.specs.PlainMeant.{is_package, is_book, closed_meant, evaluation_meant, function_in, memo_meant, constant_in, defconst_meant}
 use Rattle.event_world.specs.DefunMeant.{defun_parts, formals_meant, body_meant, admitted, definition_made, defun_meant}
-use Rattle.event_world.specs.CliqueMeant.{clique_parts, all_stated, are_new, all_made, owns_of, members_meant, settled, with_settled, clique_admitted, clique_judged, clique_made, clique_meant}
+use Rattle.admission.specs.Admitted.{settled}
+use Rattle.event_world.specs.CliqueMeant.{clique_parts, all_stated, are_new, all_made, owns_of, members_meant, with_settled, clique_admitted, clique_judged, clique_made, clique_meant}
 use Rattle.admission.specs.Refused.{first_refused}
 use Rattle.event_world.specs.TheoremMeant.{theorem_parts, clocks_meant, claim_meant, hyp_meant, bound_meant, theorem_made, theorem_meant}
 use Rattle.event_world.specs.RedundantMeant.{repeated_name, repeated_member, are_repeated, checked_repeated, redundant, redundant_meant}
