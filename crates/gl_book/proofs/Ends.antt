@@ -13,7 +13,7 @@ use Rattle.sexp_reader.specs.Book.{IsBeyond}
 use Rattle.sexp_reader.specs.Places.{behind, first_place}
 use Rattle.event_world.specs.NextState.{BookState}
 use Rattle.gl_book.specs.Walk.{IsFirstState}
-use Rattle.gl_book.proofs.FirstStates.{FirstTable, some_table}
+use Rattle.gl_book.proofs.FirstStates.{some_table}
 use Rattle.gl_book.specs.Entry.{Entry, Refused}
 use Rattle.gl_book.specs.Lines.{transcript_lines, status_of, counts_of, is_refusal}
 use Rattle.gl_book.specs.Transcript.{most_bytes, long_refusal, IsReadBy, long, short, IsTranscript, WritesFront, WritesTranscript, EndsWith, WritesBook}

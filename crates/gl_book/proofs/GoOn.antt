@@ -1,5 +1,5 @@
 -- States from which each walk can be gone on with, and an answer to each of their events.
-use Rattle.std.proofs.Common.{◌≡◌, ◌≢◌, ◌∙◌, ap, sym, refl, subst, ℕ, zero, suc, ◌+◌, ◌≤◌, ◌⊎◌, inl, inr, List, [], ◌∷◌, ◌++◌, length, get_or, ◌<◌, length-append, Option, Some, None, slice_get, Ok, arith}
+use Rattle.std.proofs.Common.{◌≡◌, ◌≢◌, ◌∙◌, ap, sym, refl, subst, ℕ, zero, suc, ◌≤◌, ◌⊎◌, inl, inr, List, [], ◌∷◌, ◌++◌, length, get_or, ◌<◌, length-append, Some, None, slice_get, Ok, arith}
 use Rattle.std.specs.Prelude.{IfSome}
 use Rattle.std.proofs.lemmas.Option.{slice_get-get_or}
 use Rattle.std.proofs.lemmas.List.{length-map}
@@ -7,20 +7,19 @@ use Rattle.gl_logic.specs.Object.{Object, Int, Character, Symbol, Text, Cons}
 use Rattle.gl_logic.specs.Exp.{Exp}
 use Rattle.gl_logic.specs.Definition.{Definition}
 use Rattle.gl_logic.specs.Ground.{Ground, ground}
-use Rattle.gl_logic.specs.IsGround.{IsGround}
 use Rattle.gl_logic.specs.WorldSeen.{WorldSeen, IsWorld, IsClique, definition_names}
 use Rattle.gl_logic.proofs.Worlds.{world_push, clique_of_one}
 use Rattle.gl_logic.proofs.TotalWorlds.{world_is_total}
 use Rattle.gl_logic.proofs.Walks.{walk_of_value}
 use Rattle.gl_decide.specs.Bounds.{Bounds}
 use Rattle.gl_decide.specs.declared.verdict.Verdict.TheVariants as verdict
-use Rattle.event_world.specs.EventSeen.{TheoremSeen, EventSeen, Nothing, Redundant, Defun, Defconst, Value, Assert, Memoize, Unmemoize, SetMode, Theorem, Clique, RedundantClique}
+use Rattle.event_world.specs.EventSeen.{EventSeen, Nothing, Redundant, Defun, Defconst, Value, Assert, Memoize, Unmemoize, SetMode, Theorem, Clique, RedundantClique}
 use Rattle.event_world.specs.EventWords.{behind_head}
 use Rattle.event_world.specs.NextState.{BookState, with_members}
-use Rattle.event_world.specs.Suits.{Suits, HasAllGround, IsClosedTerm, IsNewDefinition, IsNewClique}
+use Rattle.event_world.specs.Suits.{Suits, HasAllGround, IsClosedTerm, IsNewDefinition}
 use Rattle.event_world.proofs.SuitedEvents.{event_suits}
-use Rattle.gl_book.specs.Answers.{IsProperValue, IsProperAnswer}
-use Rattle.gl_book.specs.Walk.{CanGoOn, event_in, constant_cause, refused_cause, state_after}
+use Rattle.gl_book.specs.Answers.{IsProperAnswer}
+use Rattle.gl_book.specs.Walk.{CanGoOn, event_in, refused_cause, state_after}
 use Rattle.gl_book.specs.declared.answer.Answer.{Answer}
 use Rattle.gl_book.specs.declared.answer.Answer.TheVariants as answer
 use Rattle.gl_book.specs.declared.answer.Cause.{Cause}

@@ -28,7 +28,6 @@ use Rattle.gl_book.specs.declared.answer.Cause.{Cause}
 use Rattle.gl_book.specs.declared.answer.Cause.TheVariants as cause
 use Rattle.gl_book.specs.declared.counts.Counts.{Counts}
 use Rattle.gl_book.specs.declared.refusal.Refusal.{Refusal}
-use Rattle.gl_book.specs.declared.refusal.RefusalCode.{RefusalCode}
 use Rattle.gl_book.specs.declared.refusal.RefusalCode.TheVariants as code
 use Rattle.gl_book.specs.declared.stop.Stop.{Stop}
 use Rattle.gl_book.proofs.GoOn.{some_answer, after_event}

@@ -13,12 +13,11 @@ use Rattle.admission.specs.Admitted.{verdict}
 use Rattle.shape_spec.specs.Wording.{elements, all_meant}
 use Rattle.shape_spec.specs.declared.theorem.Mode.{Mode}
 use Rattle.shape_spec.specs.declared.theorem.Mode.TheVariants as mode
-use Rattle.event_world.specs.declared.fault.EventFault.{EventFault}
 use Rattle.event_world.specs.declared.fault.EventFault.TheVariants as code
 use Rattle.event_world.specs.declared.word.EventWord.{EventWord}
 use Rattle.event_world.specs.declared.word.EventWord.TheVariants as word
 use Rattle.event_world.specs.EventSeen.{TheoremSeen, EventSeen, Nothing, Redundant, RedundantClique, SetMode, Memoize, Unmemoize, Value, Assert, Defun, Defconst, Theorem, Clique}
-use Rattle.event_world.specs.Outcomes.{Outcome, and_then, found_or, holds_or}
+use Rattle.event_world.specs.Outcomes.{Outcome, found_or, holds_or}
 use Rattle.event_world.specs.EventWords.{word_of, behind_head}
 use Rattle.event_world.specs.PartsOf.{is_empty, one_of, two_of, three_of}
 use Rattle.event_world.specs.NamesMeant.{is_taken}

@@ -1,18 +1,17 @@
 -- Each table of texts has a later one that numbers the symbols and strings of a text's forms.
-use Rattle.std.proofs.Common.{◌≡◌, ◌∙◌, ap, sym, subst, refl, ℕ, zero, suc, ◌+◌, ◌<◌, ◌≤◌, arith, Bool, true, false, cond, not, List, [], ◌∷◌, ◌++◌, length, drop, Option, Some, None, inl, inr}
+use Rattle.std.proofs.Common.{◌≡◌, ◌∙◌, ap, sym, subst, refl, ℕ, zero, suc, ◌+◌, ◌<◌, ◌≤◌, arith, true, false, cond, not, List, [], ◌∷◌, length, drop, Option, Some, None, inl, inr}
 use Rattle.std.specs.Prelude.{bytes_eq, ◌||◌, All}
-use Rattle.std.specs.List.{list_any, prefix_len, AllByRecursion}
+use Rattle.std.specs.List.{list_any, AllByRecursion}
 use Rattle.std.proofs.lemmas.Bool.{cases_Bool}
 use Rattle.std.proofs.lemmas.List.{length-drop}
 use Rattle.std.proofs.lemmas.List.Folds.{list_any-append}
 use Rattle.std.proofs.lemmas.List.Elements.{All-from_recursion}
 use Rattle.std.proofs.lemmas.Option.{none-some, same_Some}
-use Rattle.gl_logic.specs.Object.{Object, Int, Character, Symbol, Text, Cons, nil}
+use Rattle.gl_logic.specs.Object.{Object}
 use Rattle.gl_logic.specs.Names.{IsTable, Extends, with_name}
 use Rattle.gl_logic.specs.Numbered.{IsNumbered}
 use Rattle.gl_logic.proofs.Places.{bytes_same}
 use Rattle.gl_logic.proofs.Tables.{enough, table_with}
-use Rattle.sexp_reader.specs.declared.place.Place.{Place}
 use Rattle.sexp_reader.specs.declared.list.Form.{Form}
 use Rattle.sexp_reader.specs.declared.ends.End.{End}
 use Rattle.sexp_reader.specs.declared.lexeme.Atom.{Atom}

@@ -1,17 +1,15 @@
 -- Whether a term without variables leaves 128 bits on the way, and whether its value is too large.
-use Rattle.std.proofs.Common.{◌≡◌, ◌∙◌, ◌-◌, ◌^◌, ap, sym, refl, subst, ℕ, zero, suc, ◌<◌, ◌≤◌, ℤ, pos, negsuc, ◌≤ℤ◌, ◌⊎◌, inl, inr, List, [], ◌∷◌, Option, Some, None, slice_get, leb, ltb, arith}
+use Rattle.std.proofs.Common.{◌≡◌, ◌-◌, ◌^◌, sym, refl, subst, ℕ, zero, suc, ◌<◌, ℤ, pos, negsuc, ◌≤ℤ◌, ◌⊎◌, inl, inr, List, [], ◌∷◌, Option, Some, None, slice_get, leb, ltb, arith}
 use Rattle.std.proofs.lemmas.Int.{ints}
 use Rattle.std.proofs.lemmas.Bool.{cases_Bool, leb-true, leb-false, ltb-true, ltb-false}
 use Rattle.gl_logic.specs.Object.{Object, Int, Character, Symbol, Text, Cons}
-use Rattle.gl_logic.specs.Width.{Fits}
 use Rattle.gl_logic.specs.Wide.{IsWideObject, SomeWide, IsWide}
 use Rattle.gl_logic.specs.Parts.{leaves, car_steps, IsLarge}
 use Rattle.gl_logic.specs.Definition.{Definition}
 use Rattle.gl_logic.specs.Exp.{Exp}
-use Rattle.gl_logic.specs.Counts.{seen, seen_in}
-use Rattle.gl_logic.specs.Evaluate.{evaluate}
+use Rattle.gl_logic.specs.Counts.{seen_in}
 use Rattle.gl_logic.specs.Walk.{Walk, walk}
-use Rattle.gl_logic.proofs.Walks.{walk_of_value, walk_unique}
+use Rattle.gl_logic.proofs.Walks.{walk_unique}
 
 -- ---- integers
 not_above : (n m : ℕ) → m < n → pos n ≤ℤ pos m → ⊥

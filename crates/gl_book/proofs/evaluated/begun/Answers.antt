@@ -1,4 +1,4 @@
-use Rattle.std.proofs.Common.{◌≡◌, sym, subst, ℕ}
+use Rattle.std.proofs.Common.{sym, subst, ℕ}
 use Rattle.gl_logic.specs.TermOf.{term_of}
 use Rattle.lisp_eval.specs.MachineCalls.{RefusesForCells}
 use Rattle.gl_decide.specs.Bounds.{bounds_of}

@@ -1,4 +1,4 @@
-use Rattle.std.proofs.Common.{◌≡◌, sym, subst, List, []}
+use Rattle.std.proofs.Common.{sym, subst, List, []}
 use Rattle.gl_logic.specs.TermOf.{term_of}
 use Rattle.lisp_eval.specs.Answers.{IsLicensed}
 use Rattle.lisp_eval.specs.States.{env_of}

@@ -1,4 +1,4 @@
-use Rattle.std.proofs.Common.{◌≡◌, ◌∙◌, ◌-◌, ◌+◌, ◌≤◌, ℕ, List, ap, sym, subst, length, drop, get_or, slice_get, Some, arith}
+use Rattle.std.proofs.Common.{◌≡◌, ◌∙◌, ◌-◌, ◌+◌, ◌≤◌, List, ap, sym, subst, length, drop, get_or, slice_get, Some, arith}
 use Rattle.gl_logic.specs.Object.{Object}
 use Rattle.gl_logic.specs.Lists.{elements_of, tail_of}
 use Rattle.gl_logic.specs.Definition.{Definition}
