@@ -7,11 +7,14 @@ pub mod CellsOfCalls
 pub mod ConstantWalks
 pub mod Copies
 pub mod GiveTurns
+pub mod InputParts
 pub mod Machines
 pub mod PlainFaults
 pub mod Reaching
 pub mod RunCauses
 pub mod RunTurns
+pub mod ShapeObjects
+pub mod ShapeParts
 pub mod Terms
 pub mod TermsLeft
 pub mod Turns

@@ -8,6 +8,7 @@ pub mod Envs
 pub mod Faults
 pub mod Placed
 pub mod Running
+pub mod Shapes
 pub mod TurnFaults
 pub mod Walking
 pub mod Whole

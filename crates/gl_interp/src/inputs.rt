@@ -1,16 +1,19 @@
 //! Symbolic inputs: each bound variable with the symbolic object of its shape.
 
-ghost use Rattle.std.specs.Prelude.{◌≡◌, All, length, IfOk, IfErr};
+ghost use Rattle.std.specs.Prelude.{◌≡◌, ◌<◌, ◌+◌, max, ℕ, Bool, All, length, IfOk, IfErr, OnErr};
 ghost use Rattle.shape_spec.specs.Indices.{width_of};
 ghost use Rattle.sym_objects.specs.Keeps.{Grows, Keeps};
-ghost use Rattle.sym_objects.specs.Seen.{IsWhole};
+ghost use Rattle.sym_objects.specs.Seen.{IsFull, IsWhole};
 ghost use Rattle.gl_interp.specs.Causes.{HasInputCause, Rests, StandsFor, StandsOver};
 
+use super::constants::PlaceFault;
 use super::env::SymEnv;
 use super::fault::GlFault;
-use bfr_store::{Bits, Edge};
+use super::shapes::object_over;
+use bfr_store::{Bits, Edge, Full};
+use gl_logic::Assignment;
 use lisp_eval::Machine;
-use shape_spec::Bindings;
+use shape_spec::{Bindings, bit_count};
 use std::alloc::Global;
 use sym_objects::Sobs;
 
@@ -32,8 +35,18 @@ pub fn symbolic_over<B: Bits>(
     ensures cause { IfErr result (HasInputCause B.Meaning objs.new b.now machine.old) }
     ensures rests { Rests machine.old machine.new }
 {
-    let _alloc = alloc;
-    Err(GlFault::Memory)
+    let _held = machine.mark();
+    let mut found = Assignment::new(alloc, bit_count(b))?;
+    let mut env = SymEnv::new(alloc);
+    for i in 0..b.len() {
+        match object_over(alloc, objs, machine, b, edges, b.shape(i), &mut found) {
+            Ok(x) => env.push(b.variable(i), x)?,
+            Err(PlaceFault::Cells) => return Err(GlFault::Cells(found)),
+            Err(PlaceFault::Full) => return Err(GlFault::Full),
+            Err(PlaceFault::Memory) => return Err(GlFault::Memory),
+        }
+    }
+    Ok(env)
 }
 
 /// The symbolic input over the variables of a store that has none yet: under each assignment it stands for that
@@ -51,6 +64,23 @@ pub fn symbolic<B: Bits>(
     ensures cause { IfErr result (HasInputCause B.Meaning objs.new b.now machine.old) }
     ensures rests { Rests machine.old machine.new }
 {
-    let _alloc = alloc;
-    Err(GlFault::Memory)
+    let mut edges = Vec::new(alloc);
+    for k in 0..bit_count(b) {
+        let edge = variable(objs, k)?;
+        edges.push(edge)?;
+    }
+    symbolic_over(alloc, b, edges.as_slice(), objs, machine)
+}
+
+/// The edge of a variable.
+fn variable<B: Bits>(objs: &mut Sobs<B>, k: u32) -> Result<Edge, Full>
+    requires whole { IsWhole B.Meaning objs.old }
+    requires few { k < 4294967295 }
+    ensures grows { Grows B.Meaning objs.old objs.new }
+    ensures width { IfOk result (λ e. B.width_of objs.new.store ≡ max (B.width_of objs.old.store) (k + 1)) }
+    ensures live { IfOk result (λ e. B.live objs.new.store e) }
+    ensures truth { IfOk result (λ e. (a : ℕ → Bool) → B.truth_of objs.new.store e a ≡ a k) }
+    ensures full { OnErr result (IsFull B.Meaning objs.new) }
+{
+    objs.store().var(k)
 }

@@ -12,6 +12,7 @@ pub mod inputs;
 pub mod interpreter;
 mod lent;
 mod runs;
+mod shapes;
 mod stack;
 mod visits;
 
