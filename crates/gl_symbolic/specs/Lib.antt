@@ -1,0 +1,4 @@
+pub mod Causes
+pub mod Theorems
+pub mod Decisions
+pub mod Steps

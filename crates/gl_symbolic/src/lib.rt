@@ -1,0 +1,19 @@
+//! The decision of a theorem by one symbolic run.
+//!
+//! [`decide_symbolically`] runs the hypothesis on the theorem's symbolic input, asks the bit store whether some assignment
+//! meets it, runs the conclusion under it, and asks whether some assignment meets the hypothesis and makes the conclusion
+//! NIL. So each of its answers speaks of all assignments of the theorem's indices at once, after GL (Swords and Davis,
+//! "Bit-blasting ACL2 theorems").
+//!
+//! [`hypothesis`] and [`refutation`] are the two runs, each up to the edge that is decided, for a caller that has a store's
+//! own decision.
+#![tactic(auto)]
+
+mod condition;
+pub mod decide;
+pub mod decision;
+pub mod runs;
+
+pub use decide::decide_symbolically;
+pub use decision::Decision;
+pub use runs::{hypothesis, refutation};
