@@ -49,7 +49,14 @@ pub fn hypothesis<B: Bits>(
         Ok(env) => {
             let always = constant_edge(objs, true);
             match condition(
-                alloc, objs, machine, world, &thm.hyp, &env, thm.hyp_clk, always,
+                alloc,
+                objs,
+                machine,
+                world,
+                &thm.hyp,
+                &env,
+                thm.hyp_clk,
+                always,
             ) {
                 Ok(edge) => Ok((env, edge)),
                 Err(fault) => Err(stopped(Part::Hyp, fault)),
@@ -83,7 +90,14 @@ pub fn refutation<B: Bits>(
     ensures rests { Rests machine.old machine.new }
 {
     match condition(
-        alloc, objs, machine, world, &thm.concl, env, thm.concl_clk, hyp,
+        alloc,
+        objs,
+        machine,
+        world,
+        &thm.concl,
+        env,
+        thm.concl_clk,
+        hyp,
     ) {
         Err(fault) => Err(stopped(Part::Concl, fault)),
         Ok(concl) => {

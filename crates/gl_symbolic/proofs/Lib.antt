@@ -1,0 +1,5 @@
+pub mod Cells
+pub mod Environments
+pub mod Nil
+pub mod Stopped
+pub mod Running
