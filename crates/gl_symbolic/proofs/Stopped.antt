@@ -24,9 +24,10 @@ use Rattle.gl_interp.specs.Causes.{HasCause, HasInputCause, IsOnPath, Rests}
 use Rattle.gl_interp.specs.Environments.{env_under}
 use Rattle.gl_interp.specs.declared.fault.GlFault.{GlFault}
 use Rattle.gl_interp.specs.declared.fault.GlFault.TheVariants as fault
-use Rattle.gl_symbolic.specs.Decisions.{HasRunOut, IsNoWide, IsProper, IsReady, given_up_by, stopped_by}
+use Rattle.gl_symbolic.specs.Decisions.{HasRunOut, IsNoWide, IsProper, IsReady, IsShown, IsUndecided, given_up_by, stopped_by}
 use Rattle.gl_symbolic.specs.Theorems.{term_at, clock_at, input_under, IsOfPart}
 use Rattle.gl_symbolic.specs.declared.decision.Decision.{Decision}
+use Rattle.gl_symbolic.specs.declared.decision.Decision.TheVariants as decision
 use Rattle.hons_arena.specs.Held.{Held}
 use Rattle.gl_symbolic.proofs.Cells.{constant_cells, from_crowd, from_input}
 
@@ -117,3 +118,16 @@ given_up_proper w steps cells thm prim.Full = tt
 given_up_proper w steps cells thm prim.Spent = tt
 given_up_proper w steps cells thm (prim.Wide a) = tt
 given_up_proper w steps cells thm prim.Memory = tt
+
+-- ---- what is not decided shows nothing
+pub undecided_shown : (shown : Type 0) (d : Decision) → IsUndecided d → IsShown shown d
+undecided_shown shown decision.Proved h = absurd h
+undecided_shown shown decision.Vacuous h = absurd h
+undecided_shown shown (decision.Refuted a) h = absurd h
+undecided_shown shown (decision.Clock p a) h = tt
+undecided_shown shown (decision.Width p a) h = tt
+undecided_shown shown (decision.Steps p a) h = tt
+undecided_shown shown (decision.Cells p a) h = tt
+undecided_shown shown decision.Full h = tt
+undecided_shown shown decision.Spent h = tt
+undecided_shown shown decision.Memory h = tt

@@ -55,6 +55,19 @@ HasRunOut g s decision.Full = IsFull g s
 HasRunOut g s decision.Spent = IsTrue (g.spent s.store)
 HasRunOut g s _ = Unit {0}
 
+-- the theorem is not decided
+abbrev pub IsUndecided : Decision → Type 0
+IsUndecided decision.Proved = ⊥
+IsUndecided decision.Vacuous = ⊥
+IsUndecided (decision.Refuted a) = ⊥
+IsUndecided _ = Unit {0}
+
+-- where an answer stands on it that no assignment makes a function true, this is shown
+abbrev pub IsShown : Type 0 → Decision → Type 0
+IsShown shown decision.Proved = shown
+IsShown shown decision.Vacuous = shown
+IsShown shown _ = Unit {0}
+
 -- the decision that a fault of a part is
 abbrev pub stopped_by : Part → GlFault → Decision
 stopped_by part (fault.Clock a) = decision.Clock part a

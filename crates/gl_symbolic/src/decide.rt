@@ -7,25 +7,25 @@ ghost use Rattle.shape_spec.specs.Indices.{width_of};
 ghost use Rattle.sym_objects.specs.Keeps.{Grows};
 ghost use Rattle.sym_objects.specs.Seen.{IsWhole};
 ghost use Rattle.gl_interp.specs.Causes.{Rests};
-ghost use Rattle.gl_symbolic.specs.Decisions.{HasRunOut, IsProper, IsReady};
+ghost use Rattle.gl_symbolic.specs.Decisions.{HasRunOut, IsProper, IsReady, IsShown};
 ghost use Rattle.gl_symbolic.specs.Steps.{IsHypothesis, StandsUnder};
 
 use super::decision::{Decision, given_up};
 use super::runs::{hypothesis, refutation};
-use bfr_store::{Bits, Edge};
+use super::settles::{Settles, reach};
+use bfr_store::Edge;
 use gl_interp::SymEnv;
 use gl_logic::World;
 use lisp_eval::Machine;
 use shape_spec::Thm;
 use std::alloc::Global;
 use sym_objects::Sobs;
-use sym_prims::lent::reaches;
 
 /// Decides a theorem by one symbolic run, in a store that has no variable yet, beside a machine that has just begun.
 ///
 /// The hypothesis first: where the store gives up on it, nothing is said. The conclusion is run under the hypothesis'
 /// truth.
-pub fn decide_symbolically<B: Bits>(
+pub fn decide_symbolically<B: Settles>(
     alloc: Global,
     objs: &mut Sobs<B>,
     machine: &mut Machine,
@@ -40,11 +40,12 @@ pub fn decide_symbolically<B: Bits>(
     ensures grows { Grows B.Meaning objs.old objs.new }
     ensures proper { IsProper world.now machine.old.steps machine.old.arena.limit thm.now result }
     ensures run_out { HasRunOut B.Meaning objs.new result }
+    ensures shown { IsShown (B.shown objs.new.store) result }
     ensures rests { Rests machine.old machine.new }
 {
     match hypothesis(alloc, objs, machine, world, thm) {
         Err(decision) => decision,
-        Ok((env, hyp)) => match reaches(alloc, objs, hyp) {
+        Ok((env, hyp)) => match reach(alloc, objs, hyp) {
             Ok(None) => Decision::Vacuous,
             Ok(Some(_)) => conclude(alloc, objs, machine, world, thm, &env, hyp),
             Err(fault) => given_up(fault),
@@ -53,7 +54,7 @@ pub fn decide_symbolically<B: Bits>(
 }
 
 /// Decides a theorem whose hypothesis some assignment meets.
-fn conclude<B: Bits>(
+fn conclude<B: Settles>(
     alloc: Global,
     objs: &mut Sobs<B>,
     machine: &mut Machine,
@@ -72,11 +73,12 @@ fn conclude<B: Bits>(
     ensures grows { Grows B.Meaning objs.old objs.new }
     ensures proper { IsProper world.now machine.old.steps machine.old.arena.limit thm.now result }
     ensures run_out { HasRunOut B.Meaning objs.new result }
+    ensures shown { IsShown (B.shown objs.new.store) result }
     ensures rests { Rests machine.old machine.new }
 {
     match refutation(alloc, objs, machine, world, thm, env, hyp) {
         Err(decision) => decision,
-        Ok(edge) => match reaches(alloc, objs, edge) {
+        Ok(edge) => match reach(alloc, objs, edge) {
             Ok(None) => Decision::Proved,
             Ok(Some(found)) => Decision::Refuted(found),
             Err(fault) => given_up(fault),

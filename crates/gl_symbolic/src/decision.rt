@@ -1,7 +1,7 @@
 //! What a symbolic decision of a theorem answers.
 
 ghost use Rattle.std.specs.Prelude.{◌≡◌};
-ghost use Rattle.gl_symbolic.specs.Decisions.{IsNoWide, given_up_by, stopped_by};
+ghost use Rattle.gl_symbolic.specs.Decisions.{IsNoWide, IsUndecided, given_up_by, stopped_by};
 
 use gl_interp::GlFault;
 use gl_logic::Assignment;
@@ -37,7 +37,8 @@ pub enum Decision {
 
 /// The decision that a fault of a part is.
 pub(crate) fn stopped(part: Part, fault: GlFault) -> Decision
-    ensures { result ≡ stopped_by part fault }
+    ensures by { result ≡ stopped_by part fault }
+    ensures undecided { IsUndecided result }
 {
     match fault {
         GlFault::Clock(a) => Decision::Clock(part, a),

@@ -13,7 +13,10 @@ mod condition;
 pub mod decide;
 pub mod decision;
 pub mod runs;
+pub mod settles;
+mod stores;
 
 pub use decide::decide_symbolically;
 pub use decision::Decision;
 pub use runs::{hypothesis, refutation};
+pub use settles::Settles;

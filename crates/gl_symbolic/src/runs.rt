@@ -8,7 +8,7 @@ ghost use Rattle.sym_objects.specs.Keeps.{Grows};
 ghost use Rattle.sym_objects.specs.Seen.{IsWhole};
 ghost use Rattle.sym_prims.specs.Applying.{Leaves};
 ghost use Rattle.gl_interp.specs.Causes.{Rests, StandsFor};
-ghost use Rattle.gl_symbolic.specs.Decisions.{HasRunOut, IsProper, IsReady};
+ghost use Rattle.gl_symbolic.specs.Decisions.{HasRunOut, IsProper, IsReady, IsUndecided};
 ghost use Rattle.gl_symbolic.specs.Steps.{IsHypothesis, IsRefutation, StandsUnder};
 
 use super::condition::condition;
@@ -38,6 +38,7 @@ pub fn hypothesis<B: Bits>(
     ensures grows { Grows B.Meaning objs.old objs.new }
     ensures input { IfOk result (λ r. StandsFor B.Meaning objs.new thm.now.bindings r.0) }
     ensures edge { IfOk result (λ r. IsHypothesis B.Meaning objs.new world.now thm.now r.1) }
+    ensures undecided { IfErr result IsUndecided }
     ensures proper { IfErr result (IsProper world.now machine.old.steps machine.old.arena.limit thm.now) }
     ensures run_out { IfErr result (HasRunOut B.Meaning objs.new) }
     ensures rests { Rests machine.old machine.new }
@@ -85,6 +86,7 @@ pub fn refutation<B: Bits>(
     requires reaches { (a : ℕ → Bool) × (B.truth_of objs.old.store hyp a ≡ true) }
     ensures leaves { Leaves B.Meaning objs.old objs.new }
     ensures edge { IfOk result (IsRefutation B.Meaning objs.new world.now thm.now) }
+    ensures undecided { IfErr result IsUndecided }
     ensures proper { IfErr result (IsProper world.now machine.old.steps machine.old.arena.limit thm.now) }
     ensures run_out { IfErr result (HasRunOut B.Meaning objs.new) }
     ensures rests { Rests machine.old machine.new }

@@ -19,7 +19,7 @@ returns-in-Err-clause-proper g c =
     let w = c.args.world.now in
     let thm = c.args.thm.now in
     let m = c.args.machine.now in
-    subst (λ d. IsProper w m.steps m.arena.limit thm d) (sym c.stopped.ensures)
+    subst (λ d. IsProper w m.steps m.arena.limit thm d) (sym c.stopped.ensures.by)
     (input_stop g.B.Meaning c.symbolic.new.objs w thm m c.in-Err.fault c.count-count.ensures.total c.requires.hyp c.requires.ready c.in-Err.ensures.cause)
 
 pub returns-in-Ok-condition-clause-input : goal.returns-in-Ok-condition-clause-input
@@ -48,4 +48,4 @@ returns-in-Err-condition-clause-proper g c =
     let stands : StandsFor g.B.Meaning here thm.bindings env = subst (λ s. StandsFor g.B.Meaning s thm.bindings env) (sym c.constant_edge-always.ensures.same) c.in-Ok.ensures.stands in
     let stop : IsProper w mid.steps mid.arena.limit thm (stopped_by Hyp c.in-Err-condition.fault) =
     part_stop g.B.Meaning here c.condition.new.objs w thm mid Hyp env path c.in-Err-condition.fault c.in-Err-condition.ensures.cause (ready_later w thm m mid c.symbolic.ensures.rests c.requires.ready) (λ a p. of_hyp g.B.Meaning here w thm path a stands.width p) (λ a p. stands.input a) in
-    proper_before w thm m mid c.stopped-in-Err-condition.result c.symbolic.ensures.rests (subst (λ d. IsProper w mid.steps mid.arena.limit thm d) (sym c.stopped-in-Err-condition.ensures) stop)
+    proper_before w thm m mid c.stopped-in-Err-condition.result c.symbolic.ensures.rests (subst (λ d. IsProper w mid.steps mid.arena.limit thm d) (sym c.stopped-in-Err-condition.ensures.by) stop)

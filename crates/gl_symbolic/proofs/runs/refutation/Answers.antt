@@ -13,7 +13,7 @@ returns-in-Err-clause-proper g c =
     let old = c.args.objs.now in
     let stop : IsProper w m.steps m.arena.limit thm (stopped_by Concl c.in-Err.fault) =
     part_stop g.B.Meaning old c.condition.new.objs w thm m Concl c.args.env.now c.args.hyp c.in-Err.fault c.in-Err.ensures.cause c.requires.ready (λ a p. of_concl g.B.Meaning old w thm c.args.hyp a c.requires.width c.requires.hyp p) c.requires.input.input in
-    subst (λ d. IsProper w m.steps m.arena.limit thm d) (sym c.stopped.ensures) stop
+    subst (λ d. IsProper w m.steps m.arena.limit thm d) (sym c.stopped.ensures.by) stop
 
 pub returns-in-Ok-conjunction-clause-edge : goal.returns-in-Ok-conjunction-clause-edge
 returns-in-Ok-conjunction-clause-edge g c =
