@@ -3,3 +3,4 @@ pub mod Environments
 pub mod Nil
 pub mod Stopped
 pub mod Running
+pub mod Narrowing

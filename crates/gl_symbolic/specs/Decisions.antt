@@ -55,6 +55,13 @@ HasRunOut g s decision.Full = IsFull g s
 HasRunOut g s decision.Spent = IsTrue (g.spent s.store)
 HasRunOut g s _ = Unit {0}
 
+-- nothing is said of the theorem
+abbrev pub IsGivenUpOn : Decision → Type 0
+IsGivenUpOn decision.Full = Unit {0}
+IsGivenUpOn decision.Spent = Unit {0}
+IsGivenUpOn decision.Memory = Unit {0}
+IsGivenUpOn _ = ⊥
+
 -- the theorem is not decided
 abbrev pub IsUndecided : Decision → Type 0
 IsUndecided decision.Proved = ⊥

@@ -2,3 +2,4 @@ pub mod Causes
 pub mod Theorems
 pub mod Decisions
 pub mod Steps
+pub mod Narrowing

@@ -1,7 +1,7 @@
 //! What a symbolic decision of a theorem answers.
 
 ghost use Rattle.std.specs.Prelude.{◌≡◌};
-ghost use Rattle.gl_symbolic.specs.Decisions.{IsNoWide, IsUndecided, given_up_by, stopped_by};
+ghost use Rattle.gl_symbolic.specs.Decisions.{IsGivenUpOn, IsNoWide, IsUndecided, given_up_by, stopped_by};
 
 use gl_interp::GlFault;
 use gl_logic::Assignment;
@@ -54,7 +54,8 @@ pub(crate) fn stopped(part: Part, fault: GlFault) -> Decision
 /// The decision that a fault of the store's decision is.
 pub(crate) fn given_up(fault: SymFault) -> Decision
     requires { IsNoWide fault }
-    ensures { result ≡ given_up_by fault }
+    ensures by { result ≡ given_up_by fault }
+    ensures stops { IsGivenUpOn result }
 {
     match fault {
         SymFault::Full => Decision::Full,

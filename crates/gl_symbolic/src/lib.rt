@@ -12,6 +12,7 @@
 mod condition;
 pub mod decide;
 pub mod decision;
+mod narrow;
 pub mod runs;
 pub mod settles;
 mod stores;
