@@ -63,3 +63,11 @@ module _ (w : WorldSeen) (env : List (ℕ × Object)) (t : Exp) (start : List Ob
         | inr b ↦ inl b
       ])) in
       record { depth = d; value = v.0; has = v.1.1; more = omega (arith, few, more) }
+
+-- the cells of the world's constants alone are too much
+pub from_constants : (w : WorldSeen) (env : List (ℕ × Object)) (t : Exp) (limit : ℕ) → IsTotal w.definitions → IsTermOf w.definitions t → limit < length (different object_eq (constant_cells w)) → IsOutOfCells w limit env t
+from_constants w env t limit total of more =
+    let v = total env t of in
+    let d = v.1.0 in
+    let few : length (different object_eq (constant_cells w)) ≤ length (different object_eq (cells w d env t)) = no_more (constant_cells w) (cells w d env t) (λ y k. in_cells w d env t y (inr k)) in
+    record { depth = d; value = v.0; has = v.1.1; more = omega (arith, few, more) }

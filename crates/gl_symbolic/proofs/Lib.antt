@@ -4,3 +4,4 @@ pub mod Nil
 pub mod Stopped
 pub mod Running
 pub mod Narrowing
+pub mod Begun

@@ -1,12 +1,10 @@
 -- Edges that stand for the indices wherever a hypothesis is true.
-use Rattle.std.proofs.Common.{◌≡◌, ◌∙◌, ap, sym, refl, subst, ℕ, ◌+◌, ◌<◌, Bool, true, false, not, ◌&&◌, List, [], ◌∷◌, ◌++◌, length, map, get_or, Result, Ok, Err, max, inr, arith}
-use Rattle.std.specs.List.{All}
+use Rattle.std.proofs.Common.{◌≡◌, ◌∙◌, sym, refl, subst, ℕ, ◌+◌, ◌<◌, Bool, true, false, ◌&&◌, List, [], ◌∷◌, ◌++◌, length, get_or, Result, Ok, Err, max, inr, arith}
 use Rattle.std.proofs.lemmas.List.{get_or-map}
 use Rattle.bfr_store.specs.Edges.{xor}
 use Rattle.bfr_store.specs.declared.edge.Edge.{Edge}
 use Rattle.bfr_store.specs.declared.meaning.Meaning.{Ghosts}
 use Rattle.shape_spec.specs.Indices.{width_of}
-use Rattle.shape_spec.specs.InputMeant.{input_meant}
 use Rattle.shape_spec.specs.declared.theorem.Thm.{Thm}
 use Rattle.shape_spec.proofs.Members.{same_input}
 use Rattle.bfr_store.specs.Keeps.{Keeps as StoreKeeps, MakesVariable}
@@ -17,7 +15,7 @@ use Rattle.sym_objects.specs.Seen.{SobsSeen, IsWhole}
 use Rattle.sym_objects.specs.declared.sob.Sob.{Sob}
 use Rattle.sym_prims.specs.Applying.{Leaves, Tells}
 use Rattle.gl_interp.specs.Causes.{StandsOver}
-use Rattle.gl_interp.specs.Environments.{env_under, vector_at}
+use Rattle.gl_interp.specs.Environments.{vector_at}
 use Rattle.gl_symbolic.specs.Narrowing.{IsIndex, IsNarrowed}
 use Rattle.gl_symbolic.specs.Steps.{StandsUnder}
 

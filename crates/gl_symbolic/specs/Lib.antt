@@ -3,3 +3,5 @@ pub mod Theorems
 pub mod Decisions
 pub mod Steps
 pub mod Narrowing
+pub mod Books
+pub mod Rooms

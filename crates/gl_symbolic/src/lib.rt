@@ -13,11 +13,13 @@ mod condition;
 pub mod decide;
 pub mod decision;
 mod narrow;
+pub mod room;
 pub mod runs;
 pub mod settles;
 mod stores;
 
 pub use decide::decide_symbolically;
 pub use decision::Decision;
+pub use room::{Room, decide_in_mode};
 pub use runs::{hypothesis, refutation};
 pub use settles::Settles;

@@ -1,12 +1,9 @@
-use Rattle.std.proofs.Common.{◌≡◌, ◌∙◌, sym, subst, ap, ℕ, Bool, true, List}
+use Rattle.std.proofs.Common.{◌∙◌, sym, subst, List}
 use Rattle.bfr_store.specs.declared.edge.Edge.{Edge}
-use Rattle.gl_logic.specs.Assignments.{value_at}
 use Rattle.gl_interp.specs.Causes.{StandsOver}
-use Rattle.shape_spec.specs.declared.theorem.Part.TheVariants.{Hyp}
-use Rattle.gl_symbolic.specs.Decisions.{HasRunOut, IsProper, stopped_by}
+use Rattle.gl_symbolic.specs.Decisions.{IsProper}
 use Rattle.gl_symbolic.proofs.Narrowing.{stands_narrowed}
-use Rattle.gl_symbolic.proofs.Running.{hypothesis_later}
-use Rattle.gl_symbolic.proofs.Stopped.{input_out, input_stop, ready_later, rests_then, undecided_shown}
+use Rattle.gl_symbolic.proofs.Stopped.{input_stop, ready_later, rests_then}
 use Rattle.gl_symbolic.proofs.decide.conclude_narrowed.Goals as goal
 
 pub returns-in-Err-symbolic_over-clause-proper : goal.returns-in-Err-symbolic_over-clause-proper

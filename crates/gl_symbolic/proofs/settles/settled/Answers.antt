@@ -1,4 +1,4 @@
-use Rattle.std.proofs.Common.{◌≡◌, ℕ, Bool, true, false, refl, sym, ◌∙◌}
+use Rattle.std.proofs.Common.{sym, ◌∙◌}
 use Rattle.gl_logic.specs.Assignments.{value_at}
 use Rattle.sym_prims.proofs.Leaving.{leaves_lent, truth_lent}
 use Rattle.gl_symbolic.proofs.settles.settled.Goals as goal
