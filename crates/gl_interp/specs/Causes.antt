@@ -19,7 +19,6 @@ use Rattle.shape_spec.specs.Indices.{width_of}
 use Rattle.shape_spec.specs.InputMeant.{input_meant}
 use Rattle.shape_spec.specs.ShapeSeen.{ShapeSeen}
 use Rattle.sym_objects.specs.declared.sob.Sob.{Sob}
-use Rattle.sym_objects.specs.Keeps.{Grows, Keeps}
 use Rattle.sym_objects.specs.Seen.{SobsSeen, IsFull, IsLive, stands_for}
 use Rattle.sym_prims.specs.Applying.{Leaves}
 use Rattle.gl_interp.specs.declared.fault.GlFault.{GlFault}

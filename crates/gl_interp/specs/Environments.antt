@@ -1,5 +1,5 @@
 -- Environments of symbolic objects, and what they stand for.
-use Rattle.std.specs.Prelude.{ℕ, Bool, false, List, map, get_or}
+use Rattle.std.specs.Prelude.{ℕ, Bool, List, map}
 use Rattle.std.specs.List.{All}
 use Rattle.bfr_store.specs.declared.edge.Edge.{Edge}
 use Rattle.bfr_store.specs.declared.meaning.Meaning.{Ghosts}

@@ -1,3 +1,13 @@
+pub mod Branches
+pub mod Calls
 pub mod Causes
+pub mod Cells
+pub mod Constants
 pub mod Environments
+pub mod Envs
 pub mod Faults
+pub mod Placed
+pub mod Running
+pub mod TurnFaults
+pub mod Walking
+pub mod Whole

@@ -32,7 +32,7 @@ pub fn symbolic_over<B: Bits>(
     ensures cause { IfErr result (HasInputCause B.Meaning objs.new b.now machine.old) }
     ensures rests { Rests machine.old machine.new }
 {
-    let _ = (alloc, b, edges, objs, machine);
+    let _alloc = alloc;
     Err(GlFault::Memory)
 }
 
@@ -51,6 +51,6 @@ pub fn symbolic<B: Bits>(
     ensures cause { IfErr result (HasInputCause B.Meaning objs.new b.now machine.old) }
     ensures rests { Rests machine.old machine.new }
 {
-    let _ = (alloc, b, objs, machine);
+    let _alloc = alloc;
     Err(GlFault::Memory)
 }

@@ -5,11 +5,18 @@ ghost use Rattle.gl_logic.specs.IsTermOf.{IsTermOf};
 ghost use Rattle.gl_logic.specs.TermOf.{term_of};
 ghost use Rattle.lisp_eval.specs.Machines.{Fits};
 ghost use Rattle.sym_objects.specs.Seen.{IsWhole};
-ghost use Rattle.gl_interp.specs.Causes.{Interprets, Rests, Task};
+ghost use Rattle.gl_interp.specs.Causes.{Interprets, Rests};
 ghost use Rattle.gl_interp.specs.Environments.{AreLive};
 
 use super::env::SymEnv;
+use super::envs::Envs;
 use super::fault::GlFault;
+use super::frame::Focus;
+use super::gives::{give, next};
+use super::lent::way_of;
+use super::runs::run;
+use super::stack::Stack;
+use super::visits::visit;
 use bfr_store::{Bits, Edge};
 use gl_logic::{Term, World};
 use lisp_eval::Machine;
@@ -36,6 +43,72 @@ pub fn interp<B: Bits>(
     ensures interprets { Interprets B.Meaning objs.old objs.new (record { world = world.now; machine = machine.old; clock = clock; term = term_of term.now; env = env.now; path = path }) result }
     ensures rests { Rests machine.old machine.new }
 {
-    let _ = (alloc, objs, machine, world, term, env, clock, path);
+    let _total = world.count();
+    let mut envs = Envs::new(alloc);
+    let first = envs.bind_pairs(env)?;
+    let mut way = way_of(alloc, objs, path)?;
+    let mut frames = Stack::new(alloc);
+    let mut focus = Focus::Visit(term, first, clock);
+    for turn in 0..u64::MAX {
+        match focus {
+            Focus::Visit(t, e, n) => {
+                match visit(
+                    alloc,
+                    objs,
+                    machine,
+                    &envs,
+                    path,
+                    &way,
+                    t,
+                    e,
+                    n,
+                    &mut frames,
+                ) {
+                    Ok(more) => focus = more,
+                    Err(fault) => return Err(fault),
+                }
+            }
+            Focus::Next(work, done, terms, e, n) => {
+                focus = next(
+                    objs,
+                    &envs,
+                    path,
+                    &way,
+                    work,
+                    done,
+                    terms,
+                    e,
+                    n,
+                    &mut frames,
+                )?
+            }
+            Focus::Run(work, args, e, n) => {
+                match run(
+                    alloc, objs, machine, &mut envs, world, path, &way, work, args, e, n, &frames,
+                ) {
+                    Ok(more) => focus = more,
+                    Err(fault) => return Err(fault),
+                }
+            }
+            Focus::Give(object) => match frames.pop() {
+                None => return Ok(object),
+                Some(frame) => {
+                    match give(
+                        alloc,
+                        objs,
+                        &envs,
+                        path,
+                        &mut way,
+                        object,
+                        frame,
+                        &mut frames,
+                    ) {
+                        Ok(more) => focus = more,
+                        Err(fault) => return Err(fault),
+                    }
+                }
+            },
+        }
+    }
     Err(GlFault::Memory)
 }
