@@ -1,0 +1,12 @@
+-- What the book of a search's last decision shows.
+use Rattle.std.specs.Prelude.{◌≡◌, true, false, Some}
+use Rattle.cnf_rup.specs.Books.{BookSeen, holds_empty}
+use Rattle.sat_core.specs.Decisions.{SatSeen, learned_in}
+
+-- the book of the last decision is there, and the empty clause is in it
+abbrev pub HoldsEmpty : SatSeen → Type 0
+HoldsEmpty s = (b : BookSeen) × (s.book ≡ Some b) × (holds_empty b.entries ≡ true)
+
+-- it is there, as many clauses were learned as the store allows, and the empty one is not among them
+abbrev pub IsGivenUp : SatSeen → Type 0
+IsGivenUp s = (b : BookSeen) × (s.book ≡ Some b) × (learned_in b ≡ s.clauses) × (holds_empty b.entries ≡ false)

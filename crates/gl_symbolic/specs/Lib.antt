@@ -1,0 +1,7 @@
+pub mod Causes
+pub mod Theorems
+pub mod Decisions
+pub mod Steps
+pub mod Narrowing
+pub mod Books
+pub mod Rooms

@@ -1,0 +1,47 @@
+-- What the stores of a decision hold at its end.
+use Rattle.std.specs.Prelude.{◌≡◌, ℕ, length}
+use Rattle.bdd_store.specs.Nodes.{Diagrams}
+use Rattle.bfr_store.specs.declared.meaning.Meaning.{Ghosts}
+use Rattle.sat_core.specs.Decisions.{SatSeen}
+use Rattle.shape_spec.specs.Indices.{width_of}
+use Rattle.shape_spec.specs.declared.theorem.Part.TheVariants as part
+use Rattle.shape_spec.specs.declared.theorem.Mode.TheVariants as mode
+use Rattle.shape_spec.specs.declared.theorem.Thm.{Thm}
+use Rattle.sym_objects.specs.Seen.{SobsSeen, IsWhole}
+use Rattle.gl_symbolic.specs.Decisions.{HasRunOut, IsShown}
+use Rattle.gl_symbolic.specs.declared.decision.Decision.{Decision}
+use Rattle.gl_symbolic.specs.declared.decision.Decision.TheVariants as decision
+use Rattle.gl_symbolic.specs.declared.room.Room.{Room}
+use Rattle.gl_symbolic.specs.declared.room.Room.TheVariants as room
+use Rattle.gl_symbolic.specs.Books.{HoldsEmpty, IsGivenUp}
+
+-- no run was begun: the cells don't suffice, or memory was refused
+abbrev pub IsUnbegun : Decision → Type 0
+IsUnbegun (decision.Cells part a) = Unit {0}
+IsUnbegun decision.Memory = Unit {0}
+IsUnbegun _ = ⊥
+
+-- the cells don't suffice for the world's constants: an assignment of the theorem, whose input is one of the hypothesis
+abbrev pub IsUnplaced : Thm → Decision → Type 0
+IsUnplaced thm (decision.Cells part.Hyp a) = length a ≡ width_of thm.bindings
+IsUnplaced thm decision.Memory = Unit {0}
+IsUnplaced thm _ = ⊥
+
+-- where the store gave up, its book is there, has learned all clauses, and the empty one is not among them
+abbrev pub GivesUpWell : SatSeen → Decision → Type 0
+GivesUpWell s decision.Spent = IsGivenUp s
+GivesUpWell s _ = Unit {0}
+
+-- a whole table over a store, each with room for so many nodes, and what has run out
+pub record IsRoomFor {B : Type 0} (g : Ghosts B) (nodes : ℕ) (s : SobsSeen B) (d : Decision) : Type 0 where
+  pub whole : IsWhole g s
+  pub table : s.limit ≡ nodes
+  pub store : g.limit_of s.store ≡ nodes
+  pub run_out : HasRunOut g s d
+
+-- the stores are those of the theorem's mode. In mode Sat an answer that no assignment makes a function true is shown by the
+-- book of the last decision
+abbrev pub LeavesRoom : Ghosts Diagrams → Ghosts SatSeen → ℕ → Thm → Decision → Room → Type 0
+LeavesRoom g h nodes thm d room.Empty = IsUnbegun d
+LeavesRoom g h nodes thm d (room.Bdd s) = (thm.mode ≡ mode.Bdd) × IsRoomFor g nodes s d
+LeavesRoom g h nodes thm d (room.Sat s) = (thm.mode ≡ mode.Sat) × IsRoomFor h nodes s d × IsShown (HoldsEmpty s.store) d × GivesUpWell s.store d

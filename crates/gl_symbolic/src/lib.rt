@@ -1,0 +1,25 @@
+//! The decision of a theorem by one symbolic run.
+//!
+//! [`decide_symbolically`] runs the hypothesis on the theorem's symbolic input, asks the bit store whether some assignment
+//! meets it, runs the conclusion under it, and asks whether some assignment meets the hypothesis and makes the conclusion
+//! NIL. So each of its answers speaks of all assignments of the theorem's indices at once, after GL (Swords and Davis,
+//! "Bit-blasting ACL2 theorems").
+//!
+//! [`hypothesis`] and [`refutation`] are the two runs, each up to the edge that is decided, for a caller that has a store's
+//! own decision.
+#![tactic(auto)]
+
+mod condition;
+pub mod decide;
+pub mod decision;
+mod narrow;
+pub mod room;
+pub mod runs;
+pub mod settles;
+mod stores;
+
+pub use decide::decide_symbolically;
+pub use decision::Decision;
+pub use room::{Room, decide_in_mode};
+pub use runs::{hypothesis, refutation};
+pub use settles::Settles;
