@@ -101,13 +101,13 @@ module _ {B : Type 0} (g : Ghosts B) (start : SobsSeen B) (b : List (ℕ × Shap
     keeps = keeps_then g start now new p.keeps k;
     live = subst (AreLive new) (sym pushed) (All-append (λ q. IsLive new q.1) env ((v, x) ∷ []) (λ j d h. k.stays _ (p.live j d h)) (one_live o.live));
     input = λ a.
-      let before : env_under g new env a ≡ take i (input_meant b (vector_at g start.store edges a)) = objects_same (λ y. stands_for g now y a) (λ y. stands_for g new y a) (length now.nodes) (λ y h. k.same y a h) env p.live ∙ p.input a in
-      let object : stands_for g new x a ≡ object_meant (holds_over g start.store b edges a) s = o.means a ∙ ap (λ h. object_meant h s) (holds_same now a p.keeps l) in
-      ap (λ ps. env_under g new ps a) pushed
-      ∙ (map-append (λ q. (q.0, stands_for g new q.1 a)) env ((v, x) ∷ [])
-      ∙ ((λ t. before t ++ (v, object t) ∷ [])
-      ∙ (sym (take_next i (input_meant b (vector_at g start.store edges a)) (v, object_meant (holds_over g start.store b edges a) s) (input_at b (holds_over g start.store b edges a) i v s var shape))
-      ∙ ap (λ n. take n (input_meant b (vector_at g start.store edges a))) (sym count))));
+        let before : env_under g new env a ≡ take i (input_meant b (vector_at g start.store edges a)) = objects_same (λ y. stands_for g now y a) (λ y. stands_for g new y a) (length now.nodes) (λ y h. k.same y a h) env p.live ∙ p.input a in
+        let object : stands_for g new x a ≡ object_meant (holds_over g start.store b edges a) s = o.means a ∙ ap (λ h. object_meant h s) (holds_same now a p.keeps l) in
+        ap (λ ps. env_under g new ps a) pushed
+        ∙ (map-append (λ q. (q.0, stands_for g new q.1 a)) env ((v, x) ∷ [])
+        ∙ ((λ t. before t ++ (v, object t) ∷ [])
+        ∙ (sym (take_next i (input_meant b (vector_at g start.store edges a)) (v, object_meant (holds_over g start.store b edges a) s) (input_at b (holds_over g start.store b edges a) i v s var shape))
+        ∙ ap (λ n. take n (input_meant b (vector_at g start.store edges a))) (sym count))));
   } where
     one_live : IsLive new x → All (λ (q : ℕ × Sob). IsLive new q.1) ((v, x) ∷ [])
     one_live h zero d l = h
@@ -153,15 +153,15 @@ module _ {B : Type 0} (g : Ghosts B) (start : SobsSeen B) where
     count = ap length pushed ∙ omega (arith, length-append edges (e ∷ []), v.count, next);
     live = subst (All (g.live new.store)) (sym pushed) (All-append (g.live new.store) edges (e ∷ []) (λ i d l. grows.store.stays _ (v.live i d l)) (one_edge new e live));
     truths = λ a j l.
-      let f : Edge → Bool = λ c. g.truth_of new.store c a in
-      let old_truths : map f edges ≡ map (λ c. g.truth_of now.store c a) edges = truths_same g now.store new.store a (λ c h. grows.store.same c a h) edges v.live in
-      let counted : length (map f edges) ≡ k = length-map edges f ∙ v.count in
-      ap (λ cs. value_at (map f cs) j) pushed
-      ∙ (ap (λ bs. value_at bs j) (map-append f edges (e ∷ []))
-      ∙ elim (cases_lt j k) [
-        | inl less ↦ get_or_append_left (map f edges) (f e ∷ []) false j (omega (arith, less, counted)) ∙ (ap (λ bs. value_at bs j) old_truths ∙ v.truths a j less)
-        | inr more_than ↦ let same : j ≡ k = omega (arith, more_than, l, next) in get_or_push (map f edges) (f e) false j (omega (arith, same, counted)) ∙ (truth a ∙ ap a (sym same))
-      ]);
+        let f : Edge → Bool = λ c. g.truth_of new.store c a in
+        let old_truths : map f edges ≡ map (λ c. g.truth_of now.store c a) edges = truths_same g now.store new.store a (λ c h. grows.store.same c a h) edges v.live in
+        let counted : length (map f edges) ≡ k = length-map edges f ∙ v.count in
+        ap (λ cs. value_at (map f cs) j) pushed
+        ∙ (ap (λ bs. value_at bs j) (map-append f edges (e ∷ []))
+        ∙ elim (cases_lt j k) [
+          | inl less ↦ get_or_append_left (map f edges) (f e ∷ []) false j (omega (arith, less, counted)) ∙ (ap (λ bs. value_at bs j) old_truths ∙ v.truths a j less)
+          | inr more_than ↦ let same : j ≡ k = omega (arith, more_than, l, next) in get_or_push (map f edges) (f e) false j (omega (arith, same, counted)) ∙ (truth a ∙ ap a (sym same))
+        ]);
   }
 
   -- over the variables the vector's assignment is the assignment

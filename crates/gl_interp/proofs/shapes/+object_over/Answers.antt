@@ -251,11 +251,11 @@ loop-element-preserved g t c =
       keeps = keeps_then m old c.loop-element.objs _ inv.keeps (keeps_then m c.loop-element.objs _ _ first.keeps made.keeps);
       live = made.live;
       means = λ a.
-        let obj : ShapeSeen → Object = object_meant (holds_over m old.store c.args.b.now c.args.edges.now a) in
-        let x = (object_later m old c.args.b.now c.args.edges.now c.requires.count c.requires.edges c.loop-element.objs _ (shape_of u) _ inv.keeps first.object).means a in
-        let rest = first.keeps.same c.loop-element.all a inv.live in
-        ap (conses (map obj (map shape_of (drop (k + 1) c.deref-element-items.result.now)))) (made.means a ∙ (λ j. Cons (x j) (rest j)))
-        ∙ (sym (conses_drop obj c.deref-element-items.result.now k u (stands_for m c.loop-element.objs c.loop-element.all a) c.loop-element-test.true c.element-item.is) ∙ inv.means a);
+          let obj : ShapeSeen → Object = object_meant (holds_over m old.store c.args.b.now c.args.edges.now a) in
+          let x = (object_later m old c.args.b.now c.args.edges.now c.requires.count c.requires.edges c.loop-element.objs _ (shape_of u) _ inv.keeps first.object).means a in
+          let rest = first.keeps.same c.loop-element.all a inv.live in
+          ap (conses (map obj (map shape_of (drop (k + 1) c.deref-element-items.result.now)))) (made.means a ∙ (λ j. Cons (x j) (rest j)))
+          ∙ (sym (conses_drop obj c.deref-element-items.result.now k u (stands_for m c.loop-element.objs c.loop-element.all a) c.loop-element-test.true c.element-item.is) ∙ inv.means a);
       found = first.found ∙ inv.found;
       others = sets_then all (indices_in s) c.args.found.now c.loop-element.found _ inv.others (sets_more all (indices_in (shape_of u)) (indices_in s) c.loop-element.found _ (element_inside s items t k u e less at) first.others);
       rests = rests_then c.args.machine.now c.loop-element.machine _ inv.rests first.rests;
@@ -308,13 +308,13 @@ returns-after-loop-element-clause-object g t c =
     record {
       live = inv.live;
       means = λ a.
-        let f : ℕ → Bool = holds_over m c.args.objs.now.store c.args.b.now c.args.edges.now a in
-        let obj : ShapeSeen → Object = object_meant f in
-        let tail = o.object.means a ∙ ap (λ (s : Shape). obj (shape_of s)) c.deref-in-List.ensures in
-        ap (λ (ss : List Shape). conses (map obj (map shape_of ss)) (stands_for m c.loop-element.objs c.loop-element.all a)) (sym none)
-        ∙ (inv.means a
-        ∙ (ap (conses (map obj (map shape_of items))) tail
-        ∙ (ap (λ (ss : List Shape). conses (map obj (map shape_of ss)) (obj (shape_of c.in-List.tail.value))) c.deref-element-items.ensures.value
-        ∙ (sym (pairs_object f (map shape_of c.in-List.elements.items) (shape_of c.in-List.tail.value))
-        ∙ ap obj (sym (ap shape_of c.in-List.is ∙ list_shape c.in-List.elements c.in-List.tail))))));
+          let f : ℕ → Bool = holds_over m c.args.objs.now.store c.args.b.now c.args.edges.now a in
+          let obj : ShapeSeen → Object = object_meant f in
+          let tail = o.object.means a ∙ ap (λ (s : Shape). obj (shape_of s)) c.deref-in-List.ensures in
+          ap (λ (ss : List Shape). conses (map obj (map shape_of ss)) (stands_for m c.loop-element.objs c.loop-element.all a)) (sym none)
+          ∙ (inv.means a
+          ∙ (ap (conses (map obj (map shape_of items))) tail
+          ∙ (ap (λ (ss : List Shape). conses (map obj (map shape_of ss)) (obj (shape_of c.in-List.tail.value))) c.deref-element-items.ensures.value
+          ∙ (sym (pairs_object f (map shape_of c.in-List.elements.items) (shape_of c.in-List.tail.value))
+          ∙ ap obj (sym (ap shape_of c.in-List.is ∙ list_shape c.in-List.elements c.in-List.tail))))));
     }

@@ -15,7 +15,7 @@ invariant-loop-element g l = record {
   keeps : Keeps g.B.Meaning l.fn.objs l.objs;
   live : IsLive l.objs l.all;
   means : (a : ℕ → Bool) → let obj = object_meant (holds_over g.B.Meaning l.fn.objs.store l.b l.edges a) in
-    conses (map obj (map shape_of (drop l.element-index l.element-items))) (stands_for g.B.Meaning l.objs l.all a) ≡ conses (map obj (map shape_of l.element-items)) (stands_for g.B.Meaning l.initial.objs l.initial.all a);
+      conses (map obj (map shape_of (drop l.element-index l.element-items))) (stands_for g.B.Meaning l.objs l.all a) ≡ conses (map obj (map shape_of l.element-items)) (stands_for g.B.Meaning l.initial.objs l.initial.all a);
   found : length l.found ≡ length l.fn.found;
   others : SetsOnly (indices_of l.b) (indices_in (shape_of l.fn.shape)) l.fn.found l.found;
   rests : Rests l.fn.machine l.machine;
