@@ -168,12 +168,13 @@ fn zeros(alloc: Global, count: usize) -> Result<Vec<u8>, Fail> {
     Ok(book)
 }
 
-/// A list of 999,999 elements has a million leaves with its NIL, and is printed; one more is too large.
+/// A list of 999,999 elements has a million leaves with its NIL, and is printed; one more is too large. Both take more
+/// cells than a run usually has.
 #[test]
 fn sizes(rt: HostRuntime) -> Result<(), Fail> {
     for (count, want_len, want_code) in [(999_999, 2_000_052, 0), (1_000_000, 67, 3)] {
         let book = zeros(rt.alloc(), count)?;
-        let (bytes, code) = outcome(&rt, "b", book, 2_100_000, (&[], &[]))?;
+        let (bytes, code) = outcome(&rt, "--cells 4000000 b", book, 2_100_000, (&[], &[]))?;
         assert_eq!(rt; bytes.len(), want_len, "{count}");
         assert_eq!(rt; code, want_code, "{count}");
     }
