@@ -43,6 +43,8 @@ impl Meaning for Bdd {
 
     ghost spent = { λ _. false };
 
+    ghost budget_of = { λ s. 0 };
+
     ghost limit_of = { λ s. s.limit };
 
     ghost count_of = { nodes_in };

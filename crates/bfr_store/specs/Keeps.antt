@@ -4,11 +4,12 @@ use Rattle.bfr_store.specs.declared.edge.Edge.{Edge}
 use Rattle.bfr_store.specs.declared.edge.Full.{Full}
 use Rattle.bfr_store.specs.declared.meaning.Meaning.{Ghosts}
 
--- every call: a live edge stays live and keeps its truth, the limit stays, and the count doesn't fall
+-- every call: a live edge stays live and keeps its truth, the limit and a decision's budget stay, and the count doesn't fall
 pub record Grows {B : Type 0} (g : Ghosts B) (old new : B) : Type 0 where
   pub stays : (e : Edge) → g.live old e → g.live new e
   pub same : (e : Edge) (a : ℕ → Bool) → g.live old e → g.truth_of new e a ≡ g.truth_of old e a
   pub same_limit : g.limit_of new ≡ g.limit_of old
+  pub same_budget : g.budget_of new ≡ g.budget_of old
   pub no_fewer : g.count_of old ≤ g.count_of new
 
 -- every call that makes no variable and decides nothing: the number of variables stays too, and whether the last
@@ -17,6 +18,7 @@ pub record Keeps {B : Type 0} (g : Ghosts B) (old new : B) : Type 0 where
   pub stays : (e : Edge) → g.live old e → g.live new e
   pub same : (e : Edge) (a : ℕ → Bool) → g.live old e → g.truth_of new e a ≡ g.truth_of old e a
   pub same_limit : g.limit_of new ≡ g.limit_of old
+  pub same_budget : g.budget_of new ≡ g.budget_of old
   pub no_fewer : g.count_of old ≤ g.count_of new
   pub same_width : g.width_of new ≡ g.width_of old
   pub same_spent : g.spent new ≡ g.spent old

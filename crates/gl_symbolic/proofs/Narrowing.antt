@@ -61,6 +61,7 @@ module _ {B : Type 0} (g : Ghosts B) where
         stays = m.grows.stays;
         same = m.grows.same;
         same_limit = m.grows.same_limit;
+        same_budget = m.grows.same_budget;
         no_fewer = m.grows.no_fewer;
         same_width = omega (arith, w, b);
         same_spent = m.same_spent;
@@ -74,7 +75,7 @@ module _ {B : Type 0} (g : Ghosts B) where
     full = tt;
   }
   variable_made old store (Err x) k w b m = record {
-    keeps = keeps_by_store g old (record old { store = store }) store refl w (record { stays = m.grows.stays; same = m.grows.same; same_limit = m.grows.same_limit; no_fewer = m.grows.no_fewer; same_width = m.width; same_spent = m.same_spent });
+    keeps = keeps_by_store g old (record old { store = store }) store refl w (record { stays = m.grows.stays; same = m.grows.same; same_limit = m.grows.same_limit; same_budget = m.grows.same_budget; no_fewer = m.grows.no_fewer; same_width = m.width; same_spent = m.same_spent });
     live = tt;
     truth = tt;
     full = inr m.full;

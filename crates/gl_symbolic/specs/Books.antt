@@ -1,5 +1,5 @@
 -- What the book of a search's last decision shows.
-use Rattle.std.specs.Prelude.{◌≡◌, true, false, Some}
+use Rattle.std.specs.Prelude.{◌≡◌, ℕ, true, false, Some}
 use Rattle.cnf_rup.specs.Books.{BookSeen, holds_empty}
 use Rattle.sat_core.specs.Decisions.{SatSeen, learned_in}
 
@@ -7,6 +7,6 @@ use Rattle.sat_core.specs.Decisions.{SatSeen, learned_in}
 abbrev pub HoldsEmpty : SatSeen → Type 0
 HoldsEmpty s = (b : BookSeen) × (s.book ≡ Some b) × (holds_empty b.entries ≡ true)
 
--- it is there, as many clauses were learned as the store allows, and the empty one is not among them
-abbrev pub IsGivenUp : SatSeen → Type 0
-IsGivenUp s = (b : BookSeen) × (s.book ≡ Some b) × (learned_in b ≡ s.clauses) × (holds_empty b.entries ≡ false)
+-- it is there, so many clauses were learned, and the empty one is not among them
+abbrev pub IsGivenUp : ℕ → SatSeen → Type 0
+IsGivenUp clauses s = (b : BookSeen) × (s.book ≡ Some b) × (learned_in b ≡ clauses) × (holds_empty b.entries ≡ false)

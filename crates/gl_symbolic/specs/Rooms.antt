@@ -27,10 +27,10 @@ IsUnplaced thm (decision.Cells part.Hyp a) = length a ≡ width_of thm.bindings
 IsUnplaced thm decision.Memory = Unit {0}
 IsUnplaced thm _ = ⊥
 
--- where the store gave up, its book is there, has learned all clauses, and the empty one is not among them
-abbrev pub GivesUpWell : SatSeen → Decision → Type 0
-GivesUpWell s decision.Spent = IsGivenUp s
-GivesUpWell s _ = Unit {0}
+-- where the store gave up, its book is there, has learned so many clauses, and the empty one is not among them
+abbrev pub GivesUpWell : ℕ → SatSeen → Decision → Type 0
+GivesUpWell clauses s decision.Spent = IsGivenUp clauses s
+GivesUpWell clauses s _ = Unit {0}
 
 -- a whole table over a store, each with room for so many nodes, and what has run out
 pub record IsRoomFor {B : Type 0} (g : Ghosts B) (nodes : ℕ) (s : SobsSeen B) (d : Decision) : Type 0 where
@@ -41,7 +41,7 @@ pub record IsRoomFor {B : Type 0} (g : Ghosts B) (nodes : ℕ) (s : SobsSeen B) 
 
 -- the stores are those of the theorem's mode. In mode Sat an answer that no assignment makes a function true is shown by the
 -- book of the last decision
-abbrev pub LeavesRoom : Ghosts Diagrams → Ghosts SatSeen → ℕ → Thm → Decision → Room → Type 0
-LeavesRoom g h nodes thm d room.Empty = IsUnbegun d
-LeavesRoom g h nodes thm d (room.Bdd s) = (thm.mode ≡ mode.Bdd) × IsRoomFor g nodes s d
-LeavesRoom g h nodes thm d (room.Sat s) = (thm.mode ≡ mode.Sat) × IsRoomFor h nodes s d × IsShown (HoldsEmpty s.store) d × GivesUpWell s.store d
+abbrev pub LeavesRoom : Ghosts Diagrams → Ghosts SatSeen → ℕ → ℕ → Thm → Decision → Room → Type 0
+LeavesRoom g h nodes clauses thm d room.Empty = IsUnbegun d
+LeavesRoom g h nodes clauses thm d (room.Bdd s) = (thm.mode ≡ mode.Bdd) × IsRoomFor g nodes s d
+LeavesRoom g h nodes clauses thm d (room.Sat s) = (thm.mode ≡ mode.Sat) × IsRoomFor h nodes s d × IsShown (HoldsEmpty s.store) d × GivesUpWell clauses s.store d

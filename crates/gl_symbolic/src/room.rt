@@ -34,13 +34,13 @@ pub enum Room {
 /// Decides a theorem in its mode, with a machine and stores of its own. The decision, and the stores as it leaves them.
 ///
 /// On Full the table of symbolic objects or its bit store holds `limits.nodes` nodes. On Spent the mode is Sat, and the
-/// last decision has learned as many clauses as its store allows.
+/// last decision has learned `limits.clauses` clauses.
 pub fn decide_in_mode(alloc: Global, world: &World, thm: &Thm, limits: &Limits) -> (Decision, Room)
     requires hyp { IsTermOf world.now.definitions (term_of thm.now.hyp) }
     requires concl { IsTermOf world.now.definitions (term_of thm.now.concl) }
     requires functions { AreFunctionsOf world.now thm.now.memoized }
     ensures proper { IsProper world.now limits.now.steps limits.now.cells thm.now result.0 }
-    ensures room { LeavesRoom ⟦<Bdd as Meaning>⟧ ⟦<AigSat as Meaning>⟧ limits.now.nodes thm.now result.0 result.1 }
+    ensures room { LeavesRoom ⟦<Bdd as Meaning>⟧ ⟦<AigSat as Meaning>⟧ limits.now.nodes limits.now.clauses thm.now result.0 result.1 }
 {
     // every term of the world has a value
     let _count = world.count();
@@ -80,7 +80,7 @@ fn by_diagrams(
     requires concl { IsTermOf world.now.definitions (term_of thm.now.concl) }
     requires mode { thm.now.mode ≡ Mode.Bdd }
     ensures proper { IsProper world.now machine.old.steps machine.old.arena.limit thm.now result.0 }
-    ensures room { LeavesRoom ⟦<Bdd as Meaning>⟧ ⟦<AigSat as Meaning>⟧ limits.now.nodes thm.now result.0 result.1 }
+    ensures room { LeavesRoom ⟦<Bdd as Meaning>⟧ ⟦<AigSat as Meaning>⟧ limits.now.nodes limits.now.clauses thm.now result.0 result.1 }
 {
     let nodes = limits.nodes;
     let Ok(store) = Bdd::new(alloc, nodes) else {
@@ -106,7 +106,7 @@ fn by_search(
     requires concl { IsTermOf world.now.definitions (term_of thm.now.concl) }
     requires mode { thm.now.mode ≡ Mode.Sat }
     ensures proper { IsProper world.now machine.old.steps machine.old.arena.limit thm.now result.0 }
-    ensures room { LeavesRoom ⟦<Bdd as Meaning>⟧ ⟦<AigSat as Meaning>⟧ limits.now.nodes thm.now result.0 result.1 }
+    ensures room { LeavesRoom ⟦<Bdd as Meaning>⟧ ⟦<AigSat as Meaning>⟧ limits.now.nodes limits.now.clauses thm.now result.0 result.1 }
 {
     let nodes = limits.nodes;
     let Ok(store) = AigSat::new(alloc, nodes, limits.clauses) else {

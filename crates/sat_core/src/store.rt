@@ -108,6 +108,8 @@ impl Meaning for AigSat {
 
     ghost spent = { λ s. s.spent };
 
+    ghost budget_of = { λ s. s.clauses };
+
     ghost limit_of = { λ s. s.graph.limit };
 
     ghost count_of = { λ s. nodes_in s.graph };

@@ -133,7 +133,7 @@ module _ {B : Type 0} (g : Ghosts B) where
   }
 
   store_grows : (old new : B) → StoreKeeps g old new → StoreGrows g old new
-  store_grows old new k = record { stays = k.stays; same = k.same; same_limit = k.same_limit; no_fewer = k.no_fewer }
+  store_grows old new k = record { stays = k.stays; same = k.same; same_limit = k.same_limit; same_budget = k.same_budget; no_fewer = k.no_fewer }
 
   pub grows_of : (old new : SobsSeen B) → Keeps g old new → Grows g old new
   grows_of old new k = record {
@@ -161,6 +161,7 @@ module _ {B : Type 0} (g : Ghosts B) where
       stays = λ c h. l.store.stays c (k.store.stays c h);
       same = λ c a h. l.store.same c a (k.store.stays c h) ∙ k.store.same c a h;
       same_limit = l.store.same_limit ∙ k.store.same_limit;
+      same_budget = l.store.same_budget ∙ k.store.same_budget;
       no_fewer = omega (arith, k.store.no_fewer, l.store.no_fewer);
     };
     same_limit = l.same_limit ∙ k.same_limit;

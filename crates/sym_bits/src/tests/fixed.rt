@@ -27,6 +27,8 @@ impl Meaning for Fixed {
 
     ghost spent = { λ s. false };
 
+    ghost budget_of = { λ s. 0 };
+
     ghost limit_of = { λ s. 0 };
 
     ghost count_of = { λ s. 0 };

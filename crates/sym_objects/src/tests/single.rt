@@ -22,6 +22,8 @@ impl Meaning for Single {
 
     ghost spent = { λ s. false };
 
+    ghost budget_of = { λ s. 0 };
+
     ghost limit_of = { λ s. 0 };
 
     ghost count_of = { λ s. 0 };

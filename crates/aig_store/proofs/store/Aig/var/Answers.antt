@@ -37,6 +37,7 @@ returns-clause-makes c =
         stays = λ e h. rw is (omega (arith, h, length_push old node));
         same = λ e a h. rw is (truth-before old node e a h);
         same_limit = ap (λ (s : Graph). s.limit) c.push-number.ensures.added ∙ ap (λ (s : Graph). s.limit) c.widen.ensures;
+        same_budget = refl;
         no_fewer = rw is (omega (arith, length_push old node));
       };
       same_spent = refl;

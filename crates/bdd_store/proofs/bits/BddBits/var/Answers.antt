@@ -54,6 +54,7 @@ returns-clause-makes c =
         stays = λ e h. rw is (omega (arith, h, length_push old node));
         same = λ e a h. rw is (truth-before old node e a h);
         same_limit = ap (λ (s : Diagrams). s.limit) c.push-number.ensures.added ∙ ap (λ (s : Diagrams). s.limit) c.widen.ensures;
+        same_budget = refl;
         no_fewer = rw is (omega (arith, length_push old node));
       };
       same_spent = refl;
