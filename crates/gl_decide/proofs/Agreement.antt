@@ -1,5 +1,5 @@
 -- Two proper verdicts on one theorem agree.
-use Rattle.std.proofs.Common.{◌≡◌, ◌∙◌, ap, sym, ℕ, List, [], Some, None, arith, inl, inr}
+use Rattle.std.proofs.Common.{◌≡◌, ◌∙◌, sym, ℕ, Bool, List, Some, None, arith, inl, inr}
 use Rattle.std.proofs.lemmas.Bool.{cases_order}
 use Rattle.gl_logic.specs.Object.{Object, nil}
 use Rattle.gl_logic.specs.Evaluate.{HasValue}
@@ -8,9 +8,11 @@ use Rattle.gl_logic.proofs.Walks.{value_unique}
 use Rattle.shape_spec.specs.Theorems.{IsMet, Holds}
 use Rattle.coverage.specs.Covered.{first_uncovered}
 use Rattle.gl_decide.specs.Bounds.{Bounds}
-use Rattle.gl_decide.specs.Theorem.{Theorem, input_at}
-use Rattle.gl_decide.specs.Verdicts.{IsCovered, IsLeastRefuting, IsProperVerdict, NamesTheLeast}
+use Rattle.gl_decide.specs.Theorem.{Theorem}
+use Rattle.gl_decide.specs.Scans.{IsProperScan}
+use Rattle.gl_decide.specs.Verdicts.{IsCovered, IsLeastRefuting, IsProperVerdict}
 use Rattle.gl_decide.specs.Agreement.{Agree}
+use Rattle.gl_decide.specs.declared.scanned.Scan.TheVariants as scan
 use Rattle.gl_decide.specs.declared.verdict.Verdict.{Verdict}
 use Rattle.gl_decide.specs.declared.verdict.Verdict.TheVariants.{Proved, Vacuous, Refuted, Uncovered}
 
@@ -25,21 +27,21 @@ module _ (w : WorldSeen) (bounds : Bounds) (thm : Theorem) where
   pub one_verdict : (v u : Verdict) → IsProperVerdict w bounds thm v → IsProperVerdict w bounds thm u → Agree v u
   one_verdict Proved Vacuous p q = q.1 p.2.0 p.2.1.1
   one_verdict Proved (Refuted env) p q = unrefuted env p.1 q.1.1 q.2
-  one_verdict Proved (Uncovered v) p q = uncovered v.number p.0.0 q
+  one_verdict Proved (Uncovered v) p q = uncovered v.number p.0 q
   one_verdict Vacuous Proved p q = p.1 q.2.0 q.2.1.1
   one_verdict Vacuous (Refuted env) p q = p.1 env q.1.1
-  one_verdict Vacuous (Uncovered v) p q = uncovered v.number p.0.0 q
+  one_verdict Vacuous (Uncovered v) p q = uncovered v.number p.0 q
   one_verdict (Refuted env) Proved p q = unrefuted env q.1 p.1.1 p.2
   one_verdict (Refuted env) Vacuous p q = q.1 env p.1.1
-  one_verdict (Refuted env) (Uncovered v) p q = uncovered v.number p.0.0 q
-  one_verdict (Uncovered v) Proved p q = uncovered v.number q.0.0 p
-  one_verdict (Uncovered v) Vacuous p q = uncovered v.number q.0.0 p
-  one_verdict (Uncovered v) (Refuted env) p q = uncovered v.number q.0.0 p
+  one_verdict (Refuted env) (Uncovered v) p q = uncovered v.number p.0 q
+  one_verdict (Uncovered v) Proved p q = uncovered v.number q.0 p
+  one_verdict (Uncovered v) Vacuous p q = uncovered v.number q.0 p
+  one_verdict (Uncovered v) (Refuted env) p q = uncovered v.number q.0 p
   one_verdict (Uncovered v) (Uncovered u) p q = let e : Some v.number ≡ Some u.number = sym p ∙ q in cc
   one_verdict _ _ p q = tt
 
--- ---- the least input
-one_least : (w : WorldSeen) (thm : Theorem) (j k : ℕ) → IsLeastRefuting w thm j → IsLeastRefuting w thm k → j ≡ k
+-- ---- scans
+pub one_least : (w : WorldSeen) (thm : Theorem) (j k : ℕ) → IsLeastRefuting w thm j → IsLeastRefuting w thm k → j ≡ k
 one_least w thm j k a b = elim (cases_order j k) [
   | inl e ↦ e
   | inr d ↦ elim d [
@@ -48,5 +50,8 @@ one_least w thm j k a b = elim (cases_order j k) [
   ]
 ]
 
-pub one_input : (w : WorldSeen) (thm : Theorem) (env other : List (ℕ × Object)) → NamesTheLeast w thm (Refuted env) → NamesTheLeast w thm (Refuted other) → env ≡ other
-one_input w thm env other l m = l.2 ∙ (ap (input_at thm) (one_least w thm l.0 m.0 l.3 m.3) ∙ sym m.2)
+pub scan_least : (w : WorldSeen) (bounds : Bounds) (thm : Theorem) (k : ℕ) → IsProperScan w bounds thm (scan.Refutes k) → IsLeastRefuting w thm k
+scan_least w bounds thm k s = (s.2, λ j l. s.3 j (omega arith) l)
+
+pub scan_clean : (w : WorldSeen) (bounds : Bounds) (thm : Theorem) (met : Bool) (k : ℕ) → IsProperScan w bounds thm (scan.Clean met) → IsProperScan w bounds thm (scan.Refutes k) → ⊥
+scan_clean w bounds thm met k c s = c.0 k s.0 s.1 s.2

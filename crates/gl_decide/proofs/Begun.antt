@@ -1,6 +1,6 @@
 -- Machines that have begun, or have not.
-use Rattle.std.proofs.Common.{◌≡◌, ◌≢◌, ◌∙◌, ◌<◌, refl, sym, subst, ℕ, List, Result, Ok, Err, arith}
-use Rattle.std.specs.List.{All, Contains, flat_map}
+use Rattle.std.proofs.Common.{◌≡◌, ◌≢◌, ◌<◌, refl, subst, ℕ, List, Result, Err, arith}
+use Rattle.std.specs.List.{Contains, flat_map}
 use Rattle.std.proofs.lemmas.List.Elements.{All-contains}
 use Rattle.gl_logic.specs.Object.{Object}
 use Rattle.gl_logic.specs.IsTermOf.{IsTermOf}

@@ -1,14 +1,12 @@
 -- From what a machine refuses to the causes of a theorem's part.
-use Rattle.std.proofs.Common.{◌≡◌, ◌≢◌, ◌∙◌, ap, sym, refl, subst, ℕ, ◌+◌, ◌<◌, ◌≤◌, arith, List, [], ◌∷◌, ◌++◌, length, map, get_or, append_assoc, Option, Some, None, Result, Ok, Err, inl, inr, ◌⊎◌}
-use Rattle.std.specs.Prelude.{IsErrOf}
-use Rattle.std.specs.List.{All, Contains, flat_map}
+use Rattle.std.proofs.Common.{◌≡◌, ◌≢◌, ◌∙◌, ap, sym, refl, subst, ℕ, ◌<◌, ◌≤◌, arith, List, ◌++◌, length, map, Result, Err, inl, inr, ◌⊎◌}
+use Rattle.std.specs.List.{Contains, flat_map}
 use Rattle.std.proofs.lemmas.List.Concat.{flat_map-append}
 use Rattle.std.proofs.lemmas.List.Elements.{All-contains_itself, Contains-append_left, Contains-append_right, Contains-append_cases}
 use Rattle.gl_logic.specs.Object.{Object}
 use Rattle.gl_logic.specs.ObjectEq.{object_eq}
 use Rattle.gl_logic.specs.Different.{different}
 use Rattle.gl_logic.specs.Exp.{Exp}
-use Rattle.gl_logic.specs.Evaluate.{HasValue}
 use Rattle.gl_logic.specs.IsTermOf.{IsTermOf}
 use Rattle.gl_logic.specs.IsTotal.{IsTotal}
 use Rattle.gl_logic.specs.Parts.{cells_in}

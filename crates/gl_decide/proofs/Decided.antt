@@ -1,60 +1,54 @@
 -- From what a scan found to the verdicts.
-use Rattle.std.proofs.Common.{◌≡◌, ◌≢◌, ◌∙◌, ap, sym, refl, subst, ℕ, ◌<◌, ◌≤◌, ◌^◌, arith, List, Bool, true, false, not, inl, inr, ◌⊎◌}
-use Rattle.std.specs.Prelude.{◌↔◌}
-use Rattle.gl_logic.specs.Object.{Object, nil}
+use Rattle.std.proofs.Common.{◌≡◌, sym, refl, subst, ℕ, ◌<◌, ◌^◌, arith, List, true, false, inl, inr}
+use Rattle.gl_logic.specs.Object.{Object}
 use Rattle.gl_logic.specs.ObjectEq.{is_nil}
 use Rattle.gl_logic.specs.Evaluate.{HasValue}
-use Rattle.gl_logic.specs.IsGround.{AreGround}
-use Rattle.gl_logic.specs.IsTermOf.{IsTermOf}
-use Rattle.gl_logic.specs.IsTotal.{IsTotal}
 use Rattle.gl_logic.specs.WorldSeen.{WorldSeen}
-use Rattle.shape_spec.specs.Indices.{width_of, IsBindings}
+use Rattle.shape_spec.specs.Indices.{width_of}
 use Rattle.shape_spec.specs.InputMeant.{assignment_numbered}
 use Rattle.shape_spec.specs.Theorems.{IsMet}
 use Rattle.shape_spec.specs.declared.theorem.Part.{Part}
-use Rattle.coverage.specs.Sound.{AllAreBound}
 use Rattle.coverage.proofs.Covering.{holds_from_numbers, never_from_numbers}
 use Rattle.lisp_eval.specs.declared.fault.EvalFault.{EvalFault}
 use Rattle.lisp_eval.specs.declared.fault.EvalFault.TheVariants as fault
 use Rattle.gl_decide.specs.Bounds.{Bounds}
 use Rattle.gl_decide.specs.Theorem.{Theorem, input_at}
-use Rattle.gl_decide.specs.Scans.{NoneRefutes, SomeMeets, HasCause, IsProperScan}
+use Rattle.gl_decide.specs.Scans.{NoneRefutes, HasCause, IsProperScan}
 use Rattle.gl_decide.proofs.Nil.{nil_or_not}
-use Rattle.gl_decide.specs.Answered.{IsRefutedAt, IsStoppedAt}
-use Rattle.gl_decide.specs.Verdicts.{IsCovered, IsInputFor, IsProperVerdict, Refutes, NamesTheLeast}
+use Rattle.gl_decide.specs.Answered.{IsCoveredIn, IsRefutedAt, IsStoppedAt}
+use Rattle.gl_decide.specs.Verdicts.{IsProperVerdict}
 use Rattle.gl_decide.specs.declared.scanned.Scan.TheVariants as scan
 use Rattle.gl_decide.specs.declared.verdict.Verdict.{Verdict}
 use Rattle.gl_decide.specs.declared.verdict.Verdict.TheVariants as verdict
 
-module _ (w : WorldSeen) (bounds : Bounds) (thm : Theorem) (covered : IsCovered thm) (few : width_of thm.bindings ≤ bounds.enum_bits) where
+module _ (w : WorldSeen) (bounds : Bounds) (thm : Theorem) (known : IsCoveredIn w thm) where
   -- ---- all inputs
-  module _ (ground : AreGround w.definitions) (total : IsTotal w.definitions) (concl : IsTermOf w.definitions thm.concl) (proper : IsBindings thm.bindings) (bound : AllAreBound thm.hyp thm.concl thm.bindings) where
-    -- where the hypothesis is met and nothing refutes, the conclusion is met
-    concluded : (n : ℕ) → NoneRefutes w thm 0 (2 ^ width_of thm.bindings) → n < 2 ^ width_of thm.bindings → IsMet w.definitions thm.hyp (input_at thm n) → IsMet w.definitions thm.concl (input_at thm n)
-    concluded n none l m =
-        let v = total (input_at thm n) thm.concl concl in
-        elim (nil_or_not v.0 (is_nil v.0) refl) [
-          | inl e ↦ absurd (none n (omega arith) l (m, subst (λ (x : Object). HasValue w.definitions (input_at thm n) thm.concl x) e v.1))
-          | inr h ↦ (v.0, v.1, h)
-        ]
+  -- where the hypothesis is met and nothing refutes, the conclusion is met
+  concluded : (n : ℕ) → NoneRefutes w thm 0 (2 ^ width_of thm.bindings) → n < 2 ^ width_of thm.bindings → IsMet w.definitions thm.hyp (input_at thm n) → IsMet w.definitions thm.concl (input_at thm n)
+  concluded n none l m =
+      let v = known.total (input_at thm n) thm.concl known.concl in
+      elim (nil_or_not v.0 (is_nil v.0) refl) [
+        | inl e ↦ absurd (none n (omega arith) l (m, subst (λ (x : Object). HasValue w.definitions (input_at thm n) thm.concl x) e v.1))
+        | inr h ↦ (v.0, v.1, h)
+      ]
 
-    pub proved : IsProperScan w bounds thm (scan.Clean true) → IsProperVerdict w bounds thm verdict.Proved
-    proved s =
-        let k = s.1.0 refl in (
-          (covered, few),
-          holds_from_numbers w.definitions ground thm.hyp thm.concl thm.bindings proper bound covered (λ n l m. concluded n s.0 l m),
-          (input_at thm k.0, ((assignment_numbered k.0, refl), k.3)),
-        )
+  pub proved : IsProperScan w bounds thm (scan.Clean true) → IsProperVerdict w bounds thm verdict.Proved
+  proved s =
+      let k = s.1.0 refl in (
+        known.covered,
+        holds_from_numbers w.definitions known.ground thm.hyp thm.concl thm.bindings known.bindings known.bound known.covered (λ n l m. concluded n s.0 l m),
+        (input_at thm k.0, ((assignment_numbered k.0, refl), k.3)),
+      )
 
-    pub emptied : IsProperScan w bounds thm (scan.Clean false) → IsProperVerdict w bounds thm verdict.Vacuous
-    emptied s = (
-      (covered, few),
-      never_from_numbers w.definitions ground thm.hyp thm.concl thm.bindings proper bound covered (λ n l m. let e : false ≡ true = s.1.1 (n, omega arith, l, m) in absurd cc),
-    )
+  pub emptied : IsProperScan w bounds thm (scan.Clean false) → IsProperVerdict w bounds thm verdict.Vacuous
+  emptied s = (
+    known.covered,
+    never_from_numbers w.definitions known.ground thm.hyp thm.concl thm.bindings known.bindings known.bound known.covered (λ n l m. let e : false ≡ true = s.1.1 (n, omega arith, l, m) in absurd cc),
+  )
 
   -- ---- one input
   pub refuted : (k : ℕ) → IsProperScan w bounds thm (scan.Refutes k) → (v : Verdict) → IsRefutedAt thm k v → IsProperVerdict w bounds thm v
-  refuted k s (verdict.Refuted env) e = subst (λ (i : List (ℕ × Object)). IsProperVerdict w bounds thm (verdict.Refuted i)) (sym e) ((covered, few), ((assignment_numbered k, refl), s.2.0), s.2.1)
+  refuted k s (verdict.Refuted env) e = subst (λ (i : List (ℕ × Object)). IsProperVerdict w bounds thm (verdict.Refuted i)) (sym e) (known.covered, ((assignment_numbered k, refl), s.2.0), s.2.1)
   refuted k s verdict.Memory e = tt
   refuted k s verdict.Proved e = absurd e
   refuted k s verdict.Vacuous e = absurd e
@@ -63,11 +57,8 @@ module _ (w : WorldSeen) (bounds : Bounds) (thm : Theorem) (covered : IsCovered 
   refuted k s (verdict.Width p env) e = absurd e
   refuted k s (verdict.Steps p env) e = absurd e
   refuted k s (verdict.Cells p env) e = absurd e
-  refuted k s verdict.Unbuilt e = absurd e
-
-  pub refuted_least : (k : ℕ) → IsProperScan w bounds thm (scan.Refutes k) → (v : Verdict) → IsRefutedAt thm k v → NamesTheLeast w thm v
-  refuted_least k s (verdict.Refuted env) e = (k, s.1, e, (s.2, λ j l. s.3 j (omega arith) l))
-  refuted_least k s _ e = tt
+  refuted k s (verdict.Nodes st) e = absurd e
+  refuted k s (verdict.Clauses st) e = absurd e
 
   module _ (k : ℕ) (part : Part) (f : EvalFault) (s : IsProperScan w bounds thm (scan.Stopped k part f)) where
     stopped_by : (p : Part) (env : List (ℕ × Object)) → p ≡ part → env ≡ input_at thm k → (V : Part → List (ℕ × Object) → Type 0) → V part (input_at thm k) → V p env
@@ -76,21 +67,18 @@ module _ (w : WorldSeen) (bounds : Bounds) (thm : Theorem) (covered : IsCovered 
     pub stopped : (v : Verdict) → IsStoppedAt thm k part f v → IsProperVerdict w bounds thm v
     stopped (verdict.Width p env) e =
         let c : HasCause w bounds.steps bounds.cells thm part (input_at thm k) fault.Width = subst (HasCause w bounds.steps bounds.cells thm part (input_at thm k)) e.0 s.3 in
-        stopped_by p env e.1 e.2 (λ q i. IsProperVerdict w bounds thm (verdict.Width q i)) ((covered, few), s.2, c)
+        stopped_by p env e.1 e.2 (λ q i. IsProperVerdict w bounds thm (verdict.Width q i)) (known.covered, s.2, c)
     stopped (verdict.Steps p env) e =
         let c : HasCause w bounds.steps bounds.cells thm part (input_at thm k) fault.Steps = subst (HasCause w bounds.steps bounds.cells thm part (input_at thm k)) e.0 s.3 in
-        stopped_by p env e.1 e.2 (λ q i. IsProperVerdict w bounds thm (verdict.Steps q i)) ((covered, few), s.2, c)
+        stopped_by p env e.1 e.2 (λ q i. IsProperVerdict w bounds thm (verdict.Steps q i)) (known.covered, s.2, c)
     stopped (verdict.Cells p env) e =
         let c : HasCause w bounds.steps bounds.cells thm part (input_at thm k) fault.Cells = subst (HasCause w bounds.steps bounds.cells thm part (input_at thm k)) e.0 s.3 in
-        stopped_by p env e.1 e.2 (λ q i. IsProperVerdict w bounds thm (verdict.Cells q i)) ((covered, few), s.2, c)
+        stopped_by p env e.1 e.2 (λ q i. IsProperVerdict w bounds thm (verdict.Cells q i)) (known.covered, s.2, c)
     stopped verdict.Memory e = tt
     stopped verdict.Proved e = absurd e
     stopped verdict.Vacuous e = absurd e
     stopped (verdict.Refuted env) e = absurd e
     stopped (verdict.Uncovered v) e = absurd e
     stopped (verdict.Clock p env) e = absurd e
-    stopped verdict.Unbuilt e = absurd e
-
-    pub stopped_least : (v : Verdict) → IsStoppedAt thm k part f v → NamesTheLeast w thm v
-    stopped_least (verdict.Refuted env) e = absurd e
-    stopped_least _ e = tt
+    stopped (verdict.Nodes st) e = absurd e
+    stopped (verdict.Clauses st) e = absurd e

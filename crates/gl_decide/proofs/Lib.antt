@@ -1,9 +1,12 @@
 pub mod Agreement
+pub mod Completeness
 pub mod Nil
 pub mod Placing
 pub mod Causes
 pub mod Ranges
 pub mod Truths
 pub mod Decided
+pub mod Symbolic
+pub mod Left
 pub mod Tried
 pub mod Begun

@@ -1,5 +1,5 @@
 -- Numbers that are tried one after the other.
-use Rattle.std.proofs.Common.{◌≡◌, ◌≢◌, ◌∙◌, ap, sym, refl, subst, ℕ, suc, get_or, length, ◌+◌, ◌*◌, ◌/◌, ◌<◌, ◌≤◌, arith, rules, Bool, true, false, List, [], ◌∷◌, ◌++◌, inl, inr, ◌⊎◌}
+use Rattle.std.proofs.Common.{◌≡◌, ◌∙◌, ap, sym, refl, subst, ℕ, suc, get_or, length, ◌+◌, ◌*◌, ◌/◌, ◌<◌, ◌≤◌, arith, Bool, true, false, List, [], ◌∷◌, ◌++◌, inl, inr}
 use Rattle.std.specs.Prelude.{◌↔◌, ◌||◌}
 use Rattle.std.proofs.Math.Nat.{add-div_right, mul-div_cancel_left, div-mul-le_self}
 use Rattle.std.proofs.lemmas.Nat.{le-div}

@@ -1,5 +1,5 @@
 -- What one input tells.
-use Rattle.std.proofs.Common.{◌≡◌, ◌≢◌, ◌∙◌, ap, sym, refl, subst, ℕ, ◌<◌, ◌≤◌, List, ◌++◌, length, take, Bool, true, false, not, inl, inr, ◌⊎◌}
+use Rattle.std.proofs.Common.{◌≡◌, ◌∙◌, sym, refl, subst, ℕ, List, ◌++◌, Bool, true, false, not, inl, inr, ◌⊎◌}
 use Rattle.std.specs.List.{Contains}
 use Rattle.std.proofs.lemmas.List.Elements.{Contains-append_cases}
 use Rattle.gl_logic.specs.Object.{Object, nil}
@@ -15,10 +15,9 @@ use Rattle.shape_spec.specs.declared.theorem.Part.TheVariants as part
 use Rattle.lisp_eval.specs.Answers.{HasGrown}
 use Rattle.lisp_eval.specs.Machines.{MachineSeen}
 use Rattle.lisp_eval.specs.declared.fault.EvalFault.{EvalFault}
-use Rattle.lisp_eval.specs.declared.fault.EvalFault.TheVariants as fault
 use Rattle.gl_decide.specs.Theorem.{Theorem, input_at}
 use Rattle.gl_decide.specs.Scans.{HasCause}
-use Rattle.gl_decide.specs.Placed.{input_cells, IsTruthOf, HasLicense, LacksCells, AddsCellsOfInput, Rests}
+use Rattle.gl_decide.specs.Placed.{input_cells, IsTruthOf, HasLicense, LacksCells}
 use Rattle.gl_decide.specs.Trials.{IsReady, HoldsInput, IsInputOf, IsProperTrial, constant_cells}
 use Rattle.gl_decide.specs.declared.trial.Trial.{Trial}
 use Rattle.gl_decide.specs.declared.trial.Trial.TheVariants as trial

@@ -1,6 +1,6 @@
 -- Machines that stand as before.
-use Rattle.std.proofs.Common.{◌≡◌, ◌∙◌, ap, sym, refl, subst, ℕ, ◌≤◌, arith, List, [], ◌++◌, length, take, inl, inr, ◌⊎◌}
-use Rattle.std.specs.List.{All, Contains}
+use Rattle.std.proofs.Common.{◌≡◌, ◌∙◌, sym, refl, subst, ℕ, ◌≤◌, List, length, take, inl, inr}
+use Rattle.std.specs.List.{Contains}
 use Rattle.std.proofs.lemmas.List.Elements.{Contains-append_cases}
 use Rattle.gl_logic.specs.Object.{Object}
 use Rattle.gl_logic.specs.CellCounts.{world_constants}
@@ -8,10 +8,10 @@ use Rattle.gl_logic.specs.WorldSeen.{WorldSeen}
 use Rattle.lisp_eval.specs.Answers.{HasGrown}
 use Rattle.lisp_eval.specs.Machines.{MachineSeen, Fits, ArePlaced}
 use Rattle.lisp_eval.specs.MachineCalls.{KeepsSettings}
-use Rattle.lisp_eval.proofs.Grown.{grown_back, grown_count, grown_none}
+use Rattle.lisp_eval.proofs.Grown.{grown_back, grown_count}
 use Rattle.gl_decide.specs.Theorem.{Theorem}
-use Rattle.gl_decide.specs.Placed.{input_cells, AddsCellsOfInput, Rests}
-use Rattle.gl_decide.specs.Trials.{IsReady, HoldsInput, constant_cells}
+use Rattle.gl_decide.specs.Placed.{AddsCellsOfInput, Rests}
+use Rattle.gl_decide.specs.Trials.{IsReady, HoldsInput}
 
 pub keeps_same : (m : MachineSeen) → KeepsSettings m m
 keeps_same m = record { limit = refl; steps = refl; functions = refl }

@@ -4,9 +4,9 @@ use Rattle.gl_logic.specs.Object.{Object}
 use Rattle.gl_logic.specs.Exp.{Exp}
 use Rattle.gl_logic.specs.Evaluate.{evaluate}
 use Rattle.gl_logic.specs.Counts.{memoized_cost}
-use Rattle.gl_logic.specs.CellCounts.{distinct_cells}
 use Rattle.gl_logic.specs.Wide.{IsWide}
 use Rattle.gl_logic.specs.WorldSeen.{WorldSeen}
+use Rattle.gl_symbolic.specs.Causes.{IsOutOfCells as HasTooManyCells}
 
 -- with so many definitions opened inside one another the term has no value
 abbrev pub IsOutOfClock : WorldSeen → ℕ → List (ℕ × Object) → Exp → Type 0
@@ -24,8 +24,5 @@ pub record IsOutOfSteps (w : WorldSeen) (memoized : List ℕ) (steps : ℕ) (env
   pub more : steps < memoized_cost w.definitions memoized depth env t
 
 -- at such a depth, the cells that the evaluation speaks of are more different objects than the limit
-pub record IsOutOfCells (w : WorldSeen) (cells : ℕ) (env : List (ℕ × Object)) (t : Exp) : Type 0 where
-  pub depth : ℕ
-  pub value : Object
-  pub has : evaluate w.definitions depth env t ≡ Some value
-  pub more : cells < distinct_cells w depth env t
+abbrev pub IsOutOfCells : WorldSeen → ℕ → List (ℕ × Object) → Exp → Type 0
+IsOutOfCells w cells env t = HasTooManyCells w cells env t

@@ -2,8 +2,11 @@ pub mod Bounds
 pub mod Theorem
 pub mod TheoremOf
 pub mod Causes
+pub mod Stalls
 pub mod Verdicts
 pub mod Agreement
+pub mod Completeness
+pub mod Rooms
 pub mod Scans
 pub mod Placed
 pub mod Trials

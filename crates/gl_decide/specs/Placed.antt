@@ -1,5 +1,5 @@
 -- What a machine holds for an input, and what a term makes of it.
-use Rattle.std.specs.Prelude.{◌≡◌, ◌≢◌, ℕ, ◌<◌, Bool, true, false, not, List, [], ◌++◌, map, length, All, Contains, Result, MatchResult}
+use Rattle.std.specs.Prelude.{◌≡◌, ◌≢◌, ℕ, ◌<◌, Bool, not, List, ◌++◌, map, length, All, Contains}
 use Rattle.std.specs.List.{flat_map}
 use Rattle.gl_logic.specs.Object.{Object}
 use Rattle.gl_logic.specs.ObjectEq.{is_nil, object_eq}
@@ -8,7 +8,6 @@ use Rattle.gl_logic.specs.Evaluate.{HasValue}
 use Rattle.gl_logic.specs.Parts.{cells_in}
 use Rattle.gl_logic.specs.Different.{different}
 use Rattle.gl_logic.specs.WorldSeen.{WorldSeen}
-use Rattle.hons_arena.specs.declared.id.Id.{Id}
 use Rattle.hons_arena.specs.Held.{Held}
 use Rattle.gl_logic.specs.Wide.{IsWide}
 use Rattle.lisp_eval.specs.Answers.{IsLiveBinding, IsDear, IsCrowded}

@@ -1,7 +1,6 @@
 -- When the answer of a scan is proper.
 use Rattle.std.specs.Prelude.{◌≡◌, ◌↔◌, ℕ, ◌<◌, ◌≤◌, ◌^◌, List, true}
 use Rattle.gl_logic.specs.Object.{Object}
-use Rattle.gl_logic.specs.Exp.{Exp}
 use Rattle.gl_logic.specs.WorldSeen.{WorldSeen}
 use Rattle.shape_spec.specs.Indices.{width_of}
 use Rattle.shape_spec.specs.Theorems.{IsMet}

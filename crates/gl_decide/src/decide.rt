@@ -1,76 +1,145 @@
 //! The verdict on a theorem.
 
-ghost use Rattle.std.specs.Prelude.{◌≡◌, ◌≤◌};
+ghost use Rattle.std.specs.Prelude.{◌≡◌, ◌<◌, ◌≤◌};
 ghost use Rattle.gl_logic.specs.TermOf.{term_of};
 ghost use Rattle.gl_logic.specs.IsTermOf.{IsTermOf};
 ghost use Rattle.shape_spec.specs.Indices.{width_of};
 ghost use Rattle.coverage.specs.Sound.{AllAreBound};
 ghost use Rattle.lisp_eval.specs.Machines.{AreFunctionsOf};
 ghost use Rattle.gl_decide.specs.Bounds.{bounds_of};
+ghost use Rattle.gl_decide.specs.Rooms.{LeavesStores};
 ghost use Rattle.gl_decide.specs.TheoremOf.{theorem_of};
-ghost use Rattle.gl_decide.specs.Verdicts.{IsCovered, IsProperVerdict, NamesTheLeast};
-ghost use Rattle.gl_decide.specs.Answered.{IsRefutedAt, IsStoppedAt};
+ghost use Rattle.gl_decide.specs.Verdicts.{IsCovered, IsProperVerdict};
+ghost use Rattle.gl_decide.specs.Answered.{IsCoveredIn, IsRefutedAt, IsStalled, IsStoppedAt};
 
 use super::gate::OpenGate;
 use super::scanned::Scan;
 use super::scanning::scan;
+use super::stall::{StallCause, make_stall};
+use super::told::{cause_of, told};
 use super::verdict::Verdict;
+use bdd_store::Bdd;
+use bfr_store::Meaning;
 use coverage::covers;
 use gl_base::limits::Limits;
 use gl_logic::World;
 use gl_logic::ground_laws::ground_calls;
+use gl_symbolic::{Room, decide_in_mode};
 use lisp_eval::EvalFault;
+use sat_core::AigSat;
 use shape_spec::{Part, Thm, bit_count, input_numbered};
 use std::alloc::Global;
 use std::thread::Threads;
 
-/// Decides a theorem: by cover, and then by trying every input.
+/// Decides a theorem: by cover, and then by one symbolic run in its mode. Where that runs out of nodes or clauses, every
+/// input of a theorem of at most `limits.enum_bits` indices is tried, and a wider one is Nodes or Clauses.
 ///
-/// A theorem that is not covered is Uncovered, and a covered one of more indices than `limits.enum_bits` is Unbuilt. A
-/// refutation is that of the least number.
+/// The stores of the run stay in the room: full ones after Nodes; after Clauses the book of a search that has learned
+/// `limits.clauses` clauses; after Proved and Vacuous of a wider theorem in mode Sat the book that shows it.
 pub fn decide_theorem<R: Threads + Sync>(
     rt: &R,
     alloc: Global,
     world: &World,
     thm: &Thm,
     limits: &Limits,
+    room: &mut Room,
 ) -> Verdict
     requires hyp { IsTermOf world.now.definitions (term_of thm.now.hyp) }
     requires concl { IsTermOf world.now.definitions (term_of thm.now.concl) }
     requires functions { AreFunctionsOf world.now thm.now.memoized }
     requires bound { AllAreBound (term_of thm.now.hyp) (term_of thm.now.concl) thm.now.bindings }
+    requires empty { room.old ≡ Room.Empty }
     ensures proper { IsProperVerdict world.now (bounds_of limits.now) (theorem_of thm.now) result }
-    ensures least { NamesTheLeast world.now (theorem_of thm.now) result }
+    ensures room { LeavesStores ⟦<Bdd as Meaning>⟧ ⟦<AigSat as Meaning>⟧ (bounds_of limits.now) (theorem_of thm.now) result room.new }
 {
     match covers(alloc, &thm.hyp, &thm.concl, &thm.bindings) {
-        Ok(None) => decide_covered(rt, alloc, world, thm, limits),
+        Ok(None) => {
+            let (verdict, left) = decide_covered(rt, alloc, world, thm, limits);
+            *room = left;
+            verdict
+        }
         Ok(Some(variable)) => Verdict::Uncovered(variable),
         Err(_) => Verdict::Memory,
     }
 }
 
+/// Decides a covered theorem. The verdict, and the stores of the symbolic run as it leaves them.
 fn decide_covered<R: Threads + Sync>(
     rt: &R,
     alloc: Global,
     world: &World,
     thm: &Thm,
     limits: &Limits,
-) -> Verdict
+) -> (Verdict, Room)
     requires hyp { IsTermOf world.now.definitions (term_of thm.now.hyp) }
     requires concl { IsTermOf world.now.definitions (term_of thm.now.concl) }
     requires functions { AreFunctionsOf world.now thm.now.memoized }
     requires bound { AllAreBound (term_of thm.now.hyp) (term_of thm.now.concl) thm.now.bindings }
     requires covered { IsCovered (theorem_of thm.now) }
-    ensures proper { IsProperVerdict world.now (bounds_of limits.now) (theorem_of thm.now) result }
-    ensures least { NamesTheLeast world.now (theorem_of thm.now) result }
+    ensures proper { IsProperVerdict world.now (bounds_of limits.now) (theorem_of thm.now) result.0 }
+    ensures room { LeavesStores ⟦<Bdd as Meaning>⟧ ⟦<AigSat as Meaning>⟧ (bounds_of limits.now) (theorem_of thm.now) result.0 result.1 }
 {
-    // every term of the world has a value, and its first definitions are the ground ones
+    // every term of the world has a value, its first definitions are the ground ones, and no index is bound twice
     let _count = world.count();
     ground_calls();
-    let enum_bits = limits.enum_bits;
-    if bit_count(&thm.bindings) > u32::from(enum_bits) {
-        return Verdict::Unbuilt;
+    let _bits = bit_count(&thm.bindings);
+    let (decision, left) = decide_in_mode(alloc, world, thm, limits);
+    match cause_of(&decision, limits) {
+        Some(cause) => (give_up(rt, alloc, world, thm, limits, cause), left),
+        None => match told(alloc, thm, decision) {
+            Ok(verdict) => (verdict, left),
+            Err(_) => (Verdict::Memory, left),
+        },
     }
+}
+
+/// Decides a covered theorem whose symbolic run ran out.
+fn give_up<R: Threads + Sync>(
+    rt: &R,
+    alloc: Global,
+    world: &World,
+    thm: &Thm,
+    limits: &Limits,
+    cause: StallCause,
+) -> Verdict
+    requires covered { IsCoveredIn world.now (theorem_of thm.now) }
+    requires functions { AreFunctionsOf world.now thm.now.memoized }
+    ensures scanned { width_of thm.now.bindings ≤ limits.now.enum_bits → IsProperVerdict world.now (bounds_of limits.now) (theorem_of thm.now) result }
+    ensures stalled { limits.now.enum_bits < width_of thm.now.bindings → IsStalled world.now (theorem_of thm.now) cause result }
+{
+    if bit_count(&thm.bindings) <= u32::from(limits.enum_bits) {
+        decide_by_scan(rt, alloc, world, thm, limits)
+    } else {
+        stalled(world, thm, cause)
+    }
+}
+
+/// The verdict that a decision ran out.
+fn stalled(world: &World, thm: &Thm, cause: StallCause) -> Verdict
+    ensures { IsStalled world.now (theorem_of thm.now) cause result }
+{
+    let stall = make_stall(cause, world, thm);
+    match cause {
+        StallCause::Nodes(_) => Verdict::Nodes(stall),
+        StallCause::Clauses(_) => Verdict::Clauses(stall),
+    }
+}
+
+/// Decides a covered theorem of at most `limits.enum_bits` indices by trying every input.
+fn decide_by_scan<R: Threads + Sync>(
+    rt: &R,
+    alloc: Global,
+    world: &World,
+    thm: &Thm,
+    limits: &Limits,
+) -> Verdict
+    requires covered { IsCoveredIn world.now (theorem_of thm.now) }
+    requires functions { AreFunctionsOf world.now thm.now.memoized }
+    requires few { width_of thm.now.bindings ≤ limits.now.enum_bits }
+    ensures { IsProperVerdict world.now (bounds_of limits.now) (theorem_of thm.now) result }
+{
+    // at most 16 indices are scanned
+    let _bits = limits.enum_bits;
     match scan(rt, alloc, world, thm, limits, &OpenGate) {
         Scan::Clean(true) => Verdict::Proved,
         Scan::Clean(false) => Verdict::Vacuous,

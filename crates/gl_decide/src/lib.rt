@@ -1,6 +1,7 @@
 //! Verdicts on theorems.
 //!
-//! [`scan`] tries every input of a theorem on any number of workers at once; [`decide_theorem`] gives a verdict.
+//! [`decide_theorem`] gives a verdict: by cover, then by a symbolic run, and where that runs out of nodes or clauses by
+//! [`scan`], which tries every input of a theorem of few indices on any number of workers at once.
 #![tactic(auto)]
 
 mod decide;
@@ -12,11 +13,15 @@ mod pieces;
 mod place;
 mod scanned;
 mod scanning;
+mod stall;
+mod told;
 mod trial;
 mod verdict;
 
 pub use decide::decide_theorem;
 pub use gate::{Gate, OpenGate};
+pub use gl_symbolic::Room;
 pub use scanned::Scan;
 pub use scanning::scan;
+pub use stall::{Stall, StallCause, Stalls};
 pub use verdict::Verdict;

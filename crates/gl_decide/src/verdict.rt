@@ -1,5 +1,6 @@
 //! What a decision answers.
 
+use super::stall::Stall;
 use gl_logic::TextId;
 use shape_spec::{Inputs, Part};
 
@@ -23,8 +24,10 @@ pub enum Verdict {
     Steps(Part, Inputs),
     /// The evaluation speaks of more different cells than the limit of cells.
     Cells(Part, Inputs),
-    /// The theorem has more indices than are scanned.
-    Unbuilt,
+    /// The symbolic run needs more nodes than there may be, and the theorem has more indices than are scanned.
+    Nodes(Stall),
+    /// The search needs more clauses than it may learn, and the theorem has more indices than are scanned.
+    Clauses(Stall),
     /// Memory was refused.
     Memory,
 }

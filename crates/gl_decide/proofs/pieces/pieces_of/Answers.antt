@@ -1,4 +1,4 @@
-use Rattle.std.proofs.Common.{◌≡◌, ◌∙◌, ap, sym, refl, subst, arith, ℕ, ◌*◌, ◌/◌, ◌+◌, ◌<◌, List}
+use Rattle.std.proofs.Common.{◌≡◌, ◌∙◌, ap, sym, refl, subst, arith, ◌*◌, ◌/◌, ◌+◌, ◌<◌, List}
 use Rattle.gl_decide.specs.Pieces.{Follow}
 use Rattle.gl_decide.specs.declared.piece.Piece.{Piece}
 use Rattle.gl_decide.proofs.Ranges.{follow_push, all_parts}

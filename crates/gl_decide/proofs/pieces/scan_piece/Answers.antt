@@ -1,4 +1,4 @@
-use Rattle.std.proofs.Common.{◌≡◌, ◌≢◌, ◌∙◌, sym, subst, rules, ℕ}
+use Rattle.std.proofs.Common.{◌≢◌, subst, rules, ℕ}
 use Rattle.lisp_eval.specs.MachineCalls.{RefusesForCells}
 use Rattle.lisp_eval.specs.declared.fault.EvalFault.TheVariants as fault
 use Rattle.gl_decide.specs.TheoremOf.{theorem_of}

@@ -1,4 +1,4 @@
-use Rattle.std.proofs.Common.{◌≡◌, ◌∙◌, ap, sym, subst, refl, ℕ, ◌+◌, ◌≤◌, true, Bool, arith, rules}
+use Rattle.std.proofs.Common.{◌≡◌, ◌∙◌, sym, subst, ℕ, ◌+◌, ◌≤◌, true, Bool, arith}
 use Rattle.std.specs.Prelude.{◌↔◌}
 use Rattle.gl_decide.specs.Theorem.{input_at}
 use Rattle.gl_decide.specs.TheoremOf.{theorem_of}

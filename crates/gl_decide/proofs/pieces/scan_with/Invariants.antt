@@ -1,4 +1,4 @@
-use Rattle.std.proofs.Common.{◌≡◌, ◌≤◌, true}
+use Rattle.std.proofs.Common.{◌≡◌, true}
 use Rattle.std.specs.Prelude.{◌↔◌}
 use Rattle.gl_decide.specs.TheoremOf.{theorem_of}
 use Rattle.gl_decide.specs.Scans.{NoneRefutes, SomeMeets}

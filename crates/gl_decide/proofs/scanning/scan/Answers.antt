@@ -1,9 +1,8 @@
-use Rattle.std.proofs.Common.{◌≡◌, ◌∙◌, ap, sym, subst, ℕ, ◌^◌, List, false, rules, arith, length}
+use Rattle.std.proofs.Common.{◌≡◌, ◌∙◌, ap, sym, subst, ℕ, ◌^◌, false, rules, length}
 use Rattle.shape_spec.specs.Indices.{width_of}
 use Rattle.gl_decide.specs.TheoremOf.{theorem_of}
 use Rattle.gl_decide.specs.Scans.{IsProperAmong}
 use Rattle.gl_decide.specs.Pieces.{joined_with}
-use Rattle.gl_decide.specs.declared.scanned.Scan.{Scan}
 use Rattle.gl_decide.proofs.Ranges.{none_yet, some_yet, all_proper, joined_proper}
 use Rattle.gl_decide.proofs.scanning.scan.Goals as goal
 

@@ -1,6 +1,5 @@
-use Rattle.std.proofs.Common.{◌≡◌, ◌∙◌, sym, subst, ℕ, List}
+use Rattle.std.proofs.Common.{◌∙◌, sym, subst, ℕ, List}
 use Rattle.gl_logic.specs.Object.{Object}
-use Rattle.lisp_eval.specs.States.{env_of}
 use Rattle.gl_decide.specs.Theorem.{input_at}
 use Rattle.gl_decide.specs.TheoremOf.{theorem_of}
 use Rattle.gl_decide.specs.Placed.{LacksCells}
