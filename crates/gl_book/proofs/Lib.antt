@@ -11,5 +11,15 @@ pub mod Kept
 pub mod TextTables
 pub mod FirstStates
 pub mod Closing
+pub mod Stalled
 pub mod Onward
 pub mod Ends
+pub mod Completeness
+pub mod Shares
+pub mod Looks
+pub mod Phases
+pub mod Shared
+pub mod Waited
+pub mod Puts
+pub mod Crosses
+pub mod Ways

@@ -17,12 +17,13 @@ use Rattle.event_world.specs.EventSeen.{EventSeen}
 use Rattle.event_world.specs.NextState.{BookState}
 use Rattle.event_world.specs.Outcomes.{Outcome}
 use Rattle.event_world.proofs.SuitedEvents.{event_suits}
-use Rattle.gl_book.specs.Entry.{Entry, Answered, Refused}
+use Rattle.gl_decide.specs.Stalls.{StallSeen}
+use Rattle.gl_book.specs.Entry.{Entry, Answered, Refused, stalls_of}
 use Rattle.gl_book.specs.Lines.{entry_lines, event_lines, done_line, counts_of, is_refusal, transcript_lines}
 use Rattle.gl_book.specs.Answers.{IsProperAnswer}
 use Rattle.gl_book.specs.Walk.{CanGoOn, event_in, state_after, refused_cause, refusal_at, Walk, ended, bad, refused, without_value, event}
 use Rattle.gl_book.specs.Transcript.{told}
-use Rattle.gl_book.specs.Stops.{HasRoom, counts_with, end_refusal, closing_lines, closing_status, told_before, WritesLines, WritesLinesFront, WritesWalk, WritesWalkFront}
+use Rattle.gl_book.specs.Stops.{HasRoom, counts_with, end_refusal, closing_lines, closing_status, told_before, WritesLines, WritesLinesFront, KeepsFront, KeepsStalls, KeepsStallsFront, WritesWalk, WritesWalkFront}
 use Rattle.gl_book.specs.declared.answer.Answer.{Answer}
 use Rattle.gl_book.specs.declared.answer.Cause.{Cause}
 use Rattle.gl_book.specs.declared.answer.Cause.TheVariants as cause
@@ -33,6 +34,7 @@ use Rattle.gl_book.specs.declared.stop.Stop.{Stop}
 use Rattle.gl_book.proofs.GoOn.{some_answer, after_event}
 use Rattle.gl_book.proofs.Told.{grows_nothing, grows_same, grows_is, front_of, front_then, so_far, so_far_more, told_whole}
 use Rattle.gl_book.proofs.Closing.{counts_more, room, closing, lines_that_close, status_that_closes, still_answered}
+use Rattle.gl_book.proofs.Stalled.{keeps_none, keeps_more, keeps_closing, keeps_front, keeps_front_more}
 
 -- ---- each walk can be gone on with
 module _ (names : List (List ℕ)) (bounds : Bounds) (end : End) where
@@ -71,12 +73,12 @@ module _ {P : Type 0} where
   when_err (Err e) p f = f p
 
 -- ---- the way
-module _ (names : List (List ℕ)) (bounds : Bounds) (start : BookState) (book : Forms) (last : Bool) (old : Option (List ℕ)) where
+module _ (names : List (List ℕ)) (bounds : Bounds) (start : BookState) (book : Forms) (last : Bool) (old : Option (List ℕ)) (before : List StallSeen) where
   abbrev IsWhole : List Entry → Type 0
   IsWhole entries = Walk names bounds start book.list book.end entries
 
   -- so many forms are answered
-  pub record Stands (state : BookState) (counts : Counts) (i : ℕ) (now : Option (List ℕ)) : Type 0 where
+  pub record Stands (state : BookState) (counts : Counts) (i : ℕ) (now : Option (List ℕ)) (stalls : List StallSeen) : Type 0 where
     pub done : List Entry
     pub can : CanGoOn state
     -- each walk of what is left makes a walk of the whole
@@ -85,9 +87,10 @@ module _ (names : List (List ℕ)) (bounds : Bounds) (start : BookState) (book :
     pub many : length done ≡ i
     pub answered : list_any is_refusal done ≡ false
     pub written : Grows old now (so_far last names done)
+    pub kept : KeepsStalls done before stalls
 
-  pub begins : CanGoOn start → Stands start (counts_of []) 0 old
-  begins h = record { done = []; can = h; onward = λ entries w. w; counted = refl; many = refl; answered = refl; written = begun last }
+  pub begins : CanGoOn start → Stands start (counts_of []) 0 old before
+  begins h = record { done = []; can = h; onward = λ entries w. w; counted = refl; many = refl; answered = refl; written = begun last; kept = keeps_none before }
     where
       begun : (b : Bool) → Grows old old (so_far b names [])
       begun true = grows_nothing old
@@ -102,15 +105,15 @@ module _ (names : List (List ℕ)) (bounds : Bounds) (start : BookState) (book :
   none_left (x ∷ xs) zero h = absurd (omega (arith, h))
   none_left (x ∷ xs) (suc i) h = none_left xs i (omega (arith, h))
 
-  module _ (state : BookState) (counts : Counts) (i : ℕ) (now : Option (List ℕ)) (s : Stands state counts i now) where
+  module _ (state : BookState) (counts : Counts) (i : ℕ) (now : Option (List ℕ)) (stalls : List StallSeen) (s : Stands state counts i now stalls) where
     pub has_room : i < 2 ^ 64 - 1 → HasRoom counts
     has_room h = subst HasRoom (sym s.counted) (room s.done (omega (arith, s.many, h)))
 
-    -- what is written is the front of what some walk tells
-    pub front_here : (new : Option (List ℕ)) → new ≡ now → WritesWalkFront names bounds start book last old new
+    -- what is written is the front of what some walk tells, and so are the stalls
+    pub front_here : (new : Option (List ℕ)) → new ≡ now → WritesWalkFront names bounds start book last old new before stalls
     front_here new same =
         let rest = some_walk names bounds book.end state (drop i book.list) s.can in
-        (s.done ++ rest.0, s.onward rest.0 rest.1, front_of old new _ _ _ (told_whole last names s.done rest.0) (grows_same old now new _ s.written same))
+        (s.done ++ rest.0, s.onward rest.0 rest.1, front_of old new _ _ _ (told_whole last names s.done rest.0) (grows_same old now new _ s.written same), keeps_front s.done before stalls s.kept rest.0)
 
     module _ (form : Form) (at : slice_get book.list i ≡ Some form) where
       abbrev onward_at : (entries : List Entry) → Walk names bounds state (form ∷ drop (i + 1) book.list) book.end entries → IsWhole (s.done ++ entries)
@@ -122,8 +125,9 @@ module _ (names : List (List ℕ)) (bounds : Bounds) (start : BookState) (book :
             subst IsWhole (sym (append_assoc s.done (Answered e a ∷ []) entries)) (onward_at (Answered e a ∷ entries) (event state form (drop (i + 1) book.list) book.end entries e a is proper valued w))
 
         -- one answer more
-        pub goes_on : (new : Option (List ℕ)) → Grows now new (told_before last (event_lines names e a)) → Stands (state_after state form.tree e a) (counts_with counts a) (i + 1) new
-        goes_on new g = record {
+        pub goes_on : (new : Option (List ℕ)) → Grows now new (told_before last (event_lines names e a)) → (later : List StallSeen) → later ≡ stalls ++ stalls_of a
+            → Stands (state_after state form.tree e a) (counts_with counts a) (i + 1) new later
+        goes_on new g later more = record {
           done = s.done ++ Answered e a ∷ [];
           can = after_event names state form.tree e a s.can is;
           onward = onward_next;
@@ -131,30 +135,32 @@ module _ (names : List (List ℕ)) (bounds : Bounds) (start : BookState) (book :
           many = omega (arith, s.many, length-append s.done (Answered e a ∷ []));
           answered = still_answered s.done e a s.answered;
           written = grows_is old new _ _ (grows-then old now new _ _ s.written g) (sym (so_far_more last names s.done e a));
+          kept = keeps_more s.done before stalls s.kept e a later more;
         }
 
-        -- a front of its lines
-        pub front_next : (new : Option (List ℕ)) → (n : ℕ) × Grows now new (take n (told_before last (event_lines names e a))) → WritesWalkFront names bounds start book last old new
-        front_next new g =
+        -- a front of its lines and of its stalls
+        pub front_next : (new : Option (List ℕ)) → (n : ℕ) × Grows now new (take n (told_before last (event_lines names e a))) → (later : List StallSeen) → KeepsFront (stalls_of a) stalls later
+            → WritesWalkFront names bounds start book last old new before later
+        front_next new g later h =
             let rest = some_walk names bounds book.end (state_after state form.tree e a) (drop (i + 1) book.list) (after_event names state form.tree e a s.can is) in
             let entries = (s.done ++ Answered e a ∷ []) ++ rest.0 in
             let tail = told last (flat_map (entry_lines names) rest.0 ++ done_line (counts_of entries) ∷ []) in
             let whole = told_whole last names (s.done ++ Answered e a ∷ []) rest.0 ∙ (ap (λ bs. bs ++ tail) (so_far_more last names s.done e a) ∙ append_assoc (so_far last names s.done) (told_before last (event_lines names e a)) tail) in
-            (entries, onward_next rest.0 rest.1, front_then old now new _ (so_far last names s.done) (told_before last (event_lines names e a)) tail whole s.written g)
+            (entries, onward_next rest.0 rest.1, front_then old now new _ (so_far last names s.done) (told_before last (event_lines names e a)) tail whole s.written g, keeps_front_more s.done before stalls s.kept e a later h rest.0)
 
     -- ---- the end, by these last entries
     module _ (r : Option Refusal) (ends : IsWhole (s.done ++ closing r)) where
       whole_told : told last (transcript_lines names (s.done ++ closing r)) ≡ so_far last names s.done ++ told last (closing_lines counts r)
       whole_told = told_whole last names s.done (closing r) ∙ ap (λ ls. so_far last names s.done ++ told last ls) (lines_that_close names s.done r ∙ ap (λ c. closing_lines c r) (sym s.counted))
 
-      pub closes : (new : Option (List ℕ)) (status : Status) → WritesLines last (closing_lines counts r) now new → status ≡ closing_status counts r → WritesWalk names bounds start book last old new status
+      pub closes : (new : Option (List ℕ)) (status : Status) → WritesLines last (closing_lines counts r) now new → status ≡ closing_status counts r → WritesWalk names bounds start book last old new before stalls status
       closes new status g is =
-          (s.done ++ closing r, ends, grows_is old new _ _ (grows-then old now new _ _ s.written g) (sym whole_told), is ∙ (ap (λ c. closing_status c r) s.counted ∙ status_that_closes names s.done s.answered r))
+          (s.done ++ closing r, ends, grows_is old new _ _ (grows-then old now new _ _ s.written g) (sym whole_told), keeps_closing s.done before stalls s.kept r, is ∙ (ap (λ c. closing_status c r) s.counted ∙ status_that_closes names s.done s.answered r))
 
-      pub front_closing : (new : Option (List ℕ)) → WritesLinesFront last (closing_lines counts r) now new → WritesWalkFront names bounds start book last old new
+      pub front_closing : (new : Option (List ℕ)) → WritesLinesFront last (closing_lines counts r) now new → WritesWalkFront names bounds start book last old new before stalls
       front_closing new g =
           let bytes = told last (closing_lines counts r) in
-          (s.done ++ closing r, ends, front_then old now new _ (so_far last names s.done) bytes [] (whole_told ∙ ap (λ bs. so_far last names s.done ++ bs) (sym (append-nil bytes))) s.written g)
+          (s.done ++ closing r, ends, front_then old now new _ (so_far last names s.done) bytes [] (whole_told ∙ ap (λ bs. so_far last names s.done ++ bs) (sym (append-nil bytes))) s.written g, keeps_front s.done before stalls s.kept (closing r))
 
     module _ (form : Form) (at : slice_get book.list i ≡ Some form) where
       pub ends_refused : (fault : EventFault) → event_in names state form.tree ≡ Err fault → IsWhole (s.done ++ closing (Some (refusal_at form (code.Event fault))))

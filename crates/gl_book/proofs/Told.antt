@@ -1,7 +1,7 @@
 -- What is told of lines that stand behind one another.
 use Rattle.std.proofs.Common.{◌≡◌, ◌∙◌, ap, sym, subst, refl, ℕ, ◌<◌, ◌+◌, ◌-◌, List, [], ◌∷◌, ◌++◌, length, take, drop, get_or, true, false, Bool, Option, Some, None, append_assoc, append-nil, length-append, arith}
 use Rattle.std.specs.List.{flat_map}
-use Rattle.std.proofs.lemmas.List.{take-append-drop}
+use Rattle.std.proofs.lemmas.List.{take_all, take-append-drop}
 use Rattle.std.proofs.lemmas.List.Folds.{concat-append}
 use Rattle.std.proofs.lemmas.List.Concat.{flat_map-append}
 use Rattle.std.proofs.Math.Seq.{take-append_seam, get_or-append-add}
@@ -27,6 +27,10 @@ grows_is a b xs ys g e = subst (Grows a b) e g
 
 pub front_of : (a b : Option (List ℕ)) (whole front tail : List ℕ) → whole ≡ front ++ tail → Grows a b front → (n : ℕ) × Grows a b (take n whole)
 front_of a b whole front tail is g = (length front, grows_is a b front (take (length front) whole) g (sym (ap (take (length front)) is ∙ take-append_seam front tail)))
+
+-- all of a line is a front of it
+pub whole_front : (old mid new : Option (List ℕ)) (line : List ℕ) → Grows old mid line → new ≡ mid → (n : ℕ) × Grows old new (take n line)
+whole_front old mid new line h e = (length line, subst (λ (o : Option (List ℕ)). Grows old o (take (length line) line)) (sym e) (subst (Grows old mid) (sym (take_all (length line) line (omega arith))) h))
 
 -- what was written, and then a front of what comes next
 pub front_then : (a b c : Option (List ℕ)) (whole xs ys tail : List ℕ) → whole ≡ xs ++ (ys ++ tail) → Grows a b xs → (n : ℕ) × Grows b c (take n ys) → (n : ℕ) × Grows a c (take n whole)

@@ -6,3 +6,7 @@ pub mod Walk
 pub mod Transcript
 pub mod Stops
 pub mod Generated
+pub mod Completeness
+pub mod Pieces
+pub mod Phases
+pub mod Courses

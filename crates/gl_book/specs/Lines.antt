@@ -60,7 +60,8 @@ verdict_lines names t (verdict.Clock p env) = part_lines names t (codes " clock 
 verdict_lines names t (verdict.Width p env) = part_lines names t (codes " width ") p env
 verdict_lines names t (verdict.Steps p env) = part_lines names t (codes " steps ") p env
 verdict_lines names t (verdict.Cells p env) = part_lines names t (codes " cells ") p env
-verdict_lines names t verdict.Unbuilt = named_line names (codes "UNDECIDED ") t (codes " unbuilt") ∷ []
+verdict_lines names t (verdict.Nodes s) = named_line names (codes "UNDECIDED ") t (codes " nodes") ∷ []
+verdict_lines names t (verdict.Clauses s) = named_line names (codes "UNDECIDED ") t (codes " clauses") ∷ []
 verdict_lines names t verdict.Memory = named_line names (codes "UNDECIDED ") t (codes " memory") ∷ []
 
 -- ---- definitions
@@ -215,7 +216,8 @@ is_undecided (answer.Decided (verdict.Clock p env)) = true
 is_undecided (answer.Decided (verdict.Width p env)) = true
 is_undecided (answer.Decided (verdict.Steps p env)) = true
 is_undecided (answer.Decided (verdict.Cells p env)) = true
-is_undecided (answer.Decided verdict.Unbuilt) = true
+is_undecided (answer.Decided (verdict.Nodes s)) = true
+is_undecided (answer.Decided (verdict.Clauses s)) = true
 is_undecided (answer.Decided verdict.Memory) = true
 is_undecided _ = false
 

@@ -1,6 +1,6 @@
 -- What is written of a walk, and what a run that stops has done to the sink.
 use Rattle.gl_decide.specs.Bounds.{Bounds}
-use Rattle.std.specs.Prelude.{◌≡◌, ℕ, ◌+◌, ◌-◌, ◌^◌, ◌<◌, Bool, cond, List, [], ◌∷◌, take, Option, Some, None, Result, Ok, Err, MatchResult}
+use Rattle.std.specs.Prelude.{◌≡◌, ℕ, ◌+◌, ◌-◌, ◌^◌, ◌<◌, Bool, cond, List, [], ◌∷◌, ◌++◌, take, Option, Some, None, Result, Ok, Err, MatchResult}
 use Rattle.std.specs.List.{concat}
 use Rattle.gl_base.specs.Outside.{Grows, Rose}
 use Rattle.gl_base.specs.declared.status.Status.{Status}
@@ -8,8 +8,9 @@ use Rattle.gl_base.specs.declared.status.Status.TheVariants as status
 use Rattle.sexp_reader.specs.declared.ends.Forms.{Forms}
 use Rattle.sexp_reader.specs.declared.ends.End.{End}
 use Rattle.sexp_reader.specs.declared.ends.End.TheVariants.{Clean, Bad}
+use Rattle.gl_decide.specs.Stalls.{StallSeen}
 use Rattle.event_world.specs.NextState.{BookState}
-use Rattle.gl_book.specs.Entry.{Entry}
+use Rattle.gl_book.specs.Entry.{Entry, stalls_in}
 use Rattle.gl_book.specs.Lines.{refused_line, is_proved, is_vacuous, is_refuted, is_undecided, is_failed, done_line, status_by, transcript_lines, status_of}
 use Rattle.gl_book.specs.Walk.{Walk, text_refusal}
 use Rattle.gl_book.specs.Transcript.{told, WritesTranscript, WritesFront}
@@ -59,12 +60,26 @@ WritesLines last_only lines old new = Grows old new (told last_only lines)
 abbrev pub WritesLinesFront : Bool → List (List ℕ) → Option (List ℕ) → Option (List ℕ) → Type 0
 WritesLinesFront last_only lines old new = (n : ℕ) × Grows old new (take n (told last_only lines))
 
-abbrev pub WritesWalk : List (List ℕ) → Bounds → BookState → Forms → Bool → Option (List ℕ) → Option (List ℕ) → Status → Type 0
-WritesWalk names bounds first book last_only old new s =
-    (entries : List Entry) × Walk names bounds first book.list book.end entries × WritesLines last_only (transcript_lines names entries) old new × (s ≡ status_of entries)
+-- stalls were added to those before, or the front of them
+abbrev pub Keeps : List StallSeen → List StallSeen → List StallSeen → Type 0
+Keeps stalls before after = after ≡ before ++ stalls
 
-abbrev pub WritesWalkFront : List (List ℕ) → Bounds → BookState → Forms → Bool → Option (List ℕ) → Option (List ℕ) → Type 0
-WritesWalkFront names bounds first book last_only old new = (entries : List Entry) × Walk names bounds first book.list book.end entries × WritesLinesFront last_only (transcript_lines names entries) old new
+abbrev pub KeepsFront : List StallSeen → List StallSeen → List StallSeen → Type 0
+KeepsFront stalls before after = (m : ℕ) × (after ≡ before ++ take m stalls)
+
+abbrev pub KeepsStalls : List Entry → List StallSeen → List StallSeen → Type 0
+KeepsStalls entries before after = Keeps (stalls_in entries) before after
+
+abbrev pub KeepsStallsFront : List Entry → List StallSeen → List StallSeen → Type 0
+KeepsStallsFront entries before after = KeepsFront (stalls_in entries) before after
+
+abbrev pub WritesWalk : List (List ℕ) → Bounds → BookState → Forms → Bool → Option (List ℕ) → Option (List ℕ) → List StallSeen → List StallSeen → Status → Type 0
+WritesWalk names bounds first book last_only old new before after s =
+    (entries : List Entry) × Walk names bounds first book.list book.end entries × WritesLines last_only (transcript_lines names entries) old new × KeepsStalls entries before after × (s ≡ status_of entries)
+
+abbrev pub WritesWalkFront : List (List ℕ) → Bounds → BookState → Forms → Bool → Option (List ℕ) → Option (List ℕ) → List StallSeen → List StallSeen → Type 0
+WritesWalkFront names bounds first book last_only old new before after =
+    (entries : List Entry) × Walk names bounds first book.list book.end entries × WritesLinesFront last_only (transcript_lines names entries) old new × KeepsStallsFront entries before after
 
 -- lines before the last one: all of them, or none where the last one alone is told
 abbrev pub told_before : Bool → List (List ℕ) → List ℕ
@@ -85,6 +100,6 @@ IsReported status.Usage = ⊥
 IsReported s = Unit {0}
 
 -- what a run over these bytes has written, by how it ends: a status that a transcript gives, or a stop
-abbrev pub EndsBy : Bounds → List ℕ → Bool → Option (List ℕ) → Option (List ℕ) → Result Status Stop → Type 0
-EndsBy bounds bytes last_only old new (Ok s) = WritesTranscript bounds bytes last_only old new s
-EndsBy bounds bytes last_only old new (Err stop) = WritesFront bounds bytes last_only old new
+abbrev pub EndsBy : Bounds → List ℕ → Bool → Option (List ℕ) → Option (List ℕ) → List StallSeen → List StallSeen → Result Status Stop → Type 0
+EndsBy bounds bytes last_only old new before after (Ok s) = WritesTranscript bounds bytes last_only old new before after s
+EndsBy bounds bytes last_only old new before after (Err stop) = WritesFront bounds bytes last_only old new before after

@@ -11,7 +11,7 @@ ghost use Rattle.gl_book.specs.Answers.{IsProperValue, IsProperTruth, IsFunction
 use super::evaluated::{truth_of, value_of};
 use event_world::Event;
 use gl_base::limits::Limits;
-use gl_decide::{Verdict, decide_theorem};
+use gl_decide::{Room, Verdict, decide_theorem};
 use gl_logic::{FnId, Term, TextId, Tree, World};
 use shape_spec::{FnSet, Thm};
 use std::alloc::Global;
@@ -119,6 +119,7 @@ fn name_answer(world: &World, function: FnId) -> Answer
     Answer::Function(world.def(function).name)
 }
 
+/// The verdict on a theorem, in a room of its own.
 fn theorem_answer<R: Threads + Sync>(
     rt: &R,
     alloc: Global,
@@ -129,5 +130,6 @@ fn theorem_answer<R: Threads + Sync>(
     requires { IsReadyTheorem world.now.definitions (theorem_seen thm.now) }
     ensures { IsDecided (bounds_of limits.now) world.now (theorem_seen thm.now) result }
 {
-    Answer::Decided(decide_theorem(rt, alloc, world, thm, limits))
+    let mut room = Room::Empty;
+    Answer::Decided(decide_theorem(rt, alloc, world, thm, limits, &mut room))
 }

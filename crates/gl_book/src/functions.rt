@@ -55,3 +55,14 @@ pub fn remove(alloc: Global, functions: &mut FnSet, f: FnId) -> Result<(), NoMem
     *functions = without(alloc, functions, f)?;
     Ok(())
 }
+
+/// The same functions again.
+pub fn copy_of(alloc: Global, functions: &FnSet) -> Result<FnSet, NoMemory>
+    ensures { IfOk result (λ fs. fs ≡ functions.now) }
+{
+    let mut copy = FnSet::new(alloc);
+    for i in 0..functions.len() {
+        copy.push(*functions.at(i))?;
+    }
+    Ok(copy)
+}

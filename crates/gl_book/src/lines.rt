@@ -231,7 +231,8 @@ fn add_verdict(
         Verdict::Cells(part, input) => add_part(
             alloc, name, b" cells ", *part, input, texts, lines,
         ),
-        Verdict::Unbuilt => add_named(alloc, b"UNDECIDED ", name, b" unbuilt", texts, lines),
+        Verdict::Nodes(_) => add_named(alloc, b"UNDECIDED ", name, b" nodes", texts, lines),
+        Verdict::Clauses(_) => add_named(alloc, b"UNDECIDED ", name, b" clauses", texts, lines),
         Verdict::Memory => add_named(alloc, b"UNDECIDED ", name, b" memory", texts, lines),
     }
 }

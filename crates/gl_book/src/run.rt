@@ -5,6 +5,7 @@ ghost use Rattle.gl_base.specs.Outside.{Rose};
 ghost use Rattle.gl_base.specs.declared.status.Status.{Status as StatusSeen};
 ghost use Rattle.sexp_reader.specs.Book.{IsBeyond};
 ghost use Rattle.gl_decide.specs.Bounds.{Bounds, bounds_of};
+ghost use Rattle.gl_decide.specs.Stalls.{StallSeen};
 ghost use Rattle.gl_book.specs.Transcript.{IsTranscript, EndsWith, WritesBook, most_bytes};
 ghost use Rattle.gl_book.specs.Stops.{EndsBy, status_from, IsCounted, IsReported};
 
@@ -17,25 +18,54 @@ use gl_base::limits::Limits;
 use gl_base::shelf::Shelf;
 use gl_base::sink::Sink;
 use gl_base::status::Status;
+use gl_decide::{Gate, OpenGate, Stalls};
 use gl_logic::Texts;
 use sexp_reader::{ReadEnd, forms, read_book, too_long};
 use std::alloc::Global;
 use std::thread::Threads;
 
-/// Writes the transcript of a text, or its last line alone, and answers the status that it gives. The lines of an
-/// event are written before the next form is looked at.
+/// Writes the transcript of a text, or its last line alone, and answers the status that it gives.
+///
+/// With one worker the lines of an event are written before the next form is looked at. With more, the values, asserts and
+/// theorems between two events that change definitions or constants are answered together, each in the world and for the
+/// functions of its own place, and their lines are written in the order of the book.
+///
+/// Each theorem that is left undecided for want of nodes or clauses adds its stall to `stalls`.
 ///
 /// WriteFault where a write or the flush failed; a front of the transcript was then taken. NoMemory where
-/// memory was refused outside a value or a theorem; what was written is then a front of a transcript.
+/// memory was refused outside a value or a theorem; what was written is then a front of a transcript. In both cases a
+/// front of its stalls was added.
 pub fn run_text<R: Threads + Sync, K: Sink>(
     rt: &R,
     alloc: Global,
     text: &[u8],
     limits: &Limits,
     last_only: bool,
+    stalls: &mut Stalls,
     out: &mut K,
 ) -> Status
-    ensures written { EndsWith (bounds_of limits.now) text.now last_only (K.written out.old) (K.written out.new) result }
+    ensures written { EndsWith (bounds_of limits.now) text.now last_only (K.written out.old) (K.written out.new) stalls.old stalls.new result }
+    ensures write_fault { result ≡ Status.WriteFault → Rose (K.faults out.old) (K.faults out.new) }
+    ensures no_write_fault { result ≢ Status.WriteFault → K.faults out.new ≡ K.faults out.old }
+    ensures no_read_fault { result ≢ Status.ReadFault }
+    ensures no_usage { result ≢ Status.Usage }
+{
+    run_text_gated(rt, alloc, text, limits, last_only, &OpenGate, stalls, out)
+}
+
+/// Does what [`run_text`] does. Where two jobs or more are answered together by two workers or more, a worker calls
+/// `gate.enter` once when it begins a job, with the job's number among them, from 0.
+pub fn run_text_gated<R: Threads + Sync, K: Sink, G: Gate>(
+    rt: &R,
+    alloc: Global,
+    text: &[u8],
+    limits: &Limits,
+    last_only: bool,
+    gate: &G,
+    stalls: &mut Stalls,
+    out: &mut K,
+) -> Status
+    ensures written { EndsWith (bounds_of limits.now) text.now last_only (K.written out.old) (K.written out.new) stalls.old stalls.new result }
     ensures write_fault { result ≡ Status.WriteFault → Rose (K.faults out.old) (K.faults out.new) }
     ensures no_write_fault { result ≢ Status.WriteFault → K.faults out.new ≡ K.faults out.old }
     ensures no_read_fault { result ≢ Status.ReadFault }
@@ -44,31 +74,33 @@ pub fn run_text<R: Threads + Sync, K: Sink>(
     if let Some((line, column)) = too_long(text) {
         return refuse_long(alloc, line, column, last_only, out);
     }
-    status_of_run(write_text(rt, alloc, text, limits, last_only, out))
+    status_of_run(write_text(rt, alloc, text, limits, last_only, gate, stalls, out))
 }
 
 /// Reads the book of a name, and writes its transcript.
 ///
-/// ReadFault where a call of the shelf failed; that was then the last one, and nothing was written. A book of more
-/// than 4,194,304 bytes is refused at the first of the others, and none of its events is processed.
+/// ReadFault where a call of the shelf failed; that was then the last one, nothing was written, and no stall was added.
+/// A book of more than 4,194,304 bytes is refused at the first of the others, and none of its events is processed.
 pub fn run_book<R: Threads + Sync, S: Shelf, K: Sink>(
     rt: &R,
     alloc: Global,
     name: &str,
     limits: &Limits,
     shelf: &mut S,
+    stalls: &mut Stalls,
     out: &mut K,
 ) -> Status
-    ensures written { result ≢ Status.ReadFault → WritesBook (bounds_of limits.now) (S.holds shelf.old name.now) (K.written out.old) (K.written out.new) result }
+    ensures written { result ≢ Status.ReadFault → WritesBook (bounds_of limits.now) (S.holds shelf.old name.now) (K.written out.old) (K.written out.new) stalls.old stalls.new result }
     ensures read_fault { result ≡ Status.ReadFault → Rose (S.faults shelf.old) (S.faults shelf.new) }
     ensures no_read_fault { result ≢ Status.ReadFault → S.faults shelf.new ≡ S.faults shelf.old }
     ensures unwritten { result ≡ Status.ReadFault → K.written out.new ≡ K.written out.old }
+    ensures unstalled { result ≡ Status.ReadFault → stalls.new ≡ stalls.old }
     ensures write_fault { result ≡ Status.WriteFault → Rose (K.faults out.old) (K.faults out.new) }
     ensures no_write_fault { result ≢ Status.WriteFault → K.faults out.new ≡ K.faults out.old }
     ensures no_usage { result ≢ Status.Usage }
 {
     match read_book(alloc, shelf, name) {
-        Ok(text) => run_text(rt, alloc, &text, limits, false, out),
+        Ok(text) => run_text(rt, alloc, &text, limits, false, stalls, out),
         Err(ReadEnd::Failed) => Status::ReadFault,
         Err(ReadEnd::TooLong(line, column)) => refuse_long(alloc, line, column, false, out),
         Err(ReadEnd::Memory) => Status::NoMemory,
@@ -92,16 +124,18 @@ fn status_of_run(run: Result<Status, Stop>) -> Status
 }
 
 /// Makes the first state, reads a text's forms, and walks over them.
-fn write_text<R: Threads + Sync, K: Sink>(
+fn write_text<R: Threads + Sync, K: Sink, G: Gate>(
     rt: &R,
     alloc: Global,
     text: &[u8],
     limits: &Limits,
     last_only: bool,
+    gate: &G,
+    stalls: &mut Stalls,
     out: &mut K,
 ) -> Result<Status, Stop>
     requires { length text.now ≤ most_bytes }
-    ensures written { EndsBy (bounds_of limits.now) text.now last_only (K.written out.old) (K.written out.new) result }
+    ensures written { EndsBy (bounds_of limits.now) text.now last_only (K.written out.old) (K.written out.new) stalls.old stalls.new result }
     ensures reported { IfOk result IsReported }
     ensures cause { IsCounted (K.faults out.old) (K.faults out.new) result }
 {
@@ -115,7 +149,7 @@ fn write_text<R: Threads + Sync, K: Sink>(
         return Err(Stop::Memory);
     };
     walk(
-        rt, alloc, &book, limits, &mut state, &mut texts, last_only, out,
+        rt, alloc, &book, limits, &mut state, &mut texts, last_only, gate, stalls, out,
     )
 }
 
@@ -127,7 +161,7 @@ fn refuse_long<K: Sink>(
     last_only: bool,
     out: &mut K,
 ) -> Status
-    ensures written { (bounds : Bounds) (text : List ℕ) → IsBeyond most_bytes text line column → EndsWith bounds text last_only (K.written out.old) (K.written out.new) result }
+    ensures written { (bounds : Bounds) (text : List ℕ) (stalls : List StallSeen) → IsBeyond most_bytes text line column → EndsWith bounds text last_only (K.written out.old) (K.written out.new) stalls stalls result }
     ensures write_fault { result ≡ Status.WriteFault → Rose (K.faults out.old) (K.faults out.new) }
     ensures no_write_fault { result ≢ Status.WriteFault → K.faults out.new ≡ K.faults out.old }
     ensures no_read_fault { result ≢ Status.ReadFault }
@@ -143,5 +177,5 @@ fn refuse_long<K: Sink>(
 
 /// A law: each text has a transcript.
 pub fn every_text_has_a_transcript()
-    ensures { (bounds : Bounds) (text : List ℕ) → (lines : List (List ℕ)) × (s : StatusSeen) × IsTranscript bounds text lines s }
+    ensures { (bounds : Bounds) (text : List ℕ) → (lines : List (List ℕ)) × (stalls : List StallSeen) × (s : StatusSeen) × IsTranscript bounds text lines stalls s }
 {}

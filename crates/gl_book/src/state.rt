@@ -1,6 +1,6 @@
 //! What stands behind the events of a book's front, and what the next form means there.
 
-ghost use Rattle.std.specs.Prelude.{◌≡◌, ◌≤◌, [], length, IfOk, OnOk};
+ghost use Rattle.std.specs.Prelude.{◌≡◌, ◌≤◌, true, [], length, IfOk, OnOk};
 ghost use Rattle.gl_logic.specs.DefinitionOf.{definition_of};
 ghost use Rattle.gl_logic.specs.Names.{Extends, with_name};
 ghost use Rattle.gl_logic.specs.WorldSeen.{with_clique, with_constant, with_definition, with_event};
@@ -8,12 +8,12 @@ ghost use Rattle.lisp_eval.specs.Machines.{AreFunctionsOf};
 ghost use Rattle.event_world.specs.Outcomes.{Gives};
 ghost use Rattle.event_world.specs.Seen.{event_seen};
 ghost use Rattle.event_world.specs.EventWords.{behind_head};
-ghost use Rattle.event_world.specs.NextState.{next_world, with_members};
+ghost use Rattle.event_world.specs.NextState.{next_state, next_world, with_members};
 ghost use Rattle.event_world.specs.Suits.{Suits, HasAllGround, IsNewClique, IsNewDefinition, IsNewName};
 ghost use Rattle.gl_book.specs.Answers.{IsAnswerable};
-ghost use Rattle.gl_book.specs.Walk.{IsFirstState, CanGoOn, event_in, state_after, value_in};
+ghost use Rattle.gl_book.specs.Phases.{is_job, state_noted};
+ghost use Rattle.gl_book.specs.Walk.{IsFirstState, CanGoOn, event_in};
 
-use super::answer::Answer;
 use super::functions::{add, remove};
 use super::members::note_members;
 use event_world::{Event, EventFault, event_of, prelude};
@@ -93,17 +93,17 @@ impl State {
         &self.memoized
     }
 
-    /// Takes an event of a form and its answer in: a named one is noted with its form, and a constant gets the value of
-    /// the answer. The state is lost where memory runs out.
+    /// Takes an event of a form in: a named one is noted with its form, and a constant gets the value. The state is lost
+    /// where memory runs out.
     pub fn take(
         &mut self,
         alloc: Global,
         form: &Tree,
         event: Event,
-        answer: Answer,
+        value: Tree,
     ) -> Result<(), NoMemory>
         requires suits { Suits self.old.world (event_seen event) }
-        ensures { OnOk result (self.new ≡ state_after self.old form.now (event_seen event) answer) }
+        ensures { OnOk result (self.new ≡ next_state self.old form.now (event_seen event) value) }
     {
         match event {
             Event::Memoize(f) => add(&mut self.memoized, f),
@@ -112,7 +112,20 @@ impl State {
                 self.mode = mode;
                 Ok(())
             }
-            event => take_named(alloc, &mut self.world, form, event, answer),
+            event => take_named(alloc, &mut self.world, form, event, value),
+        }
+    }
+
+    /// Takes a job of a form in, whose answer may come later: a theorem is noted with its form. The state is lost where
+    /// memory runs out.
+    pub fn note(&mut self, alloc: Global, form: &Tree, event: &Event) -> Result<(), NoMemory>
+        requires job { is_job (event_seen event.now) ≡ true }
+        requires suits { Suits self.old.world (event_seen event.now) }
+        ensures ok { OnOk result (self.new ≡ state_noted self.old form.now (event_seen event.now)) }
+    {
+        match event {
+            Event::Theorem(thm) => self.world.note(thm.name, form.copy(alloc)?),
+            _ => Ok(()),
         }
     }
 }
@@ -123,29 +136,19 @@ fn take_named(
     world: &mut World,
     form: &Tree,
     event: Event,
-    answer: Answer,
+    value: Tree,
 ) -> Result<(), NoMemory>
     requires suits { Suits world.old (event_seen event) }
     requires ground { HasAllGround world.old }
-    ensures ok { OnOk result (world.new ≡ next_world world.old form.now (event_seen event) (value_in answer)) }
+    ensures ok { OnOk result (world.new ≡ next_world world.old form.now (event_seen event) value) }
     ensures more { length world.old.definitions ≤ length world.new.definitions }
 {
     match event {
         Event::Defun(def) => take_definition(alloc, world, form, def),
         Event::Clique(defs) => take_clique(alloc, world, form, defs),
-        Event::Defconst(name, _) => take_constant(alloc, world, form, name, value_of(answer)),
+        Event::Defconst(name, _) => take_constant(alloc, world, form, name, value),
         Event::Theorem(thm) => world.note(thm.name, form.copy(alloc)?),
         _ => Ok(()),
-    }
-}
-
-/// The value that an answer gives, and NIL where it gives none.
-fn value_of(answer: Answer) -> Tree
-    ensures { result ≡ value_in answer }
-{
-    match answer {
-        Answer::Value(value) => value,
-        _ => Tree::nil(),
     }
 }
 

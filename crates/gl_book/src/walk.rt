@@ -1,39 +1,49 @@
-//! The walk over a book's forms: each is answered, and its lines are written, before the next is looked at.
+//! The walk over a book's forms.
 
-ghost use Rattle.std.specs.Prelude.{◌≡◌, ◌≤◌, ℕ, List, cond, [], take, IfOk, OnOk, OnErr, IfErr};
-ghost use Rattle.std.specs.List.{concat};
+ghost use Rattle.std.specs.Prelude.{◌≡◌, ◌+◌, ℕ, List, All, true, [], ◌∷◌, ◌++◌, length, Ok, IfOk, OnOk, OnErr};
 ghost use Rattle.gl_logic.specs.Names.{with_name};
-ghost use Rattle.gl_base.specs.Outside.{Grows};
 ghost use Rattle.sexp_reader.specs.declared.list.Form.{Form as FormSeen};
 ghost use Rattle.sexp_reader.specs.declared.ends.End.{End as EndSeen};
-ghost use Rattle.gl_decide.specs.Bounds.{Bounds, bounds_of};
-ghost use Rattle.gl_book.specs.Entry.{Entry};
-ghost use Rattle.gl_book.specs.Lines.{event_lines};
-ghost use Rattle.event_world.specs.Seen.{event_seen};
 ghost use Rattle.event_world.specs.NextState.{BookState};
-ghost use Rattle.gl_book.specs.Walk.{CanGoOn, Walk, refused_cause as cause_of, refusal_at as refusal_there};
-ghost use Rattle.gl_book.specs.Stops.{IsCounted, end_refusal, closing_lines, closing_status, told_before, WritesLines, WritesLinesFront, WritesWalk, WritesWalkFront};
+ghost use Rattle.event_world.specs.Seen.{event_seen};
+ghost use Rattle.event_world.specs.Suits.{Suits};
+ghost use Rattle.gl_decide.specs.Bounds.{Bounds, bounds_of};
+ghost use Rattle.gl_book.specs.Answers.{IsAnswerable};
+ghost use Rattle.gl_book.specs.Courses.{Follows, HasRoomFor, LeadsPast, LeadsPastToFront, place_at};
+ghost use Rattle.gl_book.specs.Entry.{Entry};
+ghost use Rattle.gl_book.specs.Phases.{CanBeAnswered, ends_phase as ends_phase_seen, is_job as is_job_seen, jobs_of, new_job, state_noted};
+ghost use Rattle.gl_book.specs.Walk.{CanGoOn, Walk, event_in, refused_cause as cause_of, refusal_at as refusal_there};
+ghost use Rattle.gl_book.specs.Stops.{IsCounted, end_refusal, closing_lines, closing_status, WritesLines, WritesLinesFront, WritesWalk, WritesWalkFront};
 
 use super::answer::{Answer, Cause, answer_of};
 use super::counts::Counts;
+use super::ending::end_phase;
 use super::line_list::Lines;
-use super::lines::add_event_lines;
-use super::put_lines::{put_lines, put_told};
+use super::progress::Progress;
+use super::put_event::put_event;
+use super::put_lines::put_told;
 use super::refusal::{Refusal, RefusalCode, line_of_refusal};
 use super::state::State;
 use super::stop::Stop;
+use super::waiting::Waiting;
 use event_world::{Event, EventFault};
 use gl_base::limits::Limits;
 use gl_base::sink::Sink;
 use gl_base::status::Status;
-use gl_logic::{NoMemory, Texts};
+use gl_decide::{Gate, Stalls};
+use gl_logic::{NoMemory, Texts, Tree};
 use sexp_reader::{End, Form, Forms};
 use std::alloc::Global;
 use std::thread::Threads;
 
 /// Walks over a book's forms from a state on, up to its end or its refusal, and writes what comes of them, or the last
-/// line alone. Answers the status of the whole.
-pub fn walk<R: Threads + Sync, K: Sink>(
+/// line alone. Each stall is put last among the others right before the lines of its theorem are written. Answers the
+/// status of the whole.
+///
+/// With one worker the lines of each event are written before the next form is looked at. With more, values, asserts and
+/// theorems wait for the end of their phase, which is an event that changes definitions or constants, a refusal, or the
+/// end of the book.
+pub fn walk<R: Threads + Sync, K: Sink, G: Gate>(
     rt: &R,
     alloc: Global,
     book: &Forms,
@@ -41,45 +51,240 @@ pub fn walk<R: Threads + Sync, K: Sink>(
     state: &mut State,
     texts: &mut Texts,
     last_only: bool,
+    gate: &G,
+    stalls: &mut Stalls,
     out: &mut K,
 ) -> Result<Status, Stop>
     requires empty { with_name texts.old [] ≡ texts.old }
     requires can_go_on { CanGoOn state.old }
-    ensures ok { IfOk result (WritesWalk texts.old (bounds_of limits.now) state.old book.now last_only (K.written out.old) (K.written out.new)) }
-    ensures front { OnErr result (WritesWalkFront texts.old (bounds_of limits.now) state.old book.now last_only (K.written out.old) (K.written out.new)) }
+    ensures ok { IfOk result (WritesWalk texts.old (bounds_of limits.now) state.old book.now last_only (K.written out.old) (K.written out.new) stalls.old stalls.new) }
+    ensures front { OnErr result (WritesWalkFront texts.old (bounds_of limits.now) state.old book.now last_only (K.written out.old) (K.written out.new) stalls.old stalls.new) }
     ensures cause { IsCounted (K.faults out.old) (K.faults out.new) result }
 {
-    let mut counts = Counts::none();
+    let mut progress = Progress {
+        counts: Counts::none(),
+        waiting: Waiting::new(alloc),
+    };
     for i in 0..book.list.len() {
         let form = book.list.at(i);
-        let event = match state.event(alloc, &form.tree, texts) {
-            Ok(event) => event,
-            Err(fault) => match fault {
-                EventFault::Memory => return Err(Stop::Memory),
-                _ => {
-                    let refusal = refusal_at(form, RefusalCode::Event(fault));
-                    return close(alloc, Some(refusal), counts, last_only, out);
-                }
-            },
-        };
-        let answer = answer_of(rt, alloc, state.world(), state.memoized(), &event, limits);
-        match refused_cause(&event, &answer) {
-            None => {}
-            Some(cause) => match cause {
-                Cause::Memory => return Err(Stop::Memory),
-                _ => {
-                    let refusal = refusal_at(form, RefusalCode::Constant(cause));
-                    return close(alloc, Some(refusal), counts, last_only, out);
-                }
-            },
+        let refusal = take_form(
+            rt,
+            alloc,
+            form,
+            limits,
+            state,
+            &mut progress,
+            texts,
+            last_only,
+            gate,
+            stalls,
+            out,
+        )?;
+        if let Some(refusal) = refusal {
+            return close(alloc, Some(refusal), progress.counts, last_only, out);
         }
-        put_event(alloc, &event, &answer, texts, last_only, out)?;
-        counts = counts.with(&answer);
-        let Ok(()) = state.take(alloc, &form.tree, event, answer) else {
-            return Err(Stop::Memory);
+    }
+    let world = state.world();
+    end_phase(
+        rt,
+        alloc,
+        world,
+        limits,
+        &mut progress,
+        texts,
+        last_only,
+        gate,
+        stalls,
+        out,
+    )?;
+    close(alloc, refusal_of(book.end), progress.counts, last_only, out)
+}
+
+/// Takes the next form in. Its refusal, where it is refused; no job waits then.
+fn take_form<R: Threads + Sync, K: Sink, G: Gate>(
+    rt: &R,
+    alloc: Global,
+    form: &Form,
+    limits: &Limits,
+    state: &mut State,
+    progress: &mut Progress,
+    texts: &mut Texts,
+    last_only: bool,
+    gate: &G,
+    stalls: &mut Stalls,
+    out: &mut K,
+) -> Result<Option<Refusal>, Stop>
+    requires empty { with_name texts.old [] ≡ texts.old }
+    requires ready { All (CanBeAnswered state.old.world.definitions) (jobs_of progress.old.waiting) }
+    requires room { HasRoomFor (length (jobs_of progress.old.waiting) + 1) progress.old.counts }
+    ensures ok { IfOk result (λ r. LeadsPast texts.old (bounds_of limits.now) last_only form.now (place_at state.old progress.old (K.written out.old) stalls.old) r (place_at state.new progress.new (K.written out.new) stalls.new)) }
+    ensures front { OnErr result (LeadsPastToFront texts.old (bounds_of limits.now) last_only form.now (place_at state.old progress.old (K.written out.old) stalls.old) (K.written out.new) stalls.new) }
+    ensures texts { texts.new ≡ texts.old }
+    ensures cause { IsCounted (K.faults out.old) (K.faults out.new) result }
+{
+    match state.event(alloc, &form.tree, texts) {
+        Ok(event) => take_event(
+            rt, alloc, form, event, limits, state, progress, texts, last_only, gate, stalls, out,
+        ),
+        Err(fault) => match fault {
+            EventFault::Memory => Err(Stop::Memory),
+            _ => {
+                let world = state.world();
+                end_phase(
+                    rt, alloc, world, limits, progress, texts, last_only, gate, stalls, out,
+                )?;
+                Ok(Some(refusal_at(form, RefusalCode::Event(fault))))
+            }
+        },
+    }
+}
+
+/// Takes the event of the next form in. The form's refusal, where it is a constant without a value; no job waits then.
+fn take_event<R: Threads + Sync, K: Sink, G: Gate>(
+    rt: &R,
+    alloc: Global,
+    form: &Form,
+    event: Event,
+    limits: &Limits,
+    state: &mut State,
+    progress: &mut Progress,
+    texts: &Texts,
+    last_only: bool,
+    gate: &G,
+    stalls: &mut Stalls,
+    out: &mut K,
+) -> Result<Option<Refusal>, Stop>
+    requires meant { event_in texts.now state.old form.now.tree ≡ Ok (event_seen event) }
+    requires suits { Suits state.old.world (event_seen event) }
+    requires answerable { IsAnswerable state.old.world.definitions state.old.memoized (event_seen event) }
+    requires ready { All (CanBeAnswered state.old.world.definitions) (jobs_of progress.old.waiting) }
+    requires room { HasRoomFor (length (jobs_of progress.old.waiting) + 1) progress.old.counts }
+    ensures ok { IfOk result (λ r. LeadsPast texts.now (bounds_of limits.now) last_only form.now (place_at state.old progress.old (K.written out.old) stalls.old) r (place_at state.new progress.new (K.written out.new) stalls.new)) }
+    ensures front { OnErr result (LeadsPastToFront texts.now (bounds_of limits.now) last_only form.now (place_at state.old progress.old (K.written out.old) stalls.old) (K.written out.new) stalls.new) }
+    ensures cause { IsCounted (K.faults out.old) (K.faults out.new) result }
+{
+    if ends_phase(&event) || is_job(&event) && limits.workers == 1 {
+        let world = state.world();
+        end_phase(
+            rt, alloc, world, limits, progress, texts, last_only, gate, stalls, out,
+        )?;
+        return answer_now(
+            rt, alloc, form, event, limits, state, progress, texts, last_only, stalls, out,
+        );
+    }
+    if is_job(&event) {
+        return match wait(alloc, form, event, state, progress) {
+            Ok(()) => Ok(None),
+            Err(_) => Err(Stop::Memory),
         };
     }
-    close(alloc, refusal_of(book.end), counts, last_only, out)
+    if progress.waiting.len() == 0 {
+        return answer_now(
+            rt, alloc, form, event, limits, state, progress, texts, last_only, stalls, out,
+        );
+    }
+    match follow(rt, alloc, form, event, limits, state, progress, texts) {
+        Ok(()) => Ok(None),
+        Err(_) => Err(Stop::Memory),
+    }
+}
+
+/// Lets a job wait for the end of its phase.
+fn wait(
+    alloc: Global,
+    form: &Form,
+    event: Event,
+    state: &mut State,
+    progress: &mut Progress,
+) -> Result<(), NoMemory>
+    requires job { is_job_seen (event_seen event) ≡ true }
+    requires suits { Suits state.old.world (event_seen event) }
+    ensures state { OnOk result (state.new ≡ state_noted state.old form.now.tree (event_seen event)) }
+    ensures waiting { OnOk result (jobs_of progress.new.waiting ≡ jobs_of progress.old.waiting ++ new_job (event_seen event) state.old.memoized ∷ []) }
+    ensures counts { progress.new.counts ≡ progress.old.counts }
+{
+    state.note(alloc, &form.tree, &event)?;
+    progress.waiting.push(alloc, event, state.memoized())
+}
+
+/// Answers an event that is no job and ends no phase, while jobs wait: its lines come behind those of the last job.
+fn follow<R: Threads + Sync>(
+    rt: &R,
+    alloc: Global,
+    form: &Form,
+    event: Event,
+    limits: &Limits,
+    state: &mut State,
+    progress: &mut Progress,
+    texts: &Texts,
+) -> Result<(), NoMemory>
+    requires suits { Suits state.old.world (event_seen event) }
+    requires answerable { IsAnswerable state.old.world.definitions state.old.memoized (event_seen event) }
+    ensures ok { OnOk result (Follows texts.now (bounds_of limits.now) form.now.tree (event_seen event) state.old (jobs_of progress.old.waiting) state.new (jobs_of progress.new.waiting)) }
+    ensures counts { progress.new.counts ≡ progress.old.counts }
+{
+    let answer = answer_of(rt, alloc, state.world(), state.memoized(), &event, limits);
+    progress.waiting.follow(alloc, &event, &answer, texts)?;
+    state.take(alloc, &form.tree, event, Tree::nil())
+}
+
+/// Answers an event while no job waits, writes its lines, and takes it in.
+fn answer_now<R: Threads + Sync, K: Sink>(
+    rt: &R,
+    alloc: Global,
+    form: &Form,
+    event: Event,
+    limits: &Limits,
+    state: &mut State,
+    progress: &mut Progress,
+    texts: &Texts,
+    last_only: bool,
+    stalls: &mut Stalls,
+    out: &mut K,
+) -> Result<Option<Refusal>, Stop>
+    requires meant { event_in texts.now state.old form.now.tree ≡ Ok (event_seen event) }
+    requires suits { Suits state.old.world (event_seen event) }
+    requires answerable { IsAnswerable state.old.world.definitions state.old.memoized (event_seen event) }
+    requires none { jobs_of progress.old.waiting ≡ [] }
+    requires room { HasRoomFor 1 progress.old.counts }
+    ensures ok { IfOk result (λ r. LeadsPast texts.now (bounds_of limits.now) last_only form.now (place_at state.old progress.old (K.written out.old) stalls.old) r (place_at state.new progress.new (K.written out.new) stalls.new)) }
+    ensures front { OnErr result (LeadsPastToFront texts.now (bounds_of limits.now) last_only form.now (place_at state.old progress.old (K.written out.old) stalls.old) (K.written out.new) stalls.new) }
+    ensures cause { IsCounted (K.faults out.old) (K.faults out.new) result }
+{
+    let answer = answer_of(rt, alloc, state.world(), state.memoized(), &event, limits);
+    match refused_cause(&event, &answer) {
+        None => {}
+        Some(cause) => match cause {
+            Cause::Memory => return Err(Stop::Memory),
+            _ => return Ok(Some(refusal_at(form, RefusalCode::Constant(cause)))),
+        },
+    }
+    progress.counts = progress.counts.with(&answer);
+    let value = put_event(alloc, &event, answer, texts, last_only, stalls, out)?;
+    let Ok(()) = state.take(alloc, &form.tree, event, value) else {
+        return Err(Stop::Memory);
+    };
+    Ok(None)
+}
+
+/// Whether an event is a job: its answer may come later.
+fn is_job(event: &Event) -> bool
+    ensures { result ≡ is_job_seen (event_seen event.now) }
+{
+    matches!(
+        event,
+        Event::Value(_) | Event::Assert(_) | Event::Theorem(_)
+    )
+}
+
+/// Whether an event ends the phase before it, since later answers rest on it.
+fn ends_phase(event: &Event) -> bool
+    ensures { result ≡ ends_phase_seen (event_seen event.now) }
+{
+    matches!(
+        event,
+        Event::Defun(_) | Event::Clique(_) | Event::Defconst(_, _)
+    )
 }
 
 /// A refusal at a form's place.
@@ -115,32 +320,6 @@ fn refused_cause(event: &Event, answer: &Answer) -> Option<Cause>
         (Event::Defconst(_, _), Answer::Undecided(cause)) => Some(*cause),
         _ => None,
     }
-}
-
-/// Writes the lines of an event with its answer, where not the last line alone is written.
-fn put_event<K: Sink>(
-    alloc: Global,
-    event: &Event,
-    answer: &Answer,
-    texts: &Texts,
-    last_only: bool,
-    out: &mut K,
-) -> Result<(), Stop>
-    ensures ok { OnOk result (Grows (K.written out.old) (K.written out.new) (told_before last_only (event_lines texts.now (event_seen event.now) answer.now))) }
-    ensures front { OnErr result ((n : ℕ) × Grows (K.written out.old) (K.written out.new) (take n (told_before last_only (event_lines texts.now (event_seen event.now) answer.now)))) }
-    ensures cause { IsCounted (K.faults out.old) (K.faults out.new) result }
-{
-    if last_only {
-        return Ok(());
-    }
-    let mut lines = Lines::new(alloc);
-    let Ok(()) = add_event_lines(alloc, event, answer, texts, &mut lines) else {
-        return Err(Stop::Memory);
-    };
-    let Ok(()) = put_lines(&lines, out) else {
-        return Err(Stop::Write);
-    };
-    Ok(())
 }
 
 /// Writes the lines that end a transcript, or the last one alone, and flushes. Answers the status.

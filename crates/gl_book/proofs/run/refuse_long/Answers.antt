@@ -7,6 +7,6 @@ pub status_of_run-requires : goal.status_of_run-requires
 status_of_run-requires g c = refused_reported c.close.result c.close.ensures.status
 
 pub returns-clause-written : goal.returns-clause-written
-returns-clause-written g c most text beyond =
-    subst (EndsWith most text c.args.last_only _ _) (sym c.status_of_run.ensures.status)
-    (ends_with most text c.args.last_only _ _ c.close.result (too_long most text c.args.last_only _ _ c.args.line c.args.column beyond c.close.result c.none.result c.none.ensures c.close.ensures.ok c.close.ensures.status c.close.ensures.front) (refused_reported c.close.result c.close.ensures.status))
+returns-clause-written g c most text stalls beyond =
+    subst (EndsWith most text c.args.last_only _ _ stalls stalls) (sym c.status_of_run.ensures.status)
+    (ends_with most text c.args.last_only _ _ stalls stalls c.close.result (too_long most text c.args.last_only _ _ stalls c.args.line c.args.column beyond c.close.result c.none.result c.none.ensures c.close.ensures.ok c.close.ensures.status c.close.ensures.front) (refused_reported c.close.result c.close.ensures.status))

@@ -20,7 +20,7 @@ returns-clause-written g c =
       numbered = c.in-Ok-forms.ensures.numbered;
     } in
     let begins : IsFirstState names c.in-Ok-new.state = later_first c.new-2.new.texts names c.in-Ok-new.state c.forms.ensures.table c.forms.ensures.kept c.in-Ok-new.ensures.first in
-    walked (bounds_of c.args.limits.now) c.args.text.now c.args.last_only _ _ names book c.requires read c.in-Ok-new.state begins c.walk.result c.walk.ensures.ok c.walk.ensures.front
+    walked (bounds_of c.args.limits.now) c.args.text.now c.args.last_only _ _ _ _ names book c.requires read c.in-Ok-new.state begins c.walk.result c.walk.ensures.ok c.walk.ensures.front
 
 pub returns-clause-reported : goal.returns-clause-reported
 returns-clause-reported g c =
@@ -33,13 +33,13 @@ returns-clause-reported g c =
       numbered = c.in-Ok-forms.ensures.numbered;
     } in
     let begins : IsFirstState names c.in-Ok-new.state = later_first c.new-2.new.texts names c.in-Ok-new.state c.forms.ensures.table c.forms.ensures.kept c.in-Ok-new.ensures.first in
-    walk_reported (bounds_of c.args.limits.now) c.args.text.now c.args.last_only _ _ names book c.requires read c.in-Ok-new.state begins c.walk.result c.walk.ensures.ok
+    walk_reported (bounds_of c.args.limits.now) c.args.text.now c.args.last_only _ _ _ _ names book c.requires read c.in-Ok-new.state begins c.walk.result c.walk.ensures.ok
 
 pub returns-in_default-clause-written : goal.returns-in_default-clause-written
-returns-in_default-clause-written g c = nothing_written (bounds_of c.args.limits.now) c.args.text.now c.args.last_only _ _ refl
+returns-in_default-clause-written g c = nothing_written (bounds_of c.args.limits.now) c.args.text.now c.args.last_only _ _ c.args.stalls.now c.args.stalls.now refl refl
 
 pub returns-in_default-new-clause-written : goal.returns-in_default-new-clause-written
-returns-in_default-new-clause-written g c = nothing_written (bounds_of c.args.limits.now) c.args.text.now c.args.last_only _ _ refl
+returns-in_default-new-clause-written g c = nothing_written (bounds_of c.args.limits.now) c.args.text.now c.args.last_only _ _ c.args.stalls.now c.args.stalls.now refl refl
 
 pub returns-in_default-forms-clause-written : goal.returns-in_default-forms-clause-written
-returns-in_default-forms-clause-written g c = nothing_written (bounds_of c.args.limits.now) c.args.text.now c.args.last_only _ _ refl
+returns-in_default-forms-clause-written g c = nothing_written (bounds_of c.args.limits.now) c.args.text.now c.args.last_only _ _ c.args.stalls.now c.args.stalls.now refl refl

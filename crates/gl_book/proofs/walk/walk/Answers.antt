@@ -1,90 +1,187 @@
-use Rattle.std.proofs.Common.{◌≡◌, ◌∙◌, ◌+◌, ap, sym, subst, refl, ℕ, Some, None, arith}
-use Rattle.std.specs.Prelude.{Ok, Err}
+use Rattle.std.proofs.Common.{◌≡◌, ◌∙◌, ◌+◌, ◌<◌, ap, sym, refl, subst, ℕ, List, [], length, Option, Some, rules, arith}
+use Rattle.gl_logic.specs.Names.{with_name}
 use Rattle.gl_decide.specs.Bounds.{bounds_of}
-use Rattle.event_world.specs.Seen.{event_seen}
-use Rattle.gl_book.specs.Answers.{IsProperAnswer}
-use Rattle.gl_book.specs.Walk.{event_in, refused_cause, refusal_at, state_after}
-use Rattle.gl_book.specs.Stops.{end_refusal, counts_with, IsCounted, WritesWalk}
-use Rattle.gl_book.specs.declared.refusal.RefusalCode.TheVariants as code
+use Rattle.gl_book.specs.Courses.{Course, EndsPhase, EndsPhaseByFront, LeadsPast, LeadsPastToFront, Stands, place_at}
+use Rattle.gl_book.specs.Lines.{counts_of}
+use Rattle.gl_book.specs.Phases.{JobSeen, jobs_of}
+use Rattle.gl_book.specs.Stops.{WritesWalk, end_refusal}
+use Rattle.gl_book.specs.declared.counts.Counts.{Counts}
+use Rattle.gl_book.specs.declared.refusal.Refusal.{Refusal}
+use Rattle.gl_book.proofs.Crosses.{begins, closes, ends_whole, front_closing, has_room_for}
 use Rattle.gl_book.proofs.Joined.{on_err}
-use Rattle.gl_book.proofs.Onward.{when_ok, when_err, front_here, goes_on, front_next, closes, front_closing, ends_refused, ends_without, ends_whole}
+use Rattle.gl_book.proofs.Onward.{when_err, when_ok}
+use Rattle.gl_book.proofs.Ways.{phase_leads, phase_leads_front, room_fewer}
 use Rattle.gl_book.proofs.walk.walk.Goals as goal
 
-pub returns-in-Memory-clause-front : goal.returns-in-Memory-clause-front
-returns-in-Memory-clause-front g c =
-    front_here c.args.texts.now (bounds_of c.args.limits.now) c.args.state.now c.args.book.now c.args.last_only (g.K.Sink.written c.args.out.now) c.loop-i.state c.loop-i.counts c.loop-i.i (g.K.Sink.written c.loop-i.out) c.loop-i.invariant.stands _ refl
-
-pub returns-in_default-clause-ok : goal.returns-in_default-clause-ok
-returns-in_default-clause-ok g c =
-    let means : event_in c.args.texts.now c.loop-i.state c.at-form.result.now.tree ≡ Err c.in-Err.fault = ap (λ ns. event_in ns c.loop-i.state c.at-form.result.now.tree) (sym c.loop-i.invariant.texts) ∙ c.in-Err.ensures.meant c.in_default.not-Memory in
-    let r = Some (refusal_at c.at-form.result.now (code.Event c.in-Err.fault)) in
-    let ends = ends_refused c.args.texts.now (bounds_of c.args.limits.now) c.args.state.now c.args.book.now c.args.last_only (g.K.Sink.written c.args.out.now) c.loop-i.state c.loop-i.counts c.loop-i.i (g.K.Sink.written c.loop-i.out) c.loop-i.invariant.stands c.at-form.result.now c.at-form.ensures c.in-Err.fault means in
-    when_ok c.close.result _ (WritesWalk c.args.texts.now (bounds_of c.args.limits.now) c.args.state.now c.args.book.now c.args.last_only (g.K.Sink.written c.args.out.now) _) (rw c.refusal_at-refusal.ensures at c.close.ensures.ok) (c.close.ensures.status) (λ s w is. closes c.args.texts.now (bounds_of c.args.limits.now) c.args.state.now c.args.book.now c.args.last_only (g.K.Sink.written c.args.out.now) c.loop-i.state c.loop-i.counts c.loop-i.i (g.K.Sink.written c.loop-i.out) c.loop-i.invariant.stands r ends _ s w is)
-
-pub returns-in_default-clause-front : goal.returns-in_default-clause-front
-returns-in_default-clause-front g c =
-    let means : event_in c.args.texts.now c.loop-i.state c.at-form.result.now.tree ≡ Err c.in-Err.fault = ap (λ ns. event_in ns c.loop-i.state c.at-form.result.now.tree) (sym c.loop-i.invariant.texts) ∙ c.in-Err.ensures.meant c.in_default.not-Memory in
-    let r = Some (refusal_at c.at-form.result.now (code.Event c.in-Err.fault)) in
-    let ends = ends_refused c.args.texts.now (bounds_of c.args.limits.now) c.args.state.now c.args.book.now c.args.last_only (g.K.Sink.written c.args.out.now) c.loop-i.state c.loop-i.counts c.loop-i.i (g.K.Sink.written c.loop-i.out) c.loop-i.invariant.stands c.at-form.result.now c.at-form.ensures c.in-Err.fault means in
-    when_err c.close.result (rw c.refusal_at-refusal.ensures at c.close.ensures.front) (λ w. front_closing c.args.texts.now (bounds_of c.args.limits.now) c.args.state.now c.args.book.now c.args.last_only (g.K.Sink.written c.args.out.now) c.loop-i.state c.loop-i.counts c.loop-i.i (g.K.Sink.written c.loop-i.out) c.loop-i.invariant.stands r ends _ w)
-
-pub returns-in-Memory-cause-clause-front : goal.returns-in-Memory-cause-clause-front
-returns-in-Memory-cause-clause-front g c =
-    front_here c.args.texts.now (bounds_of c.args.limits.now) c.args.state.now c.args.book.now c.args.last_only (g.K.Sink.written c.args.out.now) c.loop-i.state c.loop-i.counts c.loop-i.i (g.K.Sink.written c.loop-i.out) c.loop-i.invariant.stands _ refl
-
-pub returns-in_default-cause-clause-ok : goal.returns-in_default-cause-clause-ok
-returns-in_default-cause-clause-ok g c =
-    let means : event_in c.args.texts.now c.loop-i.state c.at-form.result.now.tree ≡ Ok (event_seen c.in-Ok.event) = ap (λ ns. event_in ns c.loop-i.state c.at-form.result.now.tree) (sym c.loop-i.invariant.texts) ∙ c.in-Ok.ensures.meant in
-    let proper : IsProperAnswer (bounds_of c.args.limits.now) c.loop-i.state.world c.loop-i.state.memoized (event_seen c.in-Ok.event) c.answer_of-answer.result = rw (c.world.ensures.world, c.memoized.ensures.memoized) at c.answer_of-answer.ensures in
-    let r = Some (refusal_at c.at-form.result.now (code.Constant c.in-Some.cause)) in
-    let ends = ends_without c.args.texts.now (bounds_of c.args.limits.now) c.args.state.now c.args.book.now c.args.last_only (g.K.Sink.written c.args.out.now) c.loop-i.state c.loop-i.counts c.loop-i.i (g.K.Sink.written c.loop-i.out) c.loop-i.invariant.stands c.at-form.result.now c.at-form.ensures (event_seen c.in-Ok.event) c.answer_of-answer.result c.in-Some.cause means proper (sym c.refused_cause.ensures ∙ c.in-Some.is) c.in_default-cause.not-Memory in
-    when_ok c.close-in_default-cause.result _ (WritesWalk c.args.texts.now (bounds_of c.args.limits.now) c.args.state.now c.args.book.now c.args.last_only (g.K.Sink.written c.args.out.now) _) (rw c.refusal_at-refusal-in_default-cause.ensures at c.close-in_default-cause.ensures.ok) (c.close-in_default-cause.ensures.status) (λ s w is. closes c.args.texts.now (bounds_of c.args.limits.now) c.args.state.now c.args.book.now c.args.last_only (g.K.Sink.written c.args.out.now) c.loop-i.state c.loop-i.counts c.loop-i.i (g.K.Sink.written c.loop-i.out) c.loop-i.invariant.stands r ends _ s w is)
-
-pub returns-in_default-cause-clause-front : goal.returns-in_default-cause-clause-front
-returns-in_default-cause-clause-front g c =
-    let means : event_in c.args.texts.now c.loop-i.state c.at-form.result.now.tree ≡ Ok (event_seen c.in-Ok.event) = ap (λ ns. event_in ns c.loop-i.state c.at-form.result.now.tree) (sym c.loop-i.invariant.texts) ∙ c.in-Ok.ensures.meant in
-    let proper : IsProperAnswer (bounds_of c.args.limits.now) c.loop-i.state.world c.loop-i.state.memoized (event_seen c.in-Ok.event) c.answer_of-answer.result = rw (c.world.ensures.world, c.memoized.ensures.memoized) at c.answer_of-answer.ensures in
-    let r = Some (refusal_at c.at-form.result.now (code.Constant c.in-Some.cause)) in
-    let ends = ends_without c.args.texts.now (bounds_of c.args.limits.now) c.args.state.now c.args.book.now c.args.last_only (g.K.Sink.written c.args.out.now) c.loop-i.state c.loop-i.counts c.loop-i.i (g.K.Sink.written c.loop-i.out) c.loop-i.invariant.stands c.at-form.result.now c.at-form.ensures (event_seen c.in-Ok.event) c.answer_of-answer.result c.in-Some.cause means proper (sym c.refused_cause.ensures ∙ c.in-Some.is) c.in_default-cause.not-Memory in
-    when_err c.close-in_default-cause.result (rw c.refusal_at-refusal-in_default-cause.ensures at c.close-in_default-cause.ensures.front) (λ w. front_closing c.args.texts.now (bounds_of c.args.limits.now) c.args.state.now c.args.book.now c.args.last_only (g.K.Sink.written c.args.out.now) c.loop-i.state c.loop-i.counts c.loop-i.i (g.K.Sink.written c.loop-i.out) c.loop-i.invariant.stands r ends _ w)
-
-pub returns-in_err-put_event-clause-front : goal.returns-in_err-put_event-clause-front
-returns-in_err-put_event-clause-front g c =
-    let means : event_in c.args.texts.now c.loop-i.state c.at-form.result.now.tree ≡ Ok (event_seen c.in-Ok.event) = ap (λ ns. event_in ns c.loop-i.state c.at-form.result.now.tree) (sym c.loop-i.invariant.texts) ∙ c.in-Ok.ensures.meant in
-    let proper : IsProperAnswer (bounds_of c.args.limits.now) c.loop-i.state.world c.loop-i.state.memoized (event_seen c.in-Ok.event) c.answer_of-answer.result = rw (c.world.ensures.world, c.memoized.ensures.memoized) at c.answer_of-answer.ensures in
-    let valued : refused_cause (event_seen c.in-Ok.event) c.answer_of-answer.result ≡ None = sym c.refused_cause.ensures ∙ c.in-None.is in
-    on_err _ (front_next c.args.texts.now (bounds_of c.args.limits.now) c.args.state.now c.args.book.now c.args.last_only (g.K.Sink.written c.args.out.now) c.loop-i.state c.loop-i.counts c.loop-i.i (g.K.Sink.written c.loop-i.out) c.loop-i.invariant.stands c.at-form.result.now c.at-form.ensures (event_seen c.in-Ok.event) c.answer_of-answer.result means proper valued _ (rw (c.event.ensures.texts, c.loop-i.invariant.texts) at c.in_err-put_event.ensures.front))
-
-pub returns-in_default-take-clause-front : goal.returns-in_default-take-clause-front
-returns-in_default-take-clause-front g c =
-    let means : event_in c.args.texts.now c.loop-i.state c.at-form.result.now.tree ≡ Ok (event_seen c.in-Ok.event) = ap (λ ns. event_in ns c.loop-i.state c.at-form.result.now.tree) (sym c.loop-i.invariant.texts) ∙ c.in-Ok.ensures.meant in
-    let proper : IsProperAnswer (bounds_of c.args.limits.now) c.loop-i.state.world c.loop-i.state.memoized (event_seen c.in-Ok.event) c.answer_of-answer.result = rw (c.world.ensures.world, c.memoized.ensures.memoized) at c.answer_of-answer.ensures in
-    let valued : refused_cause (event_seen c.in-Ok.event) c.answer_of-answer.result ≡ None = sym c.refused_cause.ensures ∙ c.in-None.is in
-    front_here c.args.texts.now (bounds_of c.args.limits.now) c.args.state.now c.args.book.now c.args.last_only (g.K.Sink.written c.args.out.now) (state_after c.loop-i.state c.at-form.result.now.tree (event_seen c.in-Ok.event) c.answer_of-answer.result) (counts_with c.loop-i.counts c.answer_of-answer.result) (c.loop-i.i + 1) (g.K.Sink.written c.put_event.new.out) (goes_on c.args.texts.now (bounds_of c.args.limits.now) c.args.state.now c.args.book.now c.args.last_only (g.K.Sink.written c.args.out.now) c.loop-i.state c.loop-i.counts c.loop-i.i (g.K.Sink.written c.loop-i.out) c.loop-i.invariant.stands c.at-form.result.now c.at-form.ensures (event_seen c.in-Ok.event) c.answer_of-answer.result means proper valued _ (rw (c.event.ensures.texts, c.loop-i.invariant.texts) at c.in_ok-put_event.ensures.ok)) _ refl
-
-pub loop-i-preserved : goal.loop-i-preserved
-loop-i-preserved g c =
-    let means : event_in c.args.texts.now c.loop-i.state c.at-form.result.now.tree ≡ Ok (event_seen c.in-Ok.event) = ap (λ ns. event_in ns c.loop-i.state c.at-form.result.now.tree) (sym c.loop-i.invariant.texts) ∙ c.in-Ok.ensures.meant in
-    let proper : IsProperAnswer (bounds_of c.args.limits.now) c.loop-i.state.world c.loop-i.state.memoized (event_seen c.in-Ok.event) c.answer_of-answer.result = rw (c.world.ensures.world, c.memoized.ensures.memoized) at c.answer_of-answer.ensures in
-    let valued : refused_cause (event_seen c.in-Ok.event) c.answer_of-answer.result ≡ None = sym c.refused_cause.ensures ∙ c.in-None.is in
+pub loop-i-init : goal.loop-i-init
+loop-i-init g c =
+    let names = c.args.texts.now in
+    let bounds = bounds_of c.args.limits.now in
+    let last = c.args.last_only in
+    let course : Course = record { first = c.args.state.now; book = c.args.book.now; written = g.K.Sink.written c.args.out.now; stalls = c.args.stalls.now } in
     record {
-      faults = c.in_ok-put_event.ensures.cause ∙ c.loop-i.invariant.faults;
-      texts = c.event.ensures.texts ∙ c.loop-i.invariant.texts;
-      stands = rw (c.in-Ok-take.ensures, c.with-counts.ensures) (goes_on c.args.texts.now (bounds_of c.args.limits.now) c.args.state.now c.args.book.now c.args.last_only (g.K.Sink.written c.args.out.now) c.loop-i.state c.loop-i.counts c.loop-i.i (g.K.Sink.written c.loop-i.out) c.loop-i.invariant.stands c.at-form.result.now c.at-form.ensures (event_seen c.in-Ok.event) c.answer_of-answer.result means proper valued _ (rw (c.event.ensures.texts, c.loop-i.invariant.texts) at c.in_ok-put_event.ensures.ok));
+      faults = refl;
+      texts = refl;
+      stands =
+          subst (λ (n : Counts). Stands names bounds last course 0 (record { state = c.args.state.now; counts = n; waiting = jobs_of c.new.result; written = course.written; stalls = course.stalls })) (sym c.none.ensures)
+          (subst (λ (js : List JobSeen). Stands names bounds last course 0 (record { state = c.args.state.now; counts = counts_of []; waiting = js; written = course.written; stalls = course.stalls })) (sym c.new.ensures) (begins names bounds last course c.requires.can_go_on));
     }
+
+pub take_form-requires-clause-empty : goal.take_form-requires-clause-empty
+take_form-requires-clause-empty g c κs within = subst (λ (ns : List (List ℕ)). with_name ns [] ≡ ns) (sym c.loop-i.invariant.texts) c.requires.empty
+
+pub take_form-requires-clause-ready : goal.take_form-requires-clause-ready
+take_form-requires-clause-ready g c κs within = c.loop-i.invariant.stands.ready
+
+pub take_form-requires-clause-room : goal.take_form-requires-clause-room
+take_form-requires-clause-room g c κs within =
+    let names = c.args.texts.now in
+    let bounds = bounds_of c.args.limits.now in
+    let last = c.args.last_only in
+    let course : Course = record { first = c.args.state.now; book = c.args.book.now; written = g.K.Sink.written c.args.out.now; stalls = c.args.stalls.now } in
+    let i = c.loop-i.i in
+    let state = c.loop-i.state in
+    let old = c.loop-i.progress in
+    let written = g.K.Sink.written c.loop-i.out in
+    let stalls = c.loop-i.stalls in
+    let here = place_at state old written stalls in
+    let few : i + 1 < 18446744073709551616 = search rules in
+    has_room_for names bounds last course i here c.loop-i.invariant.stands 1 few
+
+pub returns-in_err-refusal-clause-front : goal.returns-in_err-refusal-clause-front
+returns-in_err-refusal-clause-front g c =
+    let names = c.args.texts.now in
+    let bounds = bounds_of c.args.limits.now in
+    let last = c.args.last_only in
+    let course : Course = record { first = c.args.state.now; book = c.args.book.now; written = g.K.Sink.written c.args.out.now; stalls = c.args.stalls.now } in
+    let i = c.loop-i.i in
+    let state = c.loop-i.state in
+    let old = c.loop-i.progress in
+    let written = g.K.Sink.written c.loop-i.out in
+    let stalls = c.loop-i.stalls in
+    let here = place_at state old written stalls in
+    let form = c.at-form.result.now in
+    let now = g.K.Sink.written c.take_form.new.out in
+    let after = c.take_form.new.stalls in
+    let front : LeadsPastToFront names bounds last form here now after = subst (λ (ns : List (List ℕ)). LeadsPastToFront ns bounds last form here now after) c.loop-i.invariant.texts c.in_err-refusal.ensures.front in
+    on_err c.from_residual.result (front course i c.at-form.ensures c.loop-i.invariant.stands)
+
+pub returns-in-Some-clause-ok : goal.returns-in-Some-clause-ok
+returns-in-Some-clause-ok g c =
+    let names = c.args.texts.now in
+    let bounds = bounds_of c.args.limits.now in
+    let last = c.args.last_only in
+    let course : Course = record { first = c.args.state.now; book = c.args.book.now; written = g.K.Sink.written c.args.out.now; stalls = c.args.stalls.now } in
+    let i = c.loop-i.i in
+    let state = c.loop-i.state in
+    let old = c.loop-i.progress in
+    let written = g.K.Sink.written c.loop-i.out in
+    let stalls = c.loop-i.stalls in
+    let here = place_at state old written stalls in
+    let form = c.at-form.result.now in
+    let r = c.in-Some.refusal in
+    let q = place_at c.take_form.new.state c.take_form.new.progress (g.K.Sink.written c.take_form.new.out) c.take_form.new.stalls in
+    let told : LeadsPast c.loop-i.texts bounds last form here (Some r) q = subst (λ (o : Option Refusal). LeadsPast c.loop-i.texts bounds last form here o q) c.in-Some.is c.in_ok-refusal.ensures.ok in
+    let past : LeadsPast names bounds last form here (Some r) q = subst (λ (ns : List (List ℕ)). LeadsPast ns bounds last form here (Some r) q) c.loop-i.invariant.texts told in
+    let f = past course i c.at-form.ensures c.loop-i.invariant.stands in
+    when_ok c.close.result _ (WritesWalk names bounds course.first course.book last course.written _ course.stalls _) c.close.ensures.ok c.close.ensures.status (λ t k is. closes names bounds last course i q f.stands f.none (Some r) f.ends _ t k is)
+
+pub returns-in-Some-clause-front : goal.returns-in-Some-clause-front
+returns-in-Some-clause-front g c =
+    let names = c.args.texts.now in
+    let bounds = bounds_of c.args.limits.now in
+    let last = c.args.last_only in
+    let course : Course = record { first = c.args.state.now; book = c.args.book.now; written = g.K.Sink.written c.args.out.now; stalls = c.args.stalls.now } in
+    let i = c.loop-i.i in
+    let state = c.loop-i.state in
+    let old = c.loop-i.progress in
+    let written = g.K.Sink.written c.loop-i.out in
+    let stalls = c.loop-i.stalls in
+    let here = place_at state old written stalls in
+    let form = c.at-form.result.now in
+    let r = c.in-Some.refusal in
+    let q = place_at c.take_form.new.state c.take_form.new.progress (g.K.Sink.written c.take_form.new.out) c.take_form.new.stalls in
+    let told : LeadsPast c.loop-i.texts bounds last form here (Some r) q = subst (λ (o : Option Refusal). LeadsPast c.loop-i.texts bounds last form here o q) c.in-Some.is c.in_ok-refusal.ensures.ok in
+    let past : LeadsPast names bounds last form here (Some r) q = subst (λ (ns : List (List ℕ)). LeadsPast ns bounds last form here (Some r) q) c.loop-i.invariant.texts told in
+    let f = past course i c.at-form.ensures c.loop-i.invariant.stands in
+    when_err c.close.result c.close.ensures.front (λ k. front_closing names bounds last course i q f.stands f.none (Some r) f.ends _ k)
+
+pub end_phase-requires-clause-room : goal.end_phase-requires-clause-room
+end_phase-requires-clause-room g c κs within =
+    let names = c.args.texts.now in
+    let bounds = bounds_of c.args.limits.now in
+    let last = c.args.last_only in
+    let course : Course = record { first = c.args.state.now; book = c.args.book.now; written = g.K.Sink.written c.args.out.now; stalls = c.args.stalls.now } in
+    let i = c.loop-i.i in
+    let state = c.loop-i.state in
+    let old = c.loop-i.progress in
+    let written = g.K.Sink.written c.loop-i.out in
+    let stalls = c.loop-i.stalls in
+    let here = place_at state old written stalls in
+    let few : i + 0 < 18446744073709551616 = search rules in
+    room_fewer (length (jobs_of old.waiting) + 0) (length (jobs_of old.waiting)) old.counts (omega arith) (has_room_for names bounds last course i here c.loop-i.invariant.stands 0 few)
+
+pub returns-in_err-end_phase-clause-front : goal.returns-in_err-end_phase-clause-front
+returns-in_err-end_phase-clause-front g c =
+    let names = c.args.texts.now in
+    let bounds = bounds_of c.args.limits.now in
+    let last = c.args.last_only in
+    let course : Course = record { first = c.args.state.now; book = c.args.book.now; written = g.K.Sink.written c.args.out.now; stalls = c.args.stalls.now } in
+    let i = c.loop-i.i in
+    let state = c.loop-i.state in
+    let old = c.loop-i.progress in
+    let written = g.K.Sink.written c.loop-i.out in
+    let stalls = c.loop-i.stalls in
+    let here = place_at state old written stalls in
+    let now = g.K.Sink.written c.end_phase.new.out in
+    let after = c.end_phase.new.stalls in
+    let w = c.world-world.result.now in
+    let ended : EndsPhaseByFront names bounds w last (jobs_of old.waiting) written stalls now after = subst (λ (ns : List (List ℕ)). EndsPhaseByFront ns bounds w last (jobs_of old.waiting) written stalls now after) c.loop-i.invariant.texts c.in_err-end_phase.ensures.front in
+    on_err c.from_residual-in_err-end_phase.result (phase_leads_front names bounds last state w c.world-world.ensures.world old written now stalls after ended course i c.loop-i.invariant.stands)
 
 pub returns-clause-ok : goal.returns-clause-ok
 returns-clause-ok g c =
+    let names = c.args.texts.now in
+    let bounds = bounds_of c.args.limits.now in
+    let last = c.args.last_only in
+    let course : Course = record { first = c.args.state.now; book = c.args.book.now; written = g.K.Sink.written c.args.out.now; stalls = c.args.stalls.now } in
+    let i = c.loop-i.i in
+    let state = c.loop-i.state in
+    let old = c.loop-i.progress in
+    let written = g.K.Sink.written c.loop-i.out in
+    let stalls = c.loop-i.stalls in
+    let here = place_at state old written stalls in
+    let now = g.K.Sink.written c.end_phase.new.out in
+    let after = c.end_phase.new.stalls in
+    let w = c.world-world.result.now in
+    let new = c.end_phase.new.progress in
+    let ended : EndsPhase names bounds w last old written stalls new now after = subst (λ (ns : List (List ℕ)). EndsPhase ns bounds w last old written stalls new now after) c.loop-i.invariant.texts c.in_ok-end_phase.ensures.ok in
+    let q = place_at state new now after in
+    let s = phase_leads names bounds last state w c.world-world.ensures.world old written now stalls after new ended course i c.loop-i.invariant.stands in
     let r = end_refusal c.args.book.now.end in
-    let ends = ends_whole c.args.texts.now (bounds_of c.args.limits.now) c.args.state.now c.args.book.now c.args.last_only (g.K.Sink.written c.args.out.now) c.loop-i.state c.loop-i.counts c.loop-i.i (g.K.Sink.written c.loop-i.out) c.loop-i.invariant.stands (omega (arith, c.loop-i-test.false, c.len-i-end.ensures)) in
-    when_ok c.close-2.result _ (WritesWalk c.args.texts.now (bounds_of c.args.limits.now) c.args.state.now c.args.book.now c.args.last_only (g.K.Sink.written c.args.out.now) _) (rw c.refusal_of.ensures at c.close-2.ensures.ok) (rw c.refusal_of.ensures at c.close-2.ensures.status) (λ s w is. closes c.args.texts.now (bounds_of c.args.limits.now) c.args.state.now c.args.book.now c.args.last_only (g.K.Sink.written c.args.out.now) c.loop-i.state c.loop-i.counts c.loop-i.i (g.K.Sink.written c.loop-i.out) c.loop-i.invariant.stands r ends _ s w is)
+    let ends = ends_whole names bounds last course i q s (omega (arith, c.loop-i-test.false, c.len-i-end.ensures)) in
+    when_ok c.close-2.result _ (WritesWalk names bounds course.first course.book last course.written _ course.stalls _) (rw c.refusal_of.ensures at c.close-2.ensures.ok) (rw c.refusal_of.ensures at c.close-2.ensures.status)
+    (λ t k is. closes names bounds last course i q s ended.none r ends _ t k is)
 
 pub returns-clause-front : goal.returns-clause-front
 returns-clause-front g c =
+    let names = c.args.texts.now in
+    let bounds = bounds_of c.args.limits.now in
+    let last = c.args.last_only in
+    let course : Course = record { first = c.args.state.now; book = c.args.book.now; written = g.K.Sink.written c.args.out.now; stalls = c.args.stalls.now } in
+    let i = c.loop-i.i in
+    let state = c.loop-i.state in
+    let old = c.loop-i.progress in
+    let written = g.K.Sink.written c.loop-i.out in
+    let stalls = c.loop-i.stalls in
+    let here = place_at state old written stalls in
+    let now = g.K.Sink.written c.end_phase.new.out in
+    let after = c.end_phase.new.stalls in
+    let w = c.world-world.result.now in
+    let new = c.end_phase.new.progress in
+    let ended : EndsPhase names bounds w last old written stalls new now after = subst (λ (ns : List (List ℕ)). EndsPhase ns bounds w last old written stalls new now after) c.loop-i.invariant.texts c.in_ok-end_phase.ensures.ok in
+    let q = place_at state new now after in
+    let s = phase_leads names bounds last state w c.world-world.ensures.world old written now stalls after new ended course i c.loop-i.invariant.stands in
     let r = end_refusal c.args.book.now.end in
-    let ends = ends_whole c.args.texts.now (bounds_of c.args.limits.now) c.args.state.now c.args.book.now c.args.last_only (g.K.Sink.written c.args.out.now) c.loop-i.state c.loop-i.counts c.loop-i.i (g.K.Sink.written c.loop-i.out) c.loop-i.invariant.stands (omega (arith, c.loop-i-test.false, c.len-i-end.ensures)) in
-    when_err c.close-2.result (rw c.refusal_of.ensures at c.close-2.ensures.front) (λ w. front_closing c.args.texts.now (bounds_of c.args.limits.now) c.args.state.now c.args.book.now c.args.last_only (g.K.Sink.written c.args.out.now) c.loop-i.state c.loop-i.counts c.loop-i.i (g.K.Sink.written c.loop-i.out) c.loop-i.invariant.stands r ends _ w)
-
-pub returns-in_default-cause-clause-cause : goal.returns-in_default-cause-clause-cause
-returns-in_default-cause-clause-cause g c =
-    subst (λ (n : ℕ). IsCounted n (g.K.Sink.faults c.close-in_default-cause.new.out) c.close-in_default-cause.result) c.loop-i.invariant.faults c.close-in_default-cause.ensures.cause
+    let ends = ends_whole names bounds last course i q s (omega (arith, c.loop-i-test.false, c.len-i-end.ensures)) in
+    when_err c.close-2.result (rw c.refusal_of.ensures at c.close-2.ensures.front) (λ k. front_closing names bounds last course i q s ended.none r ends _ k)

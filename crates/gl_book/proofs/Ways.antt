@@ -1,0 +1,131 @@
+-- From one place of a walk to the next, by what the walk's functions did.
+use Rattle.std.proofs.Common.{◌≡◌, ◌≢◌, ◌∙◌, ap, sym, refl, subst, ℕ, zero, suc, ◌+◌, ◌<◌, ◌≤◌, ◌^◌, List, [], ◌∷◌, ◌++◌, length, take, drop, Bool, true, false, Option, Some, None, slice_get, Result, Ok, Err, arith}
+use Rattle.std.specs.Prelude.{OnOk, OnErr, IfOk}
+use Rattle.std.specs.List.{All}
+use Rattle.gl_logic.specs.Object.{Object, nil}
+use Rattle.gl_logic.specs.WorldSeen.{WorldSeen}
+use Rattle.gl_base.specs.Outside.{Grows}
+use Rattle.gl_base.specs.declared.status.Status.{Status}
+use Rattle.sexp_reader.specs.declared.list.Form.{Form}
+use Rattle.event_world.specs.declared.fault.EventFault.{EventFault}
+use Rattle.event_world.specs.EventSeen.{EventSeen, Nothing, Redundant, Defun, Defconst, Value, Assert, Memoize, Unmemoize, SetMode, Theorem, Clique, RedundantClique}
+use Rattle.event_world.specs.NextState.{BookState, next_state}
+use Rattle.gl_decide.specs.Bounds.{Bounds}
+use Rattle.gl_decide.specs.Stalls.{StallSeen}
+use Rattle.gl_book.specs.Answers.{IsAnswerable, IsProperAnswer}
+use Rattle.gl_book.specs.Courses.{Course, EndsPhase, EndsPhaseByFront, Follows, HasRoomFor, IsRefused, Leads, LeadsPast, LeadsPastToFront, LeadsToFront, Place, Stands, place_at, counts_after}
+use Rattle.gl_book.specs.Lines.{event_lines}
+use Rattle.gl_book.specs.Entry.{stalls_of}
+use Rattle.gl_book.specs.Phases.{JobSeen, AreAnswered, ends_phase, is_job, jobs_of, new_job, state_noted}
+use Rattle.gl_book.specs.Stops.{closing_lines, closing_status, counts_with, told_before, WritesLines, WritesLinesFront, WritesWalk, WritesWalkFront}
+use Rattle.gl_book.specs.Walk.{event_in, refusal_at, refused_cause, state_after}
+use Rattle.gl_book.specs.declared.answer.Answer.{Answer}
+use Rattle.gl_book.specs.declared.answer.Cause.{Cause}
+use Rattle.gl_book.specs.declared.answer.Cause.TheVariants as cause
+use Rattle.gl_book.specs.declared.counts.Counts.{Counts}
+use Rattle.gl_book.specs.declared.progress.Progress.{Progress}
+use Rattle.gl_book.specs.declared.refusal.Refusal.{Refusal}
+use Rattle.gl_book.specs.declared.refusal.RefusalCode.TheVariants as code
+use Rattle.gl_book.specs.declared.stop.Stop.{Stop}
+use Rattle.gl_book.proofs.Crosses.{closes, ends_refused, ends_without, follows, front_closing, front_here, front_next, goes_on, job_ends_none, phase_front, phase_stands, waits}
+use Rattle.gl_book.proofs.Puts.{room_for_next}
+use Rattle.gl_book.proofs.Waited.{as_many}
+
+-- ---- room
+pub room_after_all : (n k : ℕ) (counts : Counts) (given : List Answer) → length given ≡ n → HasRoomFor (n + k) counts → HasRoomFor k (counts_after counts given)
+room_after_all n k counts [] e h = let z : n + k ≡ k = omega (arith, e) in subst (λ (m : ℕ). HasRoomFor m counts) z h
+room_after_all zero k counts (a ∷ given) e h = absurd (omega (arith, e))
+room_after_all (suc n) k counts (a ∷ given) e h = room_after_all n k (counts_with counts a) given (omega (arith, e)) (room_for_next (n + k) counts a (let z : suc n + k ≡ suc (n + k) = omega arith in subst (λ (m : ℕ). HasRoomFor m counts) z h))
+
+pub room_fewer : (n m : ℕ) (counts : Counts) → m ≤ n → HasRoomFor n counts → HasRoomFor m counts
+room_fewer n m counts l h = record {
+  proved = let k = h.proved in omega (arith, k, l);
+  vacuous = let k = h.vacuous in omega (arith, k, l);
+  refuted = let k = h.refuted in omega (arith, k, l);
+  undecided = let k = h.undecided in omega (arith, k, l);
+  failed = let k = h.failed in omega (arith, k, l);
+}
+
+pub none_waits : (js : List JobSeen) → length js ≡ 0 → js ≡ []
+none_waits [] e = refl
+none_waits (j ∷ js) e = absurd (omega (arith, e))
+
+pub job_keeps_functions : (s : BookState) (form : Object) (e : EventSeen) → is_job e ≡ true → (next_state s form e nil).memoized ≡ s.memoized
+job_keeps_functions s form (Value t) h = refl
+job_keeps_functions s form (Assert t) h = refl
+job_keeps_functions s form (Theorem thm) h = refl
+job_keeps_functions s form Nothing h = absurd cc
+job_keeps_functions s form (Redundant n) h = absurd cc
+job_keeps_functions s form (Defun d) h = absurd cc
+job_keeps_functions s form (Defconst n t) h = absurd cc
+job_keeps_functions s form (Memoize f) h = absurd cc
+job_keeps_functions s form (Unmemoize f) h = absurd cc
+job_keeps_functions s form (SetMode m) h = absurd cc
+job_keeps_functions s form (Clique ds) h = absurd cc
+job_keeps_functions s form (RedundantClique ns) h = absurd cc
+
+module _ (names : List (List ℕ)) (bounds : Bounds) (last : Bool) where
+  -- ---- one after the other
+  pub then_past : (form : Form) (p q : Place) (r : Option Refusal) (t : Place) → Leads names bounds last p q → LeadsPast names bounds last form q r t → LeadsPast names bounds last form p r t
+  then_past form p q None t h k = λ c i at s. k c i at (h c i s)
+  then_past form p q (Some r) t h k = λ c i at s. k c i at (h c i s)
+
+  pub then_front : (form : Form) (p q : Place) (now : Option (List ℕ)) (after : List StallSeen) → Leads names bounds last p q → LeadsPastToFront names bounds last form q now after → LeadsPastToFront names bounds last form p now after
+  then_front form p q now after h k = λ c i at s. k c i at (h c i s)
+
+  pub front_past : (form : Form) (p : Place) (now : Option (List ℕ)) (after : List StallSeen) → LeadsToFront names bounds last p now after → LeadsPastToFront names bounds last form p now after
+  front_past form p now after h = λ c i at s. h c i s
+
+  -- nothing is written and no stall is kept
+  pub stays_front : (p : Place) (now : Option (List ℕ)) (after : List StallSeen) → now ≡ p.written → after ≡ p.stalls → LeadsToFront names bounds last p now after
+  stays_front p now after e f = λ c i s. front_here names bounds last c i p s now after e f
+
+  -- ---- the end of a phase
+  module _ (state : BookState) (w : WorldSeen) (is : w ≡ state.world) (old : Progress) (written now : Option (List ℕ)) (stalls after : List StallSeen) where
+    pub phase_leads : (new : Progress) → EndsPhase names bounds w last old written stalls new now after → Leads names bounds last (place_at state old written stalls) (place_at state new now after)
+    phase_leads new e = λ c i s.
+        phase_stands names bounds last c i (place_at state old written stalls) s e.answers (subst (λ (v : WorldSeen). AreAnswered bounds v (jobs_of old.waiting) e.answers) is e.proper) (place_at state new now after) refl e.none e.writes e.keeps e.counts
+
+    pub phase_leads_front : EndsPhaseByFront names bounds w last (jobs_of old.waiting) written stalls now after → LeadsToFront names bounds last (place_at state old written stalls) now after
+    phase_leads_front e = λ c i s. phase_front names bounds last c i (place_at state old written stalls) s e.answers (subst (λ (v : WorldSeen). AreAnswered bounds v (jobs_of old.waiting) e.answers) is e.proper) now after e.writes e.keeps
+
+    pub phase_room : (new : Progress) (k : ℕ) → EndsPhase names bounds w last old written stalls new now after → HasRoomFor (length (jobs_of old.waiting) + k) old.counts → HasRoomFor k new.counts
+    phase_room new k e h = subst (HasRoomFor k) (sym e.counts) (room_after_all (length (jobs_of old.waiting)) k old.counts e.answers (as_many names bounds w (jobs_of old.waiting) e.answers e.proper) h)
+
+  -- ---- a form that means an event
+  module _ (form : Form) (e : EventSeen) (state : BookState) (means : event_in names state form.tree ≡ Ok e) (old : Progress) (written : Option (List ℕ)) (stalls : List StallSeen) where
+    abbrev here : Place
+    here = place_at state old written stalls
+
+    pub waits_past : (later : BookState) (new : Progress) → is_job e ≡ true → IsAnswerable state.world.definitions state.memoized e → later ≡ state_noted state form.tree e → jobs_of new.waiting ≡ jobs_of old.waiting ++ new_job e state.memoized ∷ [] → new.counts ≡ old.counts
+        → LeadsPast names bounds last form here None (place_at later new written stalls)
+    waits_past later new job can is more same = λ c i at s.
+        let k = waits names bounds last c i here s form at e means (job_ends_none e job) job can in
+        subst (λ (st : BookState). Stands names bounds last c (i + 1) (record { state = st; counts = new.counts; waiting = jobs_of new.waiting; written = written; stalls = stalls })) (sym is)
+        (subst (λ (js : List JobSeen). Stands names bounds last c (i + 1) (record { state = state_noted state form.tree e; counts = new.counts; waiting = js; written = written; stalls = stalls })) (sym more)
+        (subst (λ (n : Counts). Stands names bounds last c (i + 1) (record { state = state_noted state form.tree e; counts = n; waiting = jobs_of old.waiting ++ new_job e state.memoized ∷ []; written = written; stalls = stalls })) (sym same) k))
+
+    pub follows_past : (later : BookState) (new : Progress) → ends_phase e ≡ false → is_job e ≡ false → 0 < length (jobs_of old.waiting) → Follows names bounds form.tree e state (jobs_of old.waiting) later (jobs_of new.waiting) → new.counts ≡ old.counts
+        → LeadsPast names bounds last form here None (place_at later new written stalls)
+    follows_past later new stays other some f same = λ c i at s.
+        let k = follows names bounds last c i here s form at e means stays other some f.answer f.proper (jobs_of new.waiting) f.behind in
+        subst (λ (st : BookState). Stands names bounds last c (i + 1) (record { state = st; counts = new.counts; waiting = jobs_of new.waiting; written = written; stalls = stalls })) (sym f.state)
+        (subst (λ (n : Counts). Stands names bounds last c (i + 1) (record { state = next_state state form.tree e nil; counts = n; waiting = jobs_of new.waiting; written = written; stalls = stalls })) (sym same) k)
+
+    -- ---- answered at once
+    module _ (none : jobs_of old.waiting ≡ []) (a : Answer) (proper : IsProperAnswer bounds state.world state.memoized e a) where
+      pub goes_past : (later : BookState) (new : Progress) (now : Option (List ℕ)) (after : List StallSeen) → refused_cause e a ≡ None → later ≡ state_after state form.tree e a → jobs_of new.waiting ≡ [] → new.counts ≡ counts_with old.counts a
+          → Grows written now (told_before last (event_lines names e a)) → after ≡ stalls ++ stalls_of a → LeadsPast names bounds last form here None (place_at later new now after)
+      goes_past later new now after valued is gone counted g k = λ c i at s. goes_on names bounds last c i here s none form at e a means proper valued (place_at later new now after) is gone counted g k
+
+      pub goes_past_front : (now : Option (List ℕ)) (after : List StallSeen) → refused_cause e a ≡ None → (n : ℕ) × Grows written now (take n (told_before last (event_lines names e a))) → (m : ℕ) × (after ≡ stalls ++ take m (stalls_of a)) → LeadsPastToFront names bounds last form here now after
+      goes_past_front now after valued g k = λ c i at s. front_next names bounds last c i here s none form at e a means proper valued now after g k
+
+      pub refused_past : (why : Cause) → refused_cause e a ≡ Some why → why ≢ cause.Memory → LeadsPast names bounds last form here (Some (refusal_at form (code.Constant why))) here
+      refused_past why has other = λ c i at s. record { stands = s; none = none; ends = ends_without names bounds last c i here s none form at e a means proper why has other }
+
+  -- ---- a form that means none
+  pub fault_past : (form : Form) (fault : EventFault) (state : BookState) → event_in names state form.tree ≡ Err fault → (p q : Place) → q.state ≡ state → q.waiting ≡ [] → Leads names bounds last p q → LeadsPast names bounds last form p (Some (refusal_at form (code.Event fault))) q
+  fault_past form fault state means p q is none h = λ c i at s.
+      let t = h c i s in
+      record { stands = t; none = none; ends = ends_refused names bounds last c i q t form at fault (subst (λ (st : BookState). event_in names st form.tree ≡ Err fault) (sym is) means) }

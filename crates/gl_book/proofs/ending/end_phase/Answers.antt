@@ -1,0 +1,14 @@
+use Rattle.std.proofs.Common.{◌≡◌, ◌∙◌, ap, sym, refl, subst, length, List}
+use Rattle.gl_decide.specs.Bounds.{bounds_of}
+use Rattle.gl_book.specs.Phases.{jobs_of}
+use Rattle.gl_book.proofs.Crosses.{nothing_ended}
+use Rattle.gl_book.proofs.Waited.{as_many}
+use Rattle.gl_book.proofs.ending.end_phase.Goals as goal
+
+pub returns-in_default-clause-front : goal.returns-in_default-clause-front
+returns-in_default-clause-front g c =
+    nothing_ended c.args.texts.now (bounds_of c.args.limits.now) c.args.world.now c.args.last_only (jobs_of c.args.progress.now.waiting) (g.K.Sink.written c.args.out.now) c.args.stalls.now c.requires.ready
+
+pub put_answers-requires-clause-many : goal.put_answers-requires-clause-many
+put_answers-requires-clause-many g c =
+    as_many c.args.texts.now (bounds_of c.args.limits.now) c.args.world.now (jobs_of c.args.progress.now.waiting) c.in-Ok.answers.items c.in-Ok.ensures ∙ ap (λ w. length (jobs_of w)) (sym c.replace-waiting.ensures.value)

@@ -1,0 +1,98 @@
+use Rattle.std.proofs.Common.{◌≡◌, ◌∙◌, ap, sym, refl, subst, Some, None}
+use Rattle.gl_decide.specs.Bounds.{bounds_of}
+use Rattle.event_world.specs.NextState.{next_state}
+use Rattle.event_world.specs.Seen.{event_seen}
+use Rattle.gl_book.specs.Answers.{IsProperAnswer}
+use Rattle.gl_book.specs.Courses.{LeadsPast, place_at}
+use Rattle.gl_book.specs.Entry.{stalls_of}
+use Rattle.gl_book.specs.Lines.{event_lines}
+use Rattle.gl_book.specs.Stops.{told_before}
+use Rattle.gl_book.specs.Walk.{refused_cause}
+use Rattle.gl_book.specs.declared.refusal.Refusal.{Refusal}
+use Rattle.gl_book.proofs.Joined.{on_err}
+use Rattle.gl_book.proofs.Stalled.{kept_whole}
+use Rattle.gl_book.proofs.Told.{whole_front}
+use Rattle.gl_book.proofs.Ways.{front_past, goes_past, goes_past_front, refused_past, stays_front}
+use Rattle.gl_book.proofs.walk.answer_now.Goals as goal
+
+pub returns-in-Memory-clause-front : goal.returns-in-Memory-clause-front
+returns-in-Memory-clause-front g c =
+    let names = c.args.texts.now in
+    let bounds = bounds_of c.args.limits.now in
+    let last = c.args.last_only in
+    let form = c.args.form.now in
+    let state = c.args.state.now in
+    let old = c.args.progress.now in
+    let written = g.K.Sink.written c.args.out.now in
+    let stalls = c.args.stalls.now in
+    let here = place_at state old written stalls in
+    front_past names bounds last form here written stalls (stays_front names bounds last here written stalls refl refl)
+
+pub returns-in_default : goal.returns-in_default
+returns-in_default g c =
+    let names = c.args.texts.now in
+    let bounds = bounds_of c.args.limits.now in
+    let last = c.args.last_only in
+    let form = c.args.form.now in
+    let e = event_seen c.args.event in
+    let state = c.args.state.now in
+    let old = c.args.progress.now in
+    let written = g.K.Sink.written c.args.out.now in
+    let stalls = c.args.stalls.now in
+    let here = place_at state old written stalls in
+    let a = c.answer_of-answer.result in
+    let proper : IsProperAnswer bounds state.world state.memoized e a = rw (c.world.ensures.world, c.memoized.ensures.memoized) at c.answer_of-answer.ensures in
+    let past = refused_past names bounds last form e state c.requires.meant old written stalls c.requires.none a proper c.in-Some.cause (sym c.refused_cause.ensures ∙ c.in-Some.is) c.in_default.not-Memory in
+    record { ok = subst (λ (r : Refusal). LeadsPast names bounds last form here (Some r) here) (sym c.refusal_at.ensures) past; front = tt; cause = refl }
+
+pub returns-in_err-value-clause-front : goal.returns-in_err-value-clause-front
+returns-in_err-value-clause-front g c =
+    let names = c.args.texts.now in
+    let bounds = bounds_of c.args.limits.now in
+    let last = c.args.last_only in
+    let form = c.args.form.now in
+    let e = event_seen c.args.event in
+    let state = c.args.state.now in
+    let old = c.args.progress.now in
+    let written = g.K.Sink.written c.args.out.now in
+    let stalls = c.args.stalls.now in
+    let a = c.answer_of-answer.result in
+    let proper : IsProperAnswer bounds state.world state.memoized e a = rw (c.world.ensures.world, c.memoized.ensures.memoized) at c.answer_of-answer.ensures in
+    let valued : refused_cause e a ≡ None = sym c.refused_cause.ensures ∙ c.in-None.is in
+    on_err c.from_residual.result (goes_past_front names bounds last form e state c.requires.meant old written stalls c.requires.none a proper _ _ valued c.in_err-value.ensures.front c.in_err-value.ensures.kept_front)
+
+pub returns-in_default-take-clause-front : goal.returns-in_default-take-clause-front
+returns-in_default-take-clause-front g c =
+    let names = c.args.texts.now in
+    let bounds = bounds_of c.args.limits.now in
+    let last = c.args.last_only in
+    let form = c.args.form.now in
+    let e = event_seen c.args.event in
+    let state = c.args.state.now in
+    let old = c.args.progress.now in
+    let written = g.K.Sink.written c.args.out.now in
+    let stalls = c.args.stalls.now in
+    let a = c.answer_of-answer.result in
+    let proper : IsProperAnswer bounds state.world state.memoized e a = rw (c.world.ensures.world, c.memoized.ensures.memoized) at c.answer_of-answer.ensures in
+    let valued : refused_cause e a ≡ None = sym c.refused_cause.ensures ∙ c.in-None.is in
+    let now = g.K.Sink.written c.put_event.new.out in
+    let after = c.put_event.new.stalls in
+    goes_past_front names bounds last form e state c.requires.meant old written stalls c.requires.none a proper now after valued
+    (whole_front written now now (told_before last (event_lines names e a)) c.in_ok-value.ensures.ok refl) (kept_whole (stalls_of a) stalls after c.in_ok-value.ensures.kept)
+
+pub returns-clause-ok : goal.returns-clause-ok
+returns-clause-ok g c =
+    let names = c.args.texts.now in
+    let bounds = bounds_of c.args.limits.now in
+    let last = c.args.last_only in
+    let form = c.args.form.now in
+    let e = event_seen c.args.event in
+    let state = c.args.state.now in
+    let old = c.args.progress.now in
+    let written = g.K.Sink.written c.args.out.now in
+    let stalls = c.args.stalls.now in
+    let a = c.answer_of-answer.result in
+    let proper : IsProperAnswer bounds state.world state.memoized e a = rw (c.world.ensures.world, c.memoized.ensures.memoized) at c.answer_of-answer.ensures in
+    let valued : refused_cause e a ≡ None = sym c.refused_cause.ensures ∙ c.in-None.is in
+    goes_past names bounds last form e state c.requires.meant old written stalls c.requires.none a proper c.take.new.self (record { counts = c.with-progress.result; waiting = old.waiting }) (g.K.Sink.written c.put_event.new.out) c.put_event.new.stalls valued
+    (c.in-Ok.ensures ∙ ap (next_state state form.tree e) c.in_ok-value.ensures.value) c.requires.none c.with-progress.ensures c.in_ok-value.ensures.ok c.in_ok-value.ensures.kept

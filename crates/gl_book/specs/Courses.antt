@@ -1,0 +1,170 @@
+-- How far a walk has come, where some of its answers are still to come.
+use Rattle.std.specs.Prelude.{◌≡◌, ℕ, suc, ◌+◌, ◌<◌, ◌^◌, Bool, false, List, [], ◌∷◌, ◌++◌, All, length, drop, Option, None, Some, take, slice_get}
+use Rattle.std.specs.List.{flat_map, list_any}
+use Rattle.gl_logic.specs.Every.{Every}
+use Rattle.gl_logic.specs.Object.{Object, nil}
+use Rattle.gl_logic.specs.WorldSeen.{WorldSeen}
+use Rattle.gl_base.specs.Outside.{Grows}
+use Rattle.sexp_reader.specs.declared.list.Form.{Form}
+use Rattle.sexp_reader.specs.declared.ends.Forms.{Forms}
+use Rattle.event_world.specs.EventSeen.{EventSeen}
+use Rattle.event_world.specs.NextState.{BookState, next_state}
+use Rattle.gl_decide.specs.Bounds.{Bounds}
+use Rattle.gl_decide.specs.Stalls.{StallSeen}
+use Rattle.gl_book.specs.Answers.{IsProperAnswer}
+use Rattle.gl_book.specs.Entry.{Entry, Answered, Refused, stalls_of, stalls_in}
+use Rattle.gl_book.specs.Lines.{entry_lines, event_lines, counts_of, is_refusal}
+use Rattle.gl_book.specs.Phases.{JobSeen, IsFollowed, CanBeAnswered, AreAnswered, jobs_of}
+use Rattle.gl_book.specs.Stops.{Keeps, KeepsFront, told_before, counts_with, WritesWalkFront}
+use Rattle.gl_book.specs.Walk.{CanGoOn, Walk}
+use Rattle.gl_book.specs.declared.answer.Answer.{Answer}
+use Rattle.gl_book.specs.declared.answer.Answer.TheVariants as answer
+use Rattle.gl_book.specs.declared.counts.Counts.{Counts}
+use Rattle.gl_book.specs.declared.progress.Progress.{Progress}
+use Rattle.gl_book.specs.declared.refusal.Refusal.{Refusal}
+
+-- ---- the end of a phase
+-- the lines of a job and of the events behind it
+abbrev pub job_lines : List (List ℕ) → JobSeen → Answer → List (List ℕ)
+job_lines names j a = event_lines names j.event a ++ j.behind
+
+abbrev pub phase_lines : List (List ℕ) → List JobSeen → List Answer → List (List ℕ)
+phase_lines names (j ∷ js) (a ∷ given) = job_lines names j a ++ phase_lines names js given
+phase_lines names _ _ = []
+
+abbrev pub counts_after : Counts → List Answer → Counts
+counts_after counts [] = counts
+counts_after counts (a ∷ given) = counts_after (counts_with counts a) given
+
+-- what the jobs that wait tell was written, with these answers
+abbrev pub WritesPhase : List (List ℕ) → Bool → List JobSeen → List Answer → Option (List ℕ) → Option (List ℕ) → Type 0
+WritesPhase names last_only jobs given old new = Grows old new (told_before last_only (phase_lines names jobs given))
+
+-- or the front of it
+abbrev pub WritesPhaseFront : List (List ℕ) → Bool → List JobSeen → List Answer → Option (List ℕ) → Option (List ℕ) → Type 0
+WritesPhaseFront names last_only jobs given old new = (n : ℕ) × Grows old new (take n (told_before last_only (phase_lines names jobs given)))
+
+-- the stalls of the answers were added to those before
+abbrev pub KeepsPhase : List Answer → List StallSeen → List StallSeen → Type 0
+KeepsPhase given before after = Keeps (flat_map stalls_of given) before after
+
+-- or the front of them
+abbrev pub KeepsPhaseFront : List Answer → List StallSeen → List StallSeen → Type 0
+KeepsPhaseFront given before after = KeepsFront (flat_map stalls_of given) before after
+
+-- ---- events whose lines wait
+-- neither counted nor stalled, and no refusal
+abbrev pub IsQuiet : Entry → Type 0
+IsQuiet (Answered e answer.Done) = Unit {0}
+IsQuiet (Answered e (answer.Function t)) = Unit {0}
+IsQuiet _ = ⊥
+
+-- behind each job stand the lines of these entries
+abbrev pub AreBehind : List (List ℕ) → List JobSeen → List (List Entry) → Type 0
+AreBehind names [] [] = Unit {0}
+AreBehind names (j ∷ js) (es ∷ ess) = (j.behind ≡ flat_map (entry_lines names) es) × Every IsQuiet es × AreBehind names js ess
+AreBehind names _ _ = ⊥
+
+-- the entries of the jobs, once their answers have come, each with those behind it
+abbrev pub waited : List JobSeen → List (List Entry) → List Answer → List Entry
+waited (j ∷ js) (es ∷ ess) (a ∷ given) = Answered j.event a ∷ (es ++ waited js ess given)
+waited _ _ _ = []
+
+-- an event that is answered while jobs wait: its lines come behind the last of them, and its answer changes the state no more
+-- than the event does
+pub record Follows (names : List (List ℕ)) (bounds : Bounds) (form : Object) (e : EventSeen) (old : BookState) (jobs : List JobSeen) (new : BookState) (later : List JobSeen) : Type 0 where
+  pub answer : Answer
+  pub proper : IsProperAnswer bounds old.world old.memoized e answer
+  pub behind : IsFollowed jobs (event_lines names e answer) later
+  pub state : new ≡ next_state old form e nil
+
+-- how many they are
+abbrev pub count_waited : List (List Entry) → ℕ
+count_waited [] = 0
+count_waited (es ∷ ess) = suc (length es) + count_waited ess
+
+-- ---- the way
+-- a book that is walked over from a state on, and what the sink and the stalls held before
+pub record Course : Type 0 where
+  pub first : BookState
+  pub book : Forms
+  pub written : Option (List ℕ)
+  pub stalls : List StallSeen
+
+-- a place on it: the state, the counts and the jobs that wait, and what the sink and the stalls hold
+pub record Place : Type 0 where
+  pub state : BookState
+  pub counts : Counts
+  pub waiting : List JobSeen
+  pub written : Option (List ℕ)
+  pub stalls : List StallSeen
+
+abbrev pub place_at : BookState → Progress → Option (List ℕ) → List StallSeen → Place
+place_at state p written stalls = record { state = state; counts = p.counts; waiting = jobs_of p.waiting; written = written; stalls = stalls }
+
+-- so many forms are taken in: what is done of them is counted, written and kept, and whatever proper answers come for the
+-- jobs that wait, each walk of what is left makes a walk of the whole
+pub record Stands (names : List (List ℕ)) (bounds : Bounds) (last_only : Bool) (c : Course) (i : ℕ) (p : Place) : Type 0 where
+  pub done : List Entry
+  pub behind : List (List Entry)
+  pub can : CanGoOn p.state
+  pub ready : All (CanBeAnswered p.state.world.definitions) p.waiting
+  pub follow : AreBehind names p.waiting behind
+  pub onward : (given : List Answer) → AreAnswered bounds p.state.world p.waiting given → (entries : List Entry) → Walk names bounds p.state (drop i c.book.list) c.book.end entries
+      → Walk names bounds c.first c.book.list c.book.end (done ++ (waited p.waiting behind given ++ entries))
+  pub counted : p.counts ≡ counts_of done
+  pub many : length done + count_waited behind ≡ i
+  pub answered : list_any is_refusal done ≡ false
+  pub written : Grows c.written p.written (told_before last_only (flat_map (entry_lines names) done))
+  pub stalls : p.stalls ≡ c.stalls ++ stalls_in done
+
+-- wherever a walk has come to the one place, it comes to the other
+abbrev pub Leads : List (List ℕ) → Bounds → Bool → Place → Place → Type 0
+Leads names bounds last_only p q = (c : Course) (i : ℕ) → Stands names bounds last_only c i p → Stands names bounds last_only c i q
+
+-- wherever a walk has come to the place, the front of what it may write was written, and of its stalls kept
+abbrev pub LeadsToFront : List (List ℕ) → Bounds → Bool → Place → Option (List ℕ) → List StallSeen → Type 0
+LeadsToFront names bounds last_only p new after =
+    (c : Course) (i : ℕ) → Stands names bounds last_only c i p → WritesWalkFront names bounds c.first c.book last_only c.written new c.stalls after
+
+-- the same, where this form is the next
+abbrev pub LeadsPastToFront : List (List ℕ) → Bounds → Bool → Form → Place → Option (List ℕ) → List StallSeen → Type 0
+LeadsPastToFront names bounds last_only form p new after =
+    (c : Course) (i : ℕ) → slice_get c.book.list i ≡ Some form → Stands names bounds last_only c i p → WritesWalkFront names bounds c.first c.book last_only c.written new c.stalls after
+
+-- no job waits, and what comes of the forms left is a refusal
+pub record IsRefused (names : List (List ℕ)) (bounds : Bounds) (last_only : Bool) (c : Course) (i : ℕ) (p : Place) (r : Refusal) : Type 0 where
+  pub stands : Stands names bounds last_only c i p
+  pub none : p.waiting ≡ []
+  pub ends : Walk names bounds p.state (drop i c.book.list) c.book.end (Refused r ∷ [])
+
+-- wherever a walk has come to the one place and this form is the next, it comes past the form to the other, or the form is
+-- refused there
+abbrev pub LeadsPast : List (List ℕ) → Bounds → Bool → Form → Place → Option Refusal → Place → Type 0
+LeadsPast names bounds last_only form p None q = (c : Course) (i : ℕ) → slice_get c.book.list i ≡ Some form → Stands names bounds last_only c i p → Stands names bounds last_only c (i + 1) q
+LeadsPast names bounds last_only form p (Some r) q = (c : Course) (i : ℕ) → slice_get c.book.list i ≡ Some form → Stands names bounds last_only c i p → IsRefused names bounds last_only c i q r
+
+-- ---- the end of a phase, as a whole
+-- an answer for each job, proper at its place; their lines were written and their stalls kept, in the order of the book
+pub record EndsPhase (names : List (List ℕ)) (bounds : Bounds) (w : WorldSeen) (last_only : Bool) (old : Progress) (written : Option (List ℕ)) (stalls : List StallSeen) (new : Progress) (now : Option (List ℕ)) (after : List StallSeen) : Type 0 where
+  pub answers : List Answer
+  pub proper : AreAnswered bounds w (jobs_of old.waiting) answers
+  pub writes : WritesPhase names last_only (jobs_of old.waiting) answers written now
+  pub keeps : KeepsPhase answers stalls after
+  pub counts : new.counts ≡ counts_after old.counts answers
+  pub none : jobs_of new.waiting ≡ []
+
+-- the front of them
+pub record EndsPhaseByFront (names : List (List ℕ)) (bounds : Bounds) (w : WorldSeen) (last_only : Bool) (jobs : List JobSeen) (written : Option (List ℕ)) (stalls : List StallSeen) (now : Option (List ℕ)) (after : List StallSeen) : Type 0 where
+  pub answers : List Answer
+  pub proper : AreAnswered bounds w jobs answers
+  pub writes : WritesPhaseFront names last_only jobs answers written now
+  pub keeps : KeepsPhaseFront answers stalls after
+
+-- each count has room for so many answers more
+pub record HasRoomFor (n : ℕ) (c : Counts) : Type 0 where
+  pub proved : c.proved + n < 2 ^ 64
+  pub vacuous : c.vacuous + n < 2 ^ 64
+  pub refuted : c.refuted + n < 2 ^ 64
+  pub undecided : c.undecided + n < 2 ^ 64
+  pub failed : c.failed + n < 2 ^ 64

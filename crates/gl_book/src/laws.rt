@@ -1,0 +1,30 @@
+//! What the definition of a transcript leaves open. The laws are the contracts of functions that do nothing.
+
+ghost use Rattle.std.specs.Prelude.{ℕ, List};
+ghost use Rattle.gl_logic.specs.Exp.{Exp};
+ghost use Rattle.gl_logic.specs.WorldSeen.{WorldSeen};
+ghost use Rattle.sexp_reader.specs.declared.list.Form.{Form as FormSeen};
+ghost use Rattle.sexp_reader.specs.declared.ends.End.{End as EndSeen};
+ghost use Rattle.event_world.specs.NextState.{BookState};
+ghost use Rattle.gl_decide.specs.Bounds.{Bounds};
+ghost use Rattle.gl_book.specs.Answers.{IsProperTruth, IsProperValue, IsTooLarge};
+ghost use Rattle.gl_book.specs.Completeness.{AgreeBut, IsFound, StaysWithin, refusal_in};
+ghost use Rattle.gl_book.specs.Entry.{Entry};
+ghost use Rattle.gl_book.specs.Walk.{Walk};
+ghost use Rattle.gl_book.specs.declared.answer.Answer.{Answer as AnswerSeen};
+
+/// Whether a book is refused, at which place and with which code, is decided by its text and the events before it: two
+/// walks over the same forms agree, but for a constant without a value.
+pub fn one_refusal()
+    ensures { (names : List (List ℕ)) (bounds : Bounds) (state : BookState) (forms : List FormSeen) (end : EndSeen) (xs ys : List Entry)
+        → Walk names bounds state forms end xs → Walk names bounds state forms end ys → AgreeBut (refusal_in xs) (refusal_in ys) }
+{}
+
+/// A term without variables that stays within 128 bits, the steps and the cells gets its value, unless memory is refused:
+/// to print it, where it is not too large, and to tell whether it is NIL.
+pub fn values_are_found()
+    ensures value { (w : WorldSeen) (bounds : Bounds) (memoized : List ℕ) (t : Exp) (a : AnswerSeen)
+        → StaysWithin w bounds memoized t → ¬ IsTooLarge w t → IsProperValue bounds w memoized t a → IsFound a }
+    ensures truth { (w : WorldSeen) (bounds : Bounds) (memoized : List ℕ) (t : Exp) (a : AnswerSeen)
+        → StaysWithin w bounds memoized t → IsProperTruth bounds w memoized t a → IsFound a }
+{}

@@ -1,0 +1,153 @@
+//! The answers to the jobs of a phase, by any number of workers.
+
+ghost use Rattle.std.specs.Prelude.{◌≡◌, ◌<◌, ◌≤◌, ℕ, All, IfOk, length, vec_len, slice_index_or};
+ghost use Rattle.gl_decide.specs.Bounds.{bounds_of};
+ghost use Rattle.gl_book.specs.Phases.{AreAnswered, CanBeAnswered, IsPieceAnswered, IsWithin, Joins, jobs_of, with_one_worker};
+ghost use Rattle.gl_book.specs.declared.piece.Piece.{Piece as PieceSeen};
+
+use super::answer::{Answer, answer_of};
+use super::piece::Piece;
+use super::pieces::pieces_of;
+use super::waiting::Waiting;
+use gl_base::limits::Limits;
+use gl_decide::Gate;
+use gl_logic::{NoMemory, World};
+use std::alloc::{AllocError, Global};
+use std::thread::{self, Threads};
+
+/// An answer for each job of a phase, in the world at its end.
+///
+/// One job has all workers for its scan. Of two or more each has one worker for itself, and they are dealt out in pieces,
+/// one to a worker, which calls `gate.enter` with the job's number in the phase, from 0, when it begins a job.
+///
+/// # Errors
+///
+/// `NoMemory` where memory was refused outside a job, and for more than 4,294,967,295 jobs, which no book has.
+pub(crate) fn phase_answers<R: Threads + Sync, G: Gate>(
+    rt: &R,
+    alloc: Global,
+    world: &World,
+    waiting: &Waiting,
+    limits: &Limits,
+    gate: &G,
+) -> Result<Vec<Answer>, NoMemory>
+    requires { All (CanBeAnswered world.now.definitions) (jobs_of waiting.now) }
+    ensures { IfOk result (λ v. AreAnswered (bounds_of limits.now) world.now (jobs_of waiting.now) v.items) }
+{
+    match waiting.len() {
+        0 => Ok(Vec::new(alloc)),
+        1 => one_answer(rt, alloc, world, waiting, limits),
+        _ => many_answers(rt, alloc, world, waiting, limits, gate),
+    }
+}
+
+/// The answer to the only job.
+fn one_answer<R: Threads + Sync>(
+    rt: &R,
+    alloc: Global,
+    world: &World,
+    waiting: &Waiting,
+    limits: &Limits,
+) -> Result<Vec<Answer>, NoMemory>
+    requires one { length (jobs_of waiting.now) ≡ 1 }
+    requires answerable { All (CanBeAnswered world.now.definitions) (jobs_of waiting.now) }
+    ensures { IfOk result (λ v. AreAnswered (bounds_of limits.now) world.now (jobs_of waiting.now) v.items) }
+{
+    let job = waiting.at(0);
+    let mut answers = Vec::new(alloc);
+    answers.push(answer_of(rt, alloc, world, &job.memoized, &job.event, limits))?;
+    Ok(answers)
+}
+
+/// The answers to two jobs or more, by as many workers as the limits say.
+fn many_answers<R: Threads + Sync, G: Gate>(
+    rt: &R,
+    alloc: Global,
+    world: &World,
+    waiting: &Waiting,
+    limits: &Limits,
+    gate: &G,
+) -> Result<Vec<Answer>, NoMemory>
+    requires some { 1 ≤ length (jobs_of waiting.now) }
+    requires answerable { All (CanBeAnswered world.now.definitions) (jobs_of waiting.now) }
+    ensures { IfOk result (λ v. AreAnswered (bounds_of limits.now) world.now (jobs_of waiting.now) v.items) }
+{
+    let Ok(count) = u32::try_from(waiting.len()) else {
+        return Err(NoMemory);
+    };
+    let pieces = pieces_of(alloc, count, u32::from(limits.workers))?;
+    let parts = answers_by_piece(rt, alloc, world, waiting, &alone(limits), gate, pieces)?;
+    joined(alloc, parts)
+}
+
+/// Limits with one worker.
+fn alone(limits: &Limits) -> Limits
+    ensures { bounds_of result ≡ with_one_worker (bounds_of limits.now) }
+{
+    Limits {
+        steps: limits.steps,
+        cells: limits.cells,
+        nodes: limits.nodes,
+        clauses: limits.clauses,
+        enum_bits: limits.enum_bits,
+        workers: 1,
+    }
+}
+
+/// The answers to the jobs of each piece, each by a worker.
+fn answers_by_piece<R: Threads + Sync, G: Gate>(
+    rt: &R,
+    alloc: Global,
+    world: &World,
+    waiting: &Waiting,
+    limits: &Limits,
+    gate: &G,
+    pieces: Vec<Piece>,
+) -> Result<Vec<Result<Vec<Answer>, NoMemory>>, AllocError>
+    requires answerable { All (CanBeAnswered world.now.definitions) (jobs_of waiting.now) }
+    requires within { All (IsWithin (length (jobs_of waiting.now))) pieces.items }
+    ensures count { IfOk result (λ v. vec_len v ≡ vec_len pieces) }
+    ensures each { IfOk result (λ v. (i : ℕ) (p : PieceSeen) (a : _) → i < length pieces.items → IsPieceAnswered (bounds_of limits.now) world.now (jobs_of waiting.now) (slice_index_or pieces.items i p) (slice_index_or v.items i a)) }
+{
+    let each = |piece: Piece| -> Result<Vec<Answer>, NoMemory>
+        requires { All (CanBeAnswered world.now.definitions) (jobs_of waiting.now) × IsWithin (length (jobs_of waiting.now)) piece }
+        ensures { IsPieceAnswered (bounds_of limits.entry.now) world.entry.now (jobs_of waiting.entry.now) piece result }
+    { piece_answers(rt, alloc, world, waiting, limits, gate, piece) };
+    thread::map_vec(rt, pieces, &each)
+}
+
+/// The answers to the jobs of a piece, in order.
+fn piece_answers<R: Threads + Sync, G: Gate>(
+    rt: &R,
+    alloc: Global,
+    world: &World,
+    waiting: &Waiting,
+    limits: &Limits,
+    gate: &G,
+    piece: Piece,
+) -> Result<Vec<Answer>, NoMemory>
+    requires answerable { All (CanBeAnswered world.now.definitions) (jobs_of waiting.now) }
+    requires within { IsWithin (length (jobs_of waiting.now)) piece }
+    ensures { IsPieceAnswered (bounds_of limits.now) world.now (jobs_of waiting.now) piece result }
+{
+    let mut answers = Vec::new(alloc);
+    for number in piece.first..piece.end {
+        gate.enter(number);
+        let job = waiting.at(u64::from(number));
+        let answer = answer_of(rt, alloc, world, &job.memoized, &job.event, limits);
+        answers.push(answer)?;
+    }
+    Ok(answers)
+}
+
+/// The answers of all pieces, one behind the other.
+fn joined(alloc: Global, parts: Vec<Result<Vec<Answer>, NoMemory>>) -> Result<Vec<Answer>, NoMemory>
+    ensures { IfOk result (λ v. Joins parts.items v.items) }
+{
+    let mut answers = Vec::new(alloc);
+    for part in parts {
+        let mut more = part?;
+        answers.append(&mut more)?;
+    }
+    Ok(answers)
+}
