@@ -11,6 +11,7 @@ mod words;
 
 use adapters::{FileShelf, WriterSink};
 use gl_base::status::Status;
+use gl_decide::Stalls;
 use run::run;
 use std::io;
 use std::process::ExitCode;
@@ -31,5 +32,13 @@ fn status_of<R: Files + Print + Env + AllocGlobal + Threads + Sync>(rt: &R) -> S
         Err(end) => return refuse_end(end, &mut out),
     };
     let mut shelf = FileShelf::new(rt);
-    run(rt, rt.alloc(), words.as_slice(), &mut shelf, &mut out)
+    let mut stalls = Stalls::new(rt.alloc());
+    run(
+        rt,
+        rt.alloc(),
+        words.as_slice(),
+        &mut shelf,
+        &mut stalls,
+        &mut out,
+    )
 }

@@ -17,6 +17,7 @@ use gl_base::shelf::Shelf;
 use gl_base::sink::Sink;
 use gl_base::status::Status;
 use gl_book::{generate, run_book, run_text};
+use gl_decide::Stalls;
 use std::alloc::Global;
 use std::thread::Threads;
 
@@ -24,12 +25,15 @@ use std::thread::Threads;
 /// event's lines before the next form is looked at. With `--generate` the book is the generator's text, and the last
 /// line alone of its transcript is written.
 ///
+/// Each line of the causes nodes and clauses adds its stall to `stalls`: what only a decision that ran out hands out.
+///
 /// `words` are those behind the program's name.
 pub fn run<R: Threads + Sync, S: Shelf, K: Sink>(
     rt: &R,
     alloc: Global,
     words: &[String],
     shelf: &mut S,
+    stalls: &mut Stalls,
     out: &mut K,
 ) -> Status
     // The words are no command.
@@ -39,21 +43,24 @@ pub fn run<R: Threads + Sync, S: Shelf, K: Sink>(
     ensures usage_front { IfNone (command_of (map string_bytes words.now)) (result ≡ Status.WriteFault → GrowsByFront (K.written out.old) (K.written out.new) usage_line) }
     ensures usage_memory { IfNone (command_of (map string_bytes words.now)) (result ≡ Status.NoMemory → out.new ≡ out.old) }
     ensures unread { IfNone (command_of (map string_bytes words.now)) (shelf.new ≡ shelf.old) }
+    ensures unstalled { IfNone (command_of (map string_bytes words.now)) (stalls.new ≡ stalls.old) }
 
     // The words make a command: what was written is its transcript with this status and the command's limits, or with
-    // `--generate` the last line of it, and a front of one where a write failed or memory was refused. Where the shelf
-    // does not tell the book's bytes, it is so for some bytes.
-    ensures transcript { IfSome (command_of (map string_bytes words.now)) (λ command. result ≢ Status.ReadFault → Writes command (S.holds shelf.old) (K.written out.old) (K.written out.new) result) }
+    // `--generate` the last line of it, and a front of one where a write failed or memory was refused. Its stalls were
+    // added, one for each line of the causes nodes and clauses, in order. Where the shelf does not tell the book's bytes,
+    // it is so for some bytes.
+    ensures transcript { IfSome (command_of (map string_bytes words.now)) (λ command. result ≢ Status.ReadFault → Writes command (S.holds shelf.old) (K.written out.old) (K.written out.new) stalls.old stalls.new result) }
 
     // Why the run failed.
     ensures read_fault { result ≡ Status.ReadFault → Rose (S.faults shelf.old) (S.faults shelf.new) }
     ensures no_read_fault { result ≢ Status.ReadFault → S.faults shelf.new ≡ S.faults shelf.old }
     ensures unwritten { result ≡ Status.ReadFault → K.written out.new ≡ K.written out.old }
+    ensures none_added { result ≡ Status.ReadFault → stalls.new ≡ stalls.old }
     ensures write_fault { result ≡ Status.WriteFault → Rose (K.faults out.old) (K.faults out.new) }
     ensures no_write_fault { result ≢ Status.WriteFault → K.faults out.new ≡ K.faults out.old }
 {
     match command_named(alloc, words) {
-        Ok(Some(command)) => run_command(rt, alloc, &command, shelf, out),
+        Ok(Some(command)) => run_command(rt, alloc, &command, shelf, stalls, out),
         Ok(None) => refuse_words(out),
         Err(_) => Status::NoMemory,
     }
@@ -65,20 +72,22 @@ fn run_command<R: Threads + Sync, S: Shelf, K: Sink>(
     alloc: Global,
     command: &Command,
     shelf: &mut S,
+    stalls: &mut Stalls,
     out: &mut K,
 ) -> Status
     requires { IsFew command.now.source }
-    ensures written { result ≢ Status.ReadFault → Writes (command_seen command.now) (S.holds shelf.old) (K.written out.old) (K.written out.new) result }
+    ensures written { result ≢ Status.ReadFault → Writes (command_seen command.now) (S.holds shelf.old) (K.written out.old) (K.written out.new) stalls.old stalls.new result }
     ensures read_fault { result ≡ Status.ReadFault → Rose (S.faults shelf.old) (S.faults shelf.new) }
     ensures no_read_fault { result ≢ Status.ReadFault → S.faults shelf.new ≡ S.faults shelf.old }
     ensures unwritten { result ≡ Status.ReadFault → K.written out.new ≡ K.written out.old }
+    ensures none_added { result ≡ Status.ReadFault → stalls.new ≡ stalls.old }
     ensures write_fault { result ≡ Status.WriteFault → Rose (K.faults out.old) (K.faults out.new) }
     ensures no_write_fault { result ≢ Status.WriteFault → K.faults out.new ≡ K.faults out.old }
     ensures no_usage { result ≢ Status.Usage }
 {
     match command.source {
-        Source::Book(name) => run_book(rt, alloc, name, &command.limits, shelf, out),
-        Source::Generated(n) => run_generated(rt, alloc, n, &command.limits, out),
+        Source::Book(name) => run_book(rt, alloc, name, &command.limits, shelf, stalls, out),
+        Source::Generated(n) => run_generated(rt, alloc, n, &command.limits, stalls, out),
     }
 }
 
@@ -88,17 +97,18 @@ fn run_generated<R: Threads + Sync, K: Sink>(
     alloc: Global,
     n: u32,
     limits: &Limits,
+    stalls: &mut Stalls,
     out: &mut K,
 ) -> Status
     requires { n ≤ 10000 }
-    ensures written { EndsWith (bounds_of limits.now) (generated n) true (K.written out.old) (K.written out.new) result }
+    ensures written { EndsWith (bounds_of limits.now) (generated n) true (K.written out.old) (K.written out.new) stalls.old stalls.new result }
     ensures write_fault { result ≡ Status.WriteFault → Rose (K.faults out.old) (K.faults out.new) }
     ensures no_write_fault { result ≢ Status.WriteFault → K.faults out.new ≡ K.faults out.old }
     ensures no_read_fault { result ≢ Status.ReadFault }
     ensures no_usage { result ≢ Status.Usage }
 {
     match generate(alloc, n) {
-        Ok(text) => run_text(rt, alloc, &text, limits, true, out),
+        Ok(text) => run_text(rt, alloc, &text, limits, true, stalls, out),
         Err(_) => Status::NoMemory,
     }
 }

@@ -5,6 +5,7 @@ use gl_base::failed::Failed;
 use gl_base::memory_sink::MemorySink;
 use gl_base::shelf::Shelf;
 use gl_base::sink::Sink;
+use gl_decide::Stalls;
 use std::io::{ErrorKind, Read, Write};
 use std::test::Fail;
 use std::{fs, io};
@@ -33,9 +34,18 @@ fn folder(rt: HostRuntime) -> Result<(), Fail> {
     let mut shelf = FileShelf::new(&rt);
     let mut out = MemorySink::new(alloc, 100, Vec::new(alloc))?;
     let words = words_in(alloc, ".")?;
-    let status = run(&rt, alloc, words.as_slice(), &mut shelf, &mut out);
+    let mut stalls = Stalls::new(alloc);
+    let status = run(
+        &rt,
+        alloc,
+        words.as_slice(),
+        &mut shelf,
+        &mut stalls,
+        &mut out,
+    );
     assert_eq!(rt; status.code(), 4);
     assert_eq!(rt; out.bytes(), b"".as_slice());
+    assert_eq!(rt; stalls.len(), 0);
     Ok(())
 }
 

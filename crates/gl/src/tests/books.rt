@@ -7,6 +7,7 @@ use gl_base::memory_sink::MemorySink;
 use gl_base::sink::Sink;
 use gl_base::sure_shelf::SureShelf;
 use gl_base::sure_sink::SureSink;
+use gl_decide::Stalls;
 use std::test::Fail;
 
 const FIRST_BOOK: &str = "(value-triple (car (cons 'a 2)))\n";
@@ -92,14 +93,14 @@ fn books_of_theorems(rt: HostRuntime) -> Result<(), Fail> {
         ),
         (
             "(def-gl-thm wide :hyp (unsigned-byte-p 12 x) :concl (< x 4096) :g-bindings (auto-bindings (:nat x 12)))",
-            "UNDECIDED WIDE unbuilt\nDONE proved=0 vacuous=0 refuted=0 undecided=1\n",
-            3,
+            "PROVED WIDE\nDONE proved=1 vacuous=0 refuted=0 undecided=0\n",
+            0,
         ),
         // 1,024 indices
         (
             "(def-gl-thm n :hyp t :concl t :g-bindings (auto-bindings (:nat a 127) (:nat b 127) (:nat c 127) (:nat d 127) (:nat e 127) (:nat f 127) (:nat g 127) (:nat h 127)))",
-            "UNDECIDED N unbuilt\nDONE proved=0 vacuous=0 refuted=0 undecided=1\n",
-            3,
+            "PROVED N\nDONE proved=1 vacuous=0 refuted=0 undecided=0\n",
+            0,
         ),
     ];
     each_gives(&rt, &rows, "")
@@ -164,7 +165,15 @@ fn slow_sinks(rt: HostRuntime) -> Result<(), Fail> {
         let inner = MemorySink::new(alloc, 100, Vec::new(alloc))?;
         let mut out = Slow { inner, step };
         let words = words_in(alloc, "b")?;
-        let status = run(&rt, alloc, words.as_slice(), &mut shelf, &mut out);
+        let mut stalls = Stalls::new(alloc);
+        let status = run(
+            &rt,
+            alloc,
+            words.as_slice(),
+            &mut shelf,
+            &mut stalls,
+            &mut out,
+        );
         assert_eq!(rt; out.inner.bytes(), FIRST_LINES.as_bytes());
         assert_eq!(rt; status.code(), 0);
     }
@@ -183,7 +192,15 @@ fn sure_shelf_and_sink(rt: HostRuntime) -> Result<(), Fail> {
     for (words, want) in [("b", FIRST_LINES), ("c", NO_LINES)] {
         let mut out = SureSink::new(alloc, 100)?;
         let words = words_in(alloc, words)?;
-        let status = run(&rt, alloc, words.as_slice(), &mut shelf, &mut out);
+        let mut stalls = Stalls::new(alloc);
+        let status = run(
+            &rt,
+            alloc,
+            words.as_slice(),
+            &mut shelf,
+            &mut stalls,
+            &mut out,
+        );
         assert_eq!(rt; out.bytes(), want.as_bytes());
         assert_eq!(rt; status.code(), 0);
     }

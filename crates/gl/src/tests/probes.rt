@@ -1,3 +1,4 @@
+mod cover;
 mod definitions;
 mod events;
 mod shapes;

@@ -150,10 +150,10 @@ fn lengths(rt: HostRuntime) -> Result<(), Fail> {
         (b'(', 4_194_304, "REFUSED 1 1001 S8\n", 2),
     ] {
         let book = vec![in alloc; byte; count]?;
-        let (bytes, code) = outcome(&rt, "b", book, 200, (&[], &[]))?;
+        let given = outcome(&rt, "b", book, 200, (&[], &[]))?;
         let want = format!(in alloc; "{want}{DONE}")?;
-        assert_eq!(rt; bytes.as_slice(), want.as_bytes(), "{byte} {count}");
-        assert_eq!(rt; code, want_code, "{byte} {count}");
+        assert_eq!(rt; given.bytes.as_slice(), want.as_bytes(), "{byte} {count}");
+        assert_eq!(rt; given.code, want_code, "{byte} {count}");
     }
     Ok(())
 }
@@ -174,9 +174,9 @@ fn zeros(alloc: Global, count: usize) -> Result<Vec<u8>, Fail> {
 fn sizes(rt: HostRuntime) -> Result<(), Fail> {
     for (count, want_len, want_code) in [(999_999, 2_000_052, 0), (1_000_000, 67, 3)] {
         let book = zeros(rt.alloc(), count)?;
-        let (bytes, code) = outcome(&rt, "--cells 4000000 b", book, 2_100_000, (&[], &[]))?;
-        assert_eq!(rt; bytes.len(), want_len, "{count}");
-        assert_eq!(rt; code, want_code, "{count}");
+        let given = outcome(&rt, "--cells 4000000 b", book, 2_100_000, (&[], &[]))?;
+        assert_eq!(rt; given.bytes.len(), want_len, "{count}");
+        assert_eq!(rt; given.code, want_code, "{count}");
     }
     Ok(())
 }

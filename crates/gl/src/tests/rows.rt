@@ -2,6 +2,7 @@ use crate::run::run;
 use gl_base::memory_shelf::MemoryShelf;
 use gl_base::memory_sink::MemorySink;
 use gl_book::generate;
+use gl_decide::Stalls;
 use std::alloc::{AllocError, Global};
 use std::process::Abort;
 use std::test::Fail;
@@ -12,24 +13,59 @@ const USAGE: &str =
 
 const DONE: &str = "DONE proved=0 vacuous=0 refuted=0 undecided=0\n";
 
-/// What a run over memory wrote, and the code of its status. The shelf holds one text, under the name `b`; the sink has
-/// room for so many bytes. The calls of the two that are listed fail.
+/// What a run over memory gave.
+#[derive(Drop)]
+pub struct Given {
+    /// What it wrote.
+    pub bytes: Vec<u8>,
+    /// The code of its status.
+    pub code: u8,
+    /// How many stalls it added.
+    pub stalls: usize,
+}
+
+/// What a run over memory gives. The shelf holds one text, under the name `b`; the sink has room for so many bytes. The
+/// calls of the two that are listed fail.
 pub fn outcome<R: AllocGlobal + Threads + Sync>(
     rt: &R,
     words: &str,
     book: Vec<u8>,
     room: usize,
     fails: (&[u64], &[u64]),
-) -> Result<(Vec<u8>, u8), Fail> {
+) -> Result<Given, Fail> {
     let alloc = rt.alloc();
     let mut shelf = shelf_of(alloc, book, fails.0.to_vec(alloc)?)?;
     let mut out = MemorySink::new(alloc, room, fails.1.to_vec(alloc)?)?;
     let words = words_in(alloc, words)?;
-    let status = run(rt, alloc, words.as_slice(), &mut shelf, &mut out);
-    Ok((out.bytes().to_vec(alloc)?, status.code()))
+    let mut stalls = Stalls::new(alloc);
+    let status = run(
+        rt,
+        alloc,
+        words.as_slice(),
+        &mut shelf,
+        &mut stalls,
+        &mut out,
+    );
+    Ok(Given {
+        bytes: out.bytes().to_vec(alloc)?,
+        code: status.code(),
+        stalls: stalls.len(),
+    })
 }
 
-/// Compares what a run over memory wrote, and the code of its status.
+/// How many lines of a transcript tell of nodes or clauses.
+fn stalls_told(lines: &str) -> usize {
+    let mut count: usize = 0;
+    for word in lines.split_whitespace() {
+        if word == "nodes" || word == "clauses" {
+            count = count.saturating_add(1);
+        }
+    }
+    count
+}
+
+/// Compares what a run over memory wrote, and the code of its status. It adds a stall for each line that tells of nodes or
+/// clauses.
 pub fn gives<R: AllocGlobal + Threads + Sync + Abort>(
     rt: &R,
     words: &str,
@@ -38,9 +74,14 @@ pub fn gives<R: AllocGlobal + Threads + Sync + Abort>(
     want: (&str, u8),
 ) -> Result<(), Fail> {
     let bytes = book.as_bytes().to_vec(rt.alloc())?;
-    let (bytes, code) = outcome(rt, words, bytes, 200_000, fails)?;
-    assert_eq!(rt; bytes.as_slice(), want.0.as_bytes(), "{words}: {book}");
-    assert_eq!(rt; code, want.1, "{words}: {book}");
+    let given = outcome(rt, words, bytes, 200_000, fails)?;
+    assert_eq!(rt;
+        given.bytes.as_slice(),
+        want.0.as_bytes(),
+        "{words}: {book}"
+    );
+    assert_eq!(rt; given.code, want.1, "{words}: {book}");
+    assert_eq!(rt; given.stalls, stalls_told(want.0), "{words}: {book}");
     Ok(())
 }
 
@@ -126,8 +167,8 @@ fn words_of_each_option(rt: HostRuntime) -> Result<(), Fail> {
         (
             "--enum-bits 3 b",
             wide,
-            "UNDECIDED W unbuilt\nDONE proved=0 vacuous=0 refuted=0 undecided=1\n",
-            3,
+            "PROVED W\nDONE proved=1 vacuous=0 refuted=0 undecided=0\n",
+            0,
         ),
         (
             "--enum-bits 4 b",

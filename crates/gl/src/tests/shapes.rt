@@ -35,7 +35,11 @@ fn first_object(
 }
 
 /// The bindings of a form; none where it is bad.
-fn bound(alloc: Global, form: &Tree, texts: &Texts) -> Result<Option<Bindings>, NoMemory> {
+pub(in crate::tests) fn bound(
+    alloc: Global,
+    form: &Tree,
+    texts: &Texts,
+) -> Result<Option<Bindings>, NoMemory> {
     match bindings(alloc, form, texts) {
         Ok(all) => Ok(Some(all)),
         Err(BindFault::Bad) => Ok(None),

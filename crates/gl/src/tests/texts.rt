@@ -3,14 +3,18 @@ ghost use Rattle.std.specs.Prelude.{◌≤◌};
 use gl_base::limits::Limits;
 use gl_base::memory_sink::MemorySink;
 use gl_book::run_text;
-use std::alloc::{AllocError, Global};
+use gl_decide::{StallCause, Stalls};
 use std::process::Abort;
 use std::test::Fail;
 use std::thread::Threads;
 
 /// A value, and a theorem of five indices.
-const TEXT: &str =
+const SMALL: &str =
     "(value-triple 1) (def-gl-thm small :hyp (unsigned-byte-p 4 x) :concl (< x 16) :g-bindings (auto-bindings (:nat x 4)))";
+
+/// A product of 12 indices, which takes more than 100 nodes.
+const TIMES: &str =
+    "(def-gl-thm times :hyp (and (unsigned-byte-p 5 x) (unsigned-byte-p 5 y)) :concl (equal (* x y) (* y x)) :g-bindings (auto-bindings (:mix (:nat x 5) (:nat y 5))))";
 
 fn limits(enum_bits: u8) -> Limits
     requires { enum_bits ≤ 16 }
@@ -19,128 +23,65 @@ fn limits(enum_bits: u8) -> Limits
     Limits {
         steps: usual.steps,
         cells: usual.cells,
-        nodes: usual.nodes,
+        nodes: 100,
         clauses: usual.clauses,
         enum_bits,
         workers: usual.workers,
     }
 }
 
-/// Compares what a run over a text wrote, and the code of its status.
+/// Compares what a run over a text wrote, and the code of its status. Each stall that it adds is one of 100 nodes.
 fn gives<R: AllocGlobal + Threads + Sync + Abort>(
     rt: &R,
     text: &str,
-    limits: &Limits,
+    enum_bits: u8,
     last_only: bool,
-    want: (&str, u8),
-) -> Result<(), Fail> {
+    want: (&str, u8, usize),
+) -> Result<(), Fail>
+    requires { enum_bits ≤ 16 }
+{
     let alloc = rt.alloc();
     let mut out = MemorySink::new(alloc, 200, Vec::new(alloc))?;
-    let status = run_text(rt, alloc, text.as_bytes(), limits, last_only, &mut out);
+    let mut stalls = Stalls::new(alloc);
+    let status = run_text(
+        rt,
+        alloc,
+        text.as_bytes(),
+        &limits(enum_bits),
+        last_only,
+        &mut stalls,
+        &mut out,
+    );
     assert_eq!(rt;
         out.bytes(),
         want.0.as_bytes(),
         "{text}, last only: {last_only}"
     );
     assert_eq!(rt; status.code(), want.1, "{text}, last only: {last_only}");
-    Ok(())
-}
-
-#[test]
-fn whole_or_by_the_last_line(rt: HostRuntime) -> Result<(), Fail> {
-    for (limits, last_only, want, want_code) in [
-        (
-            limits(5),
-            false,
-            "VALUE 1\nPROVED SMALL\nDONE proved=1 vacuous=0 refuted=0 undecided=0\n",
-            0,
-        ),
-        (
-            limits(5),
-            true,
-            "DONE proved=1 vacuous=0 refuted=0 undecided=0\n",
-            0,
-        ),
-        (
-            limits(4),
-            false,
-            "VALUE 1\nUNDECIDED SMALL unbuilt\nDONE proved=0 vacuous=0 refuted=0 undecided=1\n",
-            3,
-        ),
-        (
-            limits(4),
-            true,
-            "DONE proved=0 vacuous=0 refuted=0 undecided=1\n",
-            3,
-        ),
-    ] {
-        gives(&rt, TEXT, &limits, last_only, (want, want_code))?;
+    assert_eq!(rt; stalls.len(), want.2, "{text}, last only: {last_only}");
+    for i in 0..stalls.len() {
+        assert_eq!(rt; stalls.at(i).cause(), StallCause::Nodes(100));
     }
     Ok(())
 }
 
-/// A theorem of `x` with two indices and `y` with one.
-fn theorem(alloc: Global, hyp: &str, concl: &str) -> Result<String, AllocError> {
-    format!(in alloc;
-        "(def-gl-thm th :hyp {hyp} :concl {concl} :g-bindings (auto-bindings (:nat x 1) (:nat y 0)))"
-    )
-}
-
+/// A theorem of as many indices as are scanned has a verdict where its nodes do not suffice; one of more is undecided.
 #[test]
-fn decided_within_few_indices(rt: HostRuntime) -> Result<(), Fail> {
-    let alloc = rt.alloc();
-    for (enum_bits, hyp, concl, want, want_code) in [
-        (
-            3,
-            "(if (unsigned-byte-p 1 x) (< x 2) nil)",
-            "(< x 2)",
-            "PROVED TH\nDONE proved=1 vacuous=0 refuted=0 undecided=0\n",
-            0,
-        ),
-        (
-            3,
-            "(if (unsigned-byte-p 1 x) (< x 0) nil)",
-            "(< x 2)",
-            "VACUOUS TH\nDONE proved=0 vacuous=1 refuted=0 undecided=0\n",
-            0,
-        ),
-        (
-            3,
-            "(if (unsigned-byte-p 1 x) (< x 2) nil)",
-            "(< x 1)",
-            "REFUTED TH\n  X = 1\n  Y = 0\nDONE proved=0 vacuous=0 refuted=1 undecided=0\n",
-            1,
-        ),
-        (
-            3,
-            "(if (unsigned-byte-p 1 x) (< x 2) nil)",
-            "(< x 0)",
-            "REFUTED TH\n  X = 0\n  Y = 0\nDONE proved=0 vacuous=0 refuted=1 undecided=0\n",
-            1,
-        ),
-        (
-            3,
-            "(< y 1)",
-            "(< x 2)",
-            "UNDECIDED TH uncovered X\nDONE proved=0 vacuous=0 refuted=0 undecided=1\n",
-            3,
-        ),
-        (
-            2,
-            "(unsigned-byte-p 1 x)",
-            "(< x 2)",
-            "UNDECIDED TH unbuilt\nDONE proved=0 vacuous=0 refuted=0 undecided=1\n",
-            3,
-        ),
+fn whole_or_by_the_last_line(rt: HostRuntime) -> Result<(), Fail> {
+    let proved = "DONE proved=1 vacuous=0 refuted=0 undecided=0\n";
+    let undecided = "DONE proved=0 vacuous=0 refuted=0 undecided=1\n";
+    let proved_whole = "PROVED TIMES\nDONE proved=1 vacuous=0 refuted=0 undecided=0\n";
+    let undecided_whole = "UNDECIDED TIMES nodes\nDONE proved=0 vacuous=0 refuted=0 undecided=1\n";
+    let small_whole = "VALUE 1\nPROVED SMALL\nDONE proved=1 vacuous=0 refuted=0 undecided=0\n";
+    for (text, enum_bits, last_only, want) in [
+        (SMALL, 5, false, (small_whole, 0, 0)),
+        (SMALL, 4, true, (proved, 0, 0)),
+        (TIMES, 12, false, (proved_whole, 0, 0)),
+        (TIMES, 12, true, (proved, 0, 0)),
+        (TIMES, 11, false, (undecided_whole, 3, 1)),
+        (TIMES, 11, true, (undecided, 3, 1)),
     ] {
-        let text = theorem(alloc, hyp, concl)?;
-        gives(
-            &rt,
-            text.as_str(),
-            &limits(enum_bits),
-            false,
-            (want, want_code),
-        )?;
+        gives(&rt, text, enum_bits, last_only, want)?;
     }
     Ok(())
 }

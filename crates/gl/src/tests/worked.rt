@@ -1,9 +1,9 @@
-//! Worked books: values, definitions, constants, memoized functions, fast alists, theorems.
+//! Worked books: values, definitions, constants, memoized functions, fast alists, refusals.
 
 use super::rows::{Row, all_give};
 use std::test::Fail;
 
-const ROWS: [Row; 38] = [
+const ROWS: [Row; 32] = [
     (
         "b",
         "",
@@ -102,81 +102,27 @@ const ROWS: [Row; 38] = [
     ),
     (
         "b",
-        "(in-package \"ACL2\")\n(include-book \"centaur/gl/gl\" :dir :system)\n(defun fast-logcount-32 (v)\n  (let* ((v (- v (logand (ash v -1) #x55555555)))\n         (v (+ (logand v #x33333333) (logand (ash v -2) #x33333333))))\n    (ash (logand (* (logand (+ v (ash v -4)) #xF0F0F0F) #x1010101) #xffffffff) -24)))\n(value-triple (fast-logcount-32 #xF0F0))\n",
-        "DEFUN FAST-LOGCOUNT-32\nVALUE 8\nDONE proved=0 vacuous=0 refuted=0 undecided=0\n",
-        0,
-    ),
-    (
-        "b",
-        "(def-gl-thm small :hyp (unsigned-byte-p 4 x) :concl (< x 15) :g-bindings `((x ,(g-int 0 1 5))))\n",
-        "REFUTED SMALL\n  X = 15\nDONE proved=0 vacuous=0 refuted=1 undecided=0\n",
-        1,
-    ),
-    (
-        "b",
-        "(def-gl-thm short :hyp (unsigned-byte-p 8 x) :concl (integerp x) :g-bindings `((x ,(g-int 0 1 8))))\n",
-        "UNDECIDED SHORT uncovered X\nDONE proved=0 vacuous=0 refuted=0 undecided=1\n",
-        3,
-    ),
-    (
-        "b",
-        "(def-gl-thm short :hyp (unsigned-byte-p 8 x) :concl (integerp x) :g-bindings `((x ,(g-int 0 1 9))))\n",
-        "PROVED SHORT\nDONE proved=1 vacuous=0 refuted=0 undecided=0\n",
-        0,
-    ),
-    (
-        "b",
-        "(def-gl-thm none :hyp (and (unsigned-byte-p 4 x) (< x 0)) :concl (equal x 77) :g-bindings `((x ,(g-int 0 1 5))))\n",
-        "VACUOUS NONE\nDONE proved=0 vacuous=1 refuted=0 undecided=0\n",
-        0,
-    ),
-    (
-        "b",
-        "(defun down (n) (if (zp n) 0 (down (- n 1))))\n(def-gl-thm low :hyp (unsigned-byte-p 2 x) :concl (equal (down x) 0) :concl-clk 5 :g-bindings `((x ,(g-int 0 1 3))))\n",
-        "DEFUN DOWN (ACL2-COUNT N)\nPROVED LOW\nDONE proved=1 vacuous=0 refuted=0 undecided=0\n",
-        0,
-    ),
-    (
-        "b",
-        "(def-gl-thm times :hyp (and (unsigned-byte-p 5 x) (unsigned-byte-p 5 y)) :concl (equal (* x y) (* y x)) :g-bindings (auto-bindings (:mix (:nat x 5) (:nat y 5))))\n",
-        "PROVED TIMES\nDONE proved=1 vacuous=0 refuted=0 undecided=0\n",
-        0,
-    ),
-    (
-        "--enum-bits 14 b",
-        "(def-gl-thm cc :hyp (unsigned-byte-p 13 x) :concl (if (equal x 9) (characterp (code-char x)) t) :g-bindings `((x ,(g-int 0 1 14))))\n",
-        "PROVED CC\nDONE proved=1 vacuous=0 refuted=0 undecided=0\n",
-        0,
-    ),
-    (
-        "--steps 1000 b",
-        "(defun fib (n) (declare (xargs :measure (nfix n))) (if (zp n) 0 (if (equal n 1) 1 (+ (fib (- n 1)) (fib (- n 2))))))\n(def-gl-thm slow :hyp (equal x 25) :concl (equal (fib x) 75025) :g-bindings '((x 25)))\n",
-        "DEFUN FIB (NFIX N)\nUNDECIDED SLOW steps concl\n  X = 25\nDONE proved=0 vacuous=0 refuted=0 undecided=1\n",
-        3,
-    ),
-    (
-        "--steps 630 b",
-        "(defun fib (n) (declare (xargs :measure (nfix n))) (if (zp n) 0 (if (equal n 1) 1 (+ (fib (- n 1)) (fib (- n 2))))))\n(memoize 'fib)\n(def-gl-thm slow :hyp (equal x 25) :concl (equal (fib x) 75025) :g-bindings '((x 25)))\n",
-        "DEFUN FIB (NFIX N)\nMEMOIZE FIB\nPROVED SLOW\nDONE proved=1 vacuous=0 refuted=0 undecided=0\n",
-        0,
-    ),
-    (
-        "b",
-        "(def-gl-thm pick :hyp (and (true-listp l) (equal (len l) 2) (booleanp (car l)) (booleanp (nth 1 l))) :concl (implies (car l) (member-equal t l)) :g-bindings '((l ((:g-boolean . 0) (:g-boolean . 1)))))\n",
-        "PROVED PICK\nDONE proved=1 vacuous=0 refuted=0 undecided=0\n",
-        0,
-    ),
-    (
-        "b",
-        "(def-gl-thm pick :hyp (and (true-listp l) (equal (len l) 2) (booleanp (car l))) :concl (implies (car l) (member-equal t l)) :g-bindings '((l ((:g-boolean . 0) (:g-boolean . 1)))))\n",
-        "UNDECIDED PICK uncovered L\nDONE proved=0 vacuous=0 refuted=0 undecided=1\n",
-        3,
-    ),
-    (
-        "b",
         "(defconst *n* (+ 2 3)) ; five\n(value-triple '(a . (#\\Space \"q\\\"r\" :k -0)))\n(assert-event (equal (* *n* *n*) 25))\n(assert-event nil)\n",
         "DEFCONST *N* 5\nVALUE (A #\\Space \"q\\\"r\" :K 0)\nASSERT ok\nASSERT nil\nDONE proved=0 vacuous=0 refuted=0 undecided=0\n",
         1,
+    ),
+    (
+        "--steps 3 b",
+        "(value-triple (cons 1 2))\n",
+        "VALUE (1 . 2)\nDONE proved=0 vacuous=0 refuted=0 undecided=0\n",
+        0,
+    ),
+    (
+        "--steps 2 b",
+        "(value-triple (cons 1 2))\n",
+        "VALUE undecided steps\nDONE proved=0 vacuous=0 refuted=0 undecided=1\n",
+        3,
+    ),
+    (
+        "b",
+        "(defun ack (m n) (declare (xargs :measure (make-ord 1 (+ 1 (nfix m)) (nfix n)))) (if (zp m) (+ n 1) (if (zp n) (ack (- m 1) 1) (ack (- m 1) (ack m (- n 1))))))\n(value-triple (ack 2 3))\n",
+        "DEFUN ACK (MAKE-ORD 1 (+ 1 (NFIX M)) (NFIX N))\nVALUE 9\nDONE proved=0 vacuous=0 refuted=0 undecided=0\n",
+        0,
     ),
     (
         "b",
@@ -189,12 +135,6 @@ const ROWS: [Row; 38] = [
         "(defun mk (n) (if (zp n) nil (cons n (mk (- n 1)))))\n(value-triple (len (mk 10000)))\n",
         "DEFUN MK (ACL2-COUNT N)\nVALUE undecided cells\nDONE proved=0 vacuous=0 refuted=0 undecided=1\n",
         3,
-    ),
-    (
-        "b",
-        "(defun ack (m n) (declare (xargs :measure (make-ord 1 (+ 1 (nfix m)) (nfix n)))) (if (zp m) (+ n 1) (if (zp n) (ack (- m 1) 1) (ack (- m 1) (ack m (- n 1))))))\n(value-triple (ack 2 3))\n",
-        "DEFUN ACK (MAKE-ORD 1 (+ 1 (NFIX M)) (NFIX N))\nVALUE 9\nDONE proved=0 vacuous=0 refuted=0 undecided=0\n",
-        0,
     ),
     (
         "b",
@@ -216,12 +156,6 @@ const ROWS: [Row; 38] = [
     ),
     (
         "b",
-        "(mutual-recursion (defun ev (n) (if (zp n) t (od (- n 1)))) (defun od (n) (if (zp n) nil (ev (- n 1)))))\n(def-gl-thm eo :hyp (unsigned-byte-p 4 x) :concl (iff (ev x) (not (od x))) :g-bindings `((x ,(g-int 0 1 5))))\n",
-        "DEFUN EV (ACL2-COUNT N)\nDEFUN OD (ACL2-COUNT N)\nPROVED EO\nDONE proved=1 vacuous=0 refuted=0 undecided=0\n",
-        0,
-    ),
-    (
-        "b",
         "(defconst *w* (+ 170141183460469231731687303715884105727 1))\n(value-triple 1)\n",
         "REFUSED 1 1 V9 width\nDONE proved=0 vacuous=0 refuted=0 undecided=0\n",
         2,
@@ -230,6 +164,36 @@ const ROWS: [Row; 38] = [
         "--generate 2",
         "",
         "DONE proved=1 vacuous=0 refuted=1 undecided=0\n",
+        1,
+    ),
+    (
+        "b",
+        "(value-triple (foo 1))\n",
+        "REFUSED 1 1 V4\nDONE proved=0 vacuous=0 refuted=0 undecided=0\n",
+        2,
+    ),
+    (
+        "b",
+        "(value-triple (car))\n",
+        "REFUSED 1 1 V5\nDONE proved=0 vacuous=0 refuted=0 undecided=0\n",
+        2,
+    ),
+    (
+        "b",
+        "(value-triple x)\n",
+        "REFUSED 1 1 V6\nDONE proved=0 vacuous=0 refuted=0 undecided=0\n",
+        2,
+    ),
+    (
+        "b",
+        "(value-triple (let ((x 1) (x 2)) x))\n",
+        "REFUSED 1 1 V7\nDONE proved=0 vacuous=0 refuted=0 undecided=0\n",
+        2,
+    ),
+    (
+        "--generate 200",
+        "",
+        "DONE proved=100 vacuous=0 refuted=100 undecided=0\n",
         1,
     ),
 ];

@@ -2,6 +2,7 @@ use Rattle.std.proofs.Common.{◌≡◌, refl, inr, true, map, string_bytes, ℕ
 use Rattle.std.specs.Prelude.{IfNone, IfSome}
 use Rattle.gl_base.specs.declared.status.Status.TheVariants as status
 use Rattle.gl_decide.specs.Bounds.{Bounds}
+use Rattle.gl_decide.specs.Stalls.{StallSeen}
 use Rattle.gl_book.specs.Generated.{generated}
 use Rattle.gl_book.proofs.Ends.{nothing_written, of_no_memory}
 use Rattle.gl.specs.Words.{Source, Book, Generated, command_of}
@@ -16,9 +17,9 @@ some_known : {A : Type 0} (P : A → Type 0) (o : Option A) → ((x : A) → P x
 some_known P None f = tt
 some_known P (Some x) f = f x
 
-from_nothing : (s : Source) (bounds : Bounds) (holds : List ℕ → Option (List ℕ)) (old : Option (List ℕ)) → WritesFrom s bounds holds old old status.NoMemory
-from_nothing (Book name) bounds holds old = of_no_memory bounds (holds name) old old refl
-from_nothing (Generated n) bounds holds old = nothing_written bounds (generated n) true old old refl
+from_nothing : (s : Source) (bounds : Bounds) (holds : List ℕ → Option (List ℕ)) (old : Option (List ℕ)) (stalls : List StallSeen) → WritesFrom s bounds holds old old stalls stalls status.NoMemory
+from_nothing (Book name) bounds holds old stalls = of_no_memory bounds (holds name) old old stalls stalls refl refl
+from_nothing (Generated n) bounds holds old stalls = nothing_written bounds (generated n) true old old stalls stalls refl refl
 
 pub returns-in-Err-clause-no_command : goal.returns-in-Err-clause-no_command
 returns-in-Err-clause-no_command g c = none_known (command_of (map string_bytes c.args.words.now)) (inr (inr refl))
@@ -32,6 +33,9 @@ returns-in-Err-clause-usage_memory g c = none_known (command_of (map string_byte
 pub returns-in-Err-clause-unread : goal.returns-in-Err-clause-unread
 returns-in-Err-clause-unread g c = none_known (command_of (map string_bytes c.args.words.now)) refl
 
+pub returns-in-Err-clause-unstalled : goal.returns-in-Err-clause-unstalled
+returns-in-Err-clause-unstalled g c = none_known (command_of (map string_bytes c.args.words.now)) refl
+
 pub returns-in-Err-clause-transcript : goal.returns-in-Err-clause-transcript
 returns-in-Err-clause-transcript g c =
-    some_known _ (command_of (map string_bytes c.args.words.now)) (λ command e. from_nothing command.source command.bounds (g.S.Shelf.holds c.args.shelf.now) (g.K.Sink.written c.args.out.now))
+    some_known _ (command_of (map string_bytes c.args.words.now)) (λ command e. from_nothing command.source command.bounds (g.S.Shelf.holds c.args.shelf.now) (g.K.Sink.written c.args.out.now) c.args.stalls.now)

@@ -5,4 +5,4 @@ use Rattle.gl_book.proofs.Ends.{nothing_written}
 use Rattle.gl.proofs.run.run_generated.Goals as goal
 
 pub returns-in-Err-clause-written : goal.returns-in-Err-clause-written
-returns-in-Err-clause-written g c = nothing_written (bounds_of c.args.limits.now) (generated c.args.n) true _ _ refl
+returns-in-Err-clause-written g c = nothing_written (bounds_of c.args.limits.now) (generated c.args.n) true _ _ _ _ refl refl

@@ -1,0 +1,10 @@
+(in-package "ACL2")
+(include-book "centaur/gl/gl" :dir :system)
+(defun fast-logcount-32 (v)
+  (let* ((v (- v (logand (ash v -1) #x55555555)))
+         (v (+ (logand v #x33333333) (logand (ash v -2) #x33333333))))
+    (ash (logand (* (logand (+ v (ash v -4)) #xF0F0F0F) #x1010101) #xffffffff) -24)))
+(def-gl-thm fast-logcount-32-correct
+  :hyp (unsigned-byte-p 32 x)
+  :concl (equal (fast-logcount-32 x) (logcount x))
+  :g-bindings `((x ,(g-int 0 1 33))))

@@ -1,0 +1,127 @@
+//! Calls of the outside that fail, in a book with every event and every verdict.
+
+use super::rows::outcome;
+use std::process::Abort;
+use std::test::Fail;
+use std::thread::Threads;
+
+const WORDS: &str = "--steps 50000 --cells 1000 --nodes 3000 --clauses 10 b";
+
+const BOOK: &str = "(in-package \"ACL2\")\n\
+(include-book \"centaur/gl/gl\" :dir :system)\n\
+(defun down (n) (if (zp n) 0 (down (- n 1))))\n\
+(mutual-recursion (defun ev (n) (if (zp n) t (od (- n 1)))) (defun od (n) (if (zp n) nil (ev (- n 1)))))\n\
+(defun fib (n) (declare (xargs :measure (nfix n))) (if (zp n) 0 (if (equal n 1) 1 (+ (fib (- n 1)) (fib (- n 2))))))\n\
+(defconst *c* (+ 2 3))\n\
+(value-triple (down *c*))\n\
+(value-triple (+ 170141183460469231731687303715884105727 1))\n\
+(assert-event (ev 10))\n\
+(assert-event (od 10))\n\
+(memoize 'fib)\n\
+(value-triple (fib 40))\n\
+(unmemoize 'fib)\n\
+(defun down (n) (if (zp n) 0 (down (- n 1))))\n\
+(def-gl-thm proved :hyp (unsigned-byte-p 13 x) :concl (< x 8192) :g-bindings (auto-bindings (:nat x 13)))\n\
+(def-gl-thm vacuous :hyp (and (unsigned-byte-p 4 x) (< x 0)) :concl (equal x 77) :g-bindings (auto-bindings (:nat x 4)))\n\
+(def-gl-thm refuted :hyp (unsigned-byte-p 4 x) :concl (< x 15) :g-bindings (auto-bindings (:nat x 4)))\n\
+(def-gl-thm uncovered :hyp (unsigned-byte-p 8 x) :concl (integerp x) :g-bindings (auto-bindings (:nat x 7)))\n\
+(def-gl-thm clock :hyp (unsigned-byte-p 2 x) :concl (equal (down x) 0) :concl-clk 4 :g-bindings (auto-bindings (:nat x 2)))\n\
+(def-gl-thm width :hyp (equal x 2) :concl (equal (* x 85070591730234615865843651857942052864) x) :g-bindings '((x 2)))\n\
+(def-gl-thm steps :hyp (equal x 25) :concl (equal (fib x) 75025) :g-bindings '((x 25)))\n\
+(def-gl-thm cells :hyp (equal x 2000) :concl (equal (down x) 0) :g-bindings '((x 2000)))\n\
+(def-gl-thm nodes :hyp (and (unsigned-byte-p 16 x) (unsigned-byte-p 16 y)) :concl (equal (* x y) (* y x)) :g-bindings (auto-bindings (:mix (:nat x 16) (:nat y 16))))\n\
+(gl-satlink-mode)\n\
+(def-gl-thm clauses :hyp (and (unsigned-byte-p 8 x) (unsigned-byte-p 8 y)) :concl (equal (* x (+ y 1)) (+ (* x y) x)) :g-bindings (auto-bindings (:mix (:nat x 8) (:nat y 8))))\n\
+(gl-bdd-mode)\n\
+(value-triple x)\n\
+(value-triple 1)\n\
+";
+
+/// The lines of its transcript.
+const LINES: [&str; 32] = [
+    "DEFUN DOWN (ACL2-COUNT N)\n",
+    "DEFUN EV (ACL2-COUNT N)\n",
+    "DEFUN OD (ACL2-COUNT N)\n",
+    "DEFUN FIB (NFIX N)\n",
+    "DEFCONST *C* 5\n",
+    "VALUE 0\n",
+    "VALUE undecided width\n",
+    "ASSERT ok\n",
+    "ASSERT nil\n",
+    "MEMOIZE FIB\n",
+    "VALUE 102334155\n",
+    "UNMEMOIZE FIB\n",
+    "REDUNDANT DOWN\n",
+    "PROVED PROVED\n",
+    "VACUOUS VACUOUS\n",
+    "REFUTED REFUTED\n",
+    "  X = 15\n",
+    "UNDECIDED UNCOVERED uncovered X\n",
+    "UNDECIDED CLOCK clock concl\n",
+    "  X = 3\n",
+    "UNDECIDED WIDTH width concl\n",
+    "  X = 2\n",
+    "UNDECIDED STEPS steps concl\n",
+    "  X = 25\n",
+    "UNDECIDED CELLS cells concl\n",
+    "  X = 2000\n",
+    "UNDECIDED NODES nodes\n",
+    "MODE SAT\n",
+    "UNDECIDED CLAUSES clauses\n",
+    "MODE BDD\n",
+    "REFUSED 27 1 V6\n",
+    "DONE proved=1 vacuous=1 refuted=1 undecided=8\n",
+];
+
+/// The number of the line of a theorem that ran out of nodes, and of one that ran out of clauses, from 1.
+const STALLED: [u64; 2] = [27, 29];
+
+/// Runs the book where a call of the shelf and one of the sink fail. What is written are the first lines, so many; the last
+/// line that was begun has put its stall before it is written.
+fn fails<R: AllocGlobal + Threads + Sync + Abort>(
+    rt: &R,
+    shelf_call: u64,
+    sink_call: u64,
+    taken: u64,
+    status: u8,
+) -> Result<(), Fail> {
+    let alloc = rt.alloc();
+    let book = BOOK.as_bytes().to_vec(alloc)?;
+    let given = outcome(rt, WORDS, book, 2000, (&[shelf_call], &[sink_call]))?;
+    let mut want = Vec::new(alloc);
+    let mut number: u64 = 0;
+    for line in &LINES {
+        number = number.saturating_add(1);
+        if number <= taken {
+            want.extend_from_slice(line.as_bytes())?;
+        }
+    }
+    let mut stalls: usize = 0;
+    for line in STALLED {
+        if line <= sink_call {
+            stalls = stalls.saturating_add(1);
+        }
+    }
+    assert_eq!(rt;
+        given.bytes.as_slice(),
+        want.as_slice(),
+        "{shelf_call}, {sink_call}"
+    );
+    assert_eq!(rt; given.code, status, "{shelf_call}, {sink_call}");
+    assert_eq!(rt; given.stalls, stalls, "{shelf_call}, {sink_call}");
+    Ok(())
+}
+
+#[test]
+fn each_call_fails_once(rt: HostRuntime) -> Result<(), Fail> {
+    // the calls of the sink: each line, and the flush
+    for call in 1..34 {
+        fails(&rt, 0, call, call - 1, 5)?;
+    }
+    fails(&rt, 0, 34, 32, 2)?;
+    // the calls of the shelf: open, the bytes, the end
+    for call in 1..4 {
+        fails(&rt, call, 0, 0, 4)?;
+    }
+    Ok(())
+}
