@@ -1,5 +1,5 @@
-; An arithmetic and logic unit of eight operations on words of three bits, against a reference that is written another way.
-(defun word (x) (logand x 7))
+; An arithmetic and logic unit of eight operations on words of 32 bits, against a reference that is written another way.
+(defun word (x) (logand x #xffffffff))
 
 (defun alu (op x y)
   (word (case op
@@ -18,12 +18,12 @@
              ((equal op 2) (logand x y))
              ((equal op 3) (logior x y))
              ((equal op 4) (logxor x y))
-             ((equal op 5) (- 7 x))
+             ((equal op 5) (- #xffffffff x))
              ((equal op 6) (* 2 x))
              (t (floor x 2)))
-       8))
+       (ash 1 32)))
 
 (def-gl-thm alu-meets-its-reference
-  :hyp (and (unsigned-byte-p 3 op) (unsigned-byte-p 3 x) (unsigned-byte-p 3 y))
+  :hyp (and (unsigned-byte-p 3 op) (unsigned-byte-p 32 x) (unsigned-byte-p 32 y))
   :concl (equal (alu op x y) (reference op x y))
-  :g-bindings (auto-bindings (:nat op 3) (:mix (:nat x 3) (:nat y 3))))
+  :g-bindings (auto-bindings (:nat op 3) (:mix (:nat x 32) (:nat y 32))))

@@ -1,4 +1,4 @@
-; A ripple adder whose carry forgets one of its three cases. The theorem fails, and an input shows where.
+; A ripple adder of 32 bits whose carry forgets one of its three cases. The theorem fails, and an input shows where.
 (defun bit-of (b) (if b 1 0))
 
 (defun carry-out (a b c)
@@ -15,6 +15,6 @@
                     (ash y -1))))))
 
 (def-gl-thm ripple-adds
-  :hyp (and (unsigned-byte-p 4 x) (unsigned-byte-p 4 y))
-  :concl (equal (ripple 5 nil x y) (+ x y))
-  :g-bindings (auto-bindings (:mix (:nat x 4) (:nat y 4))))
+  :hyp (and (unsigned-byte-p 32 x) (unsigned-byte-p 32 y))
+  :concl (equal (ripple 33 nil x y) (+ x y))
+  :g-bindings (auto-bindings (:mix (:nat x 32) (:nat y 32))))

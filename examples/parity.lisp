@@ -1,4 +1,5 @@
-; The parity of a byte, along a chain and by folding the byte onto itself. The mode for later theorems is that of satisfiability.
+; The parity of a word of 16 bits, along a chain and by folding the word onto itself. The mode for later theorems is that of
+; satisfiability: a search looks for a word on which the two differ, and that there is none is checked before it is believed.
 (gl-satlink-mode)
 
 (defun chain (n x)
@@ -8,12 +9,13 @@
     (xor (logbitp (- n 1) x) (chain (- n 1) x))))
 
 (defun folded (x)
-  (let* ((x (logxor x (ash x -4)))
+  (let* ((x (logxor x (ash x -8)))
+         (x (logxor x (ash x -4)))
          (x (logxor x (ash x -2)))
          (x (logxor x (ash x -1))))
     (logbitp 0 x)))
 
 (def-gl-thm fold-is-chain
-  :hyp (unsigned-byte-p 8 x)
-  :concl (iff (folded x) (chain 8 x))
-  :g-bindings (auto-bindings (:nat x 8)))
+  :hyp (unsigned-byte-p 16 x)
+  :concl (iff (folded x) (chain 16 x))
+  :g-bindings (auto-bindings (:nat x 16)))

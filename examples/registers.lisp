@@ -1,4 +1,4 @@
-; A register file as a fast alist: writing puts a pair in front, reading finds the first one.
+; A file of registers of 32 bits as a fast alist: writing puts a pair in front, reading finds the first one.
 (defun write-register (name value file)
   (hons-acons name value file))
 
@@ -19,8 +19,8 @@
 
 ; Three exclusive ors swap two registers.
 (def-gl-thm xors-swap
-  :hyp (and (unsigned-byte-p 5 x) (unsigned-byte-p 5 y))
+  :hyp (and (unsigned-byte-p 32 x) (unsigned-byte-p 32 y))
   :concl (let ((file (swapped (write-register 'b y (write-register 'a x nil)))))
            (and (equal (read-register 'a file) y)
                 (equal (read-register 'b file) x)))
-  :g-bindings (auto-bindings (:mix (:nat x 5) (:nat y 5))))
+  :g-bindings (auto-bindings (:mix (:nat x 32) (:nat y 32))))

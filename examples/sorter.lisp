@@ -1,4 +1,4 @@
-; A network of five comparators that sorts four numbers of two bits.
+; A network of five comparators that sorts four numbers of six bits.
 (defun sorted (a b c d)
   (let* ((low1 (min a b)) (high1 (max a b))
          (low2 (min c d)) (high2 (max c d))
@@ -16,16 +16,12 @@
         (t (times x (cdr l)))))
 
 (def-gl-thm output-ascends
-  :hyp (and (unsigned-byte-p 2 a) (unsigned-byte-p 2 b) (unsigned-byte-p 2 c) (unsigned-byte-p 2 d))
+  :hyp (and (unsigned-byte-p 6 a) (unsigned-byte-p 6 b) (unsigned-byte-p 6 c) (unsigned-byte-p 6 d))
   :concl (ascends (sorted a b c d))
-  :g-bindings (auto-bindings (:nat a 2) (:nat b 2) (:nat c 2) (:nat d 2)))
+  :g-bindings (auto-bindings (:mix (:nat a 6) (:nat b 6) (:nat c 6) (:nat d 6))))
 
 ; Each number comes out as often as it goes in.
 (def-gl-thm nothing-is-lost
-  :hyp (and (unsigned-byte-p 2 a) (unsigned-byte-p 2 b) (unsigned-byte-p 2 c) (unsigned-byte-p 2 d))
-  :concl (let ((in (list a b c d)) (out (sorted a b c d)))
-           (and (equal (times 0 out) (times 0 in))
-                (equal (times 1 out) (times 1 in))
-                (equal (times 2 out) (times 2 in))
-                (equal (times 3 out) (times 3 in))))
-  :g-bindings (auto-bindings (:nat a 2) (:nat b 2) (:nat c 2) (:nat d 2)))
+  :hyp (and (unsigned-byte-p 6 a) (unsigned-byte-p 6 b) (unsigned-byte-p 6 c) (unsigned-byte-p 6 d) (unsigned-byte-p 6 x))
+  :concl (equal (times x (sorted a b c d)) (times x (list a b c d)))
+  :g-bindings (auto-bindings (:mix (:nat a 6) (:nat b 6) (:nat c 6) (:nat d 6) (:nat x 6))))
