@@ -1,0 +1,5 @@
+(def-gl-thm sums :hyp (and (unsigned-byte-p 3 x) (unsigned-byte-p 3 y)) :concl (equal (+ x y) (+ y x)) :g-bindings (auto-bindings (:mix (:nat x 3) (:nat y 3))))
+(def-gl-thm below :hyp (unsigned-byte-p 4 x) :concl (< x 15) :g-bindings (auto-bindings (:nat x 4)))
+(def-gl-thm none :hyp (and (unsigned-byte-p 4 x) (< x 0)) :concl (equal x 77) :g-bindings (auto-bindings (:nat x 4)))
+(def-gl-thm narrow :hyp (unsigned-byte-p 8 x) :concl (integerp x) :g-bindings (auto-bindings (:nat x 7)))
+(def-gl-thm pick :hyp (and (true-listp l) (equal (len l) 2) (booleanp (car l)) (booleanp (nth 1 l))) :concl (implies (car l) (member-equal t l)) :g-bindings '((l ((:g-boolean . 0) (:g-boolean . 1)))))

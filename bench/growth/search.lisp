@@ -1,0 +1,5 @@
+(gl-satlink-mode)
+(def-gl-thm xors :hyp (and (unsigned-byte-p 3 x) (unsigned-byte-p 3 y)) :concl (equal (logxor x y) (- (+ x y) (* 2 (logand x y)))) :g-bindings (auto-bindings (:mix (:nat x 3) (:nat y 3))))
+(def-gl-thm product :hyp (and (unsigned-byte-p 3 x) (unsigned-byte-p 3 y)) :concl (not (equal (* x y) 35)) :g-bindings (auto-bindings (:mix (:nat x 3) (:nat y 3))))
+(gl-bdd-mode)
+(value-triple x)

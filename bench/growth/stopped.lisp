@@ -1,0 +1,7 @@
+(defun down (n) (if (zp n) 0 (down (- n 1))))
+(def-gl-thm clock :hyp (unsigned-byte-p 2 x) :concl (equal (down x) 0) :concl-clk 4 :g-bindings (auto-bindings (:nat x 2)))
+(def-gl-thm width :hyp (equal x 2) :concl (equal (* x 85070591730234615865843651857942052864) x) :g-bindings '((x 2)))
+(def-gl-thm steps :hyp (equal x 200) :concl (equal (down x) 0) :g-bindings '((x 200)))
+(def-gl-thm nodes :hyp (and (unsigned-byte-p 5 x) (unsigned-byte-p 5 y)) :concl (equal (* x y) (* y x)) :g-bindings (auto-bindings (:mix (:nat x 5) (:nat y 5))))
+(gl-satlink-mode)
+(def-gl-thm clauses :hyp (and (unsigned-byte-p 5 x) (unsigned-byte-p 5 y)) :concl (equal (* x (+ y 1)) (+ (* x y) x)) :g-bindings (auto-bindings (:mix (:nat x 5) (:nat y 5))))
