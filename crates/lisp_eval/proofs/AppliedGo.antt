@@ -1,5 +1,5 @@
 -- Work that is done is a step of the evaluation.
-use Rattle.std.proofs.Common.{◌≡◌, ◌∙◌, ap, sym, refl, ℕ, ◌+◌, List, [], ◌∷◌, ◌++◌, Bool, true, false, cond, Option, subst, arith, inl, inr, ◌⊎◌}
+use Rattle.std.proofs.Common.{◌≡◌, ap, sym, refl, ℕ, List, [], ◌∷◌, ◌++◌, Bool, true, false, cond, Option, subst, inl, inr, ◌⊎◌}
 use Rattle.gl_logic.specs.Object.{Object}
 use Rattle.gl_logic.specs.Environment.{extended}
 use Rattle.gl_logic.specs.Definition.{Definition}

@@ -1,17 +1,17 @@
 -- Environments by ids, and what they stand for.
-use Rattle.std.proofs.Common.{◌≡◌, ◌∙◌, ap, sym, refl, subst, ℕ, zero, suc, ◌+◌, ◌<◌, ◌≤◌, Bool, true, false, cond, eqb, List, [], ◌∷◌, ◌++◌, length, take, get_or, arith, Option, Some, slice_get, Result, Ok, Err, length-append}
+use Rattle.std.proofs.Common.{◌≡◌, ◌∙◌, ap, sym, refl, subst, ℕ, zero, suc, ◌+◌, ◌<◌, Bool, true, false, cond, eqb, List, [], ◌∷◌, ◌++◌, length, take, get_or, arith, Option, Some, slice_get, Result, length-append}
 use Rattle.std.proofs.lemmas.List.{get_or_append_left}
 use Rattle.gl_logic.specs.Definition.{Definition}
 use Rattle.hons_arena.specs.declared.id.IdKind.{IdKind}
 use Rattle.hons_arena.specs.declared.id.IdKind.TheVariants as kind
 use Rattle.memo_tables.specs.Calls.{Call}
 use Rattle.lisp_eval.specs.Kept.{kept_frame}
-use Rattle.std.specs.Prelude.{map, IfOk}
+use Rattle.std.specs.Prelude.{IfOk}
 use Rattle.std.proofs.lemmas.Option.{get_or_from_slice_get}
 use Rattle.gl_logic.specs.Object.{Object, nil}
 use Rattle.gl_logic.specs.Environment.{look, bound, extended}
-use Rattle.gl_logic.specs.Exp.{Exp, Exps, Var, If}
-use Rattle.gl_logic.specs.TermOf.{term_of, terms_of}
+use Rattle.gl_logic.specs.Exp.{Exp, Exps, Var}
+use Rattle.gl_logic.specs.TermOf.{terms_of}
 use Rattle.gl_logic.specs.declared.ids.NoMemory.{NoMemory}
 use Rattle.gl_logic.specs.declared.ids.TextId.{TextId}
 use Rattle.gl_logic.specs.declared.term.Term.{Term}
@@ -23,7 +23,7 @@ use Rattle.lisp_eval.specs.declared.frame.Focus.TheVariants as focus
 use Rattle.lisp_eval.specs.declared.frame.Frame.{Frame}
 use Rattle.lisp_eval.specs.Bindings.{nil_id, id_or_nil, id_in, bindings_of}
 use Rattle.lisp_eval.specs.Frames.{Work, Give, Visit}
-use Rattle.lisp_eval.specs.Moves.{Next, begun, entered}
+use Rattle.lisp_eval.specs.Moves.{begun, entered}
 use Rattle.lisp_eval.specs.States.{env_of, values_of, frame_of, frames_of, focus_of, IsNext}
 
 pub append_none : {A : Type 0} (xs : List A) → xs ++ [] ≡ xs

@@ -1,20 +1,10 @@
 -- Each step of an evaluation keeps what is left of it.
-use Rattle.std.proofs.Common.{◌≡◌, ◌∙◌, ap, sym, refl, ℕ, zero, suc, ◌+◌, ◌≤◌, List, [], ◌∷◌, ◌++◌, Bool, true, false, cond, ◌||◌, ◌&&◌, Option, Some, None, subst, slice_get, arith, append_assoc, length}
-use Rattle.std.proofs.lemmas.List.{length-append}
+use Rattle.std.proofs.Common.{◌≡◌, ◌∙◌, ap, sym, refl, ℕ, ◌+◌, List, [], ◌∷◌, ◌++◌, Option, Some, None, arith, append_assoc}
 use Rattle.gl_logic.specs.Object.{Object}
-use Rattle.gl_logic.specs.ObjectEq.{object_eq, is_nil}
-use Rattle.gl_logic.specs.PrimValue.{prim_value}
-use Rattle.gl_logic.specs.Environment.{look, extended}
 use Rattle.gl_logic.specs.Definition.{Definition}
-use Rattle.gl_logic.specs.Exp.{Exp, Exps, Var, Const, If, Prim, Call, Let, Last, More}
-use Rattle.gl_logic.specs.Walk.{Walk, CallMade, then, opened, walk}
-use Rattle.gl_logic.specs.Counts.{is_among}
-use Rattle.gl_logic.proofs.Optional.{none_some, some_same, then_inverted}
-use Rattle.gl_logic.specs.Every.{Every}
-use Rattle.gl_logic.proofs.MadeCalls.{every_append}
-use Rattle.lisp_eval.specs.Threads.{Thread, Threads, is_kept, stays_shut, keeping, plain_call, threaded, thread, threads}
-use Rattle.lisp_eval.specs.Frames.{Work, ToPrim, ToCall, ToLet, Frame, Branch, Arguments, Keep, Focus, Visit, Apply, Give, Rest, before, followed, given, all_of, call_of, is_value, behind, worked, resumed, resume, focused, rest_of}
-use Rattle.lisp_eval.proofs.CallsMade.{every_parts}
+use Rattle.gl_logic.specs.Exp.{Prim}
+use Rattle.gl_logic.specs.Walk.{CallMade, then}
+use Rattle.lisp_eval.specs.Frames.{Frame, Focus, Give, Rest, before, followed, given, resumed, resume, focused, rest_of}
 
 -- ---- following is associative, and giving is its unit
 add_assoc : (a b c : ℕ) → a + (b + c) ≡ (a + b) + c

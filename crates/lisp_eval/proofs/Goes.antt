@@ -1,5 +1,5 @@
 -- The steps of an evaluation: what each leaves to do, what it spends, and what it sees.
-use Rattle.std.proofs.Common.{◌≡◌, ◌∙◌, ap, sym, refl, ℕ, zero, suc, ◌+◌, ◌≤◌, List, [], ◌∷◌, ◌++◌, Bool, true, false, cond, Option, Some, None, subst, slice_get, arith, append_assoc, length}
+use Rattle.std.proofs.Common.{◌≡◌, ◌∙◌, ap, sym, refl, ℕ, zero, suc, ◌+◌, List, [], ◌∷◌, ◌++◌, Bool, true, false, cond, Option, Some, None, subst, slice_get, arith, append_assoc, length}
 use Rattle.std.proofs.lemmas.List.{length-append}
 use Rattle.gl_logic.specs.Object.{Object}
 use Rattle.gl_logic.specs.ObjectEq.{object_eq, is_nil}
@@ -7,20 +7,20 @@ use Rattle.gl_logic.specs.PrimValue.{prim_value}
 use Rattle.gl_logic.specs.Environment.{look, extended}
 use Rattle.gl_logic.specs.Definition.{Definition}
 use Rattle.gl_logic.specs.Exp.{Exp, Exps, Var, Const, If, Prim, Call, Let, Last, More}
-use Rattle.gl_logic.specs.Walk.{Walk, CallMade, then, opened, walk}
+use Rattle.gl_logic.specs.Walk.{Walk, CallMade, then}
 use Rattle.gl_logic.specs.Counts.{is_among}
 use Rattle.gl_logic.proofs.Equality.{equal_from, equal_itself}
 use Rattle.gl_logic.proofs.Optional.{none_some, some_same, then_inverted}
 use Rattle.gl_logic.specs.Every.{Every}
 use Rattle.gl_logic.proofs.MadeCalls.{every_append}
-use Rattle.lisp_eval.specs.Threads.{Thread, Threads, after, closed, chained, is_kept, stays_shut, keeping, finished, skipped, plain_call, thread_by, threaded, thread, threads}
+use Rattle.lisp_eval.specs.Threads.{Thread, Threads, after, chained, stays_shut, keeping, skipped, plain_call, threaded, thread, threads}
 use Rattle.lisp_eval.specs.Frames.{Work, ToPrim, ToCall, ToLet, Frame, Branch, Arguments, Keep, Focus, Visit, Apply, Give, Rest, before, followed, given, all_of, call_of, is_value, behind, worked, resumed, resume, focused, rest_of}
 use Rattle.lisp_eval.proofs.CallsMade.{every_parts}
 use Rattle.lisp_eval.proofs.Along.{then_is}
 use Rattle.lisp_eval.proofs.More.{thread_grow, threaded_more}
 use Rattle.lisp_eval.proofs.Values.{value_seen, HasPlain, threaded_plain, call_value_unique}
 use Rattle.lisp_eval.specs.CallValue.{IsCallValue}
-use Rattle.lisp_eval.proofs.Followed.{followed_assoc, resume_push, rest_push, give_push}
+use Rattle.lisp_eval.proofs.Followed.{rest_push, give_push}
 
 length_visit : (xs : List Object) (x : Object) → length (xs ++ x ∷ []) ≡ length xs + 1
 length_visit xs x = length-append xs (x ∷ [])
@@ -112,6 +112,13 @@ module _ (P Fine : Object → Type 0) where
 
     pub into_const : (x : Object) (env : List (ℕ × Object)) (fs : List Frame) (k : List CallMade) → Goes 1 (x ∷ []) (RestOf (Visit (Const x) env) fs k) (RestOf (Give x) fs k)
     into_const x env fs k = goes_on 1 (x ∷ []) (Visit (Const x) env) (Give x) fs k (met_goes x k)
+
+    -- a term whose walk is known to its end
+    pub at_once_goes : (t : Exp) (env : List (ℕ × Object)) (fs : List Frame) (k : List CallMade) (y : Thread) → T env t k ≡ Some y → y.kept ≡ k → Goes (length y.seen) y.seen (RestOf (Visit t env) fs k) (RestOf (Give y.value) fs k)
+    at_once_goes t env fs k y e q =
+        let whole : Rest = record { value = y.value; count = length y.seen; seen = y.seen; kept = y.kept } in
+        goes_on (length y.seen) y.seen (Visit t env) (Give y.value) fs k (moved (length y.seen) y.seen (Some whole) (given y.value y.kept) (Focused (Visit t env) k) (given y.value k) (ap (λ o. then o all_of) e) (ap (given y.value) q)
+        (some_goes (length y.seen) y.seen (given y.value y.kept) whole (record { count = 0; seen = []; is = refl; spends = omega arith; within = λ h. (h, tt); fine = λ h g. h })))
 
     -- a part that ends a visit
     part_goes : (pre : List Object) (y : Thread) (k : List CallMade) (h : Thread) (o' : Option Rest) → ((Q : Object → Type 0) → Every Q y.seen → Q y.value) → after pre y ≡ Some h

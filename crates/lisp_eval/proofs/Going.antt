@@ -3,12 +3,11 @@ use Rattle.std.proofs.Common.{◌≡◌, ◌∙◌, ap, sym, refl, ℕ, zero, su
 use Rattle.std.specs.List.{Contains, flat_map}
 use Rattle.std.proofs.lemmas.List.Elements.{Contains-append_left, Contains-append_right}
 use Rattle.gl_logic.specs.Object.{Object}
-use Rattle.gl_logic.specs.ObjectEq.{object_eq}
 use Rattle.gl_logic.specs.Definition.{Definition}
 use Rattle.gl_logic.specs.Every.{Every}
 use Rattle.gl_logic.specs.Exp.{Exp}
 use Rattle.gl_logic.specs.IsGround.{AreGround}
-use Rattle.gl_logic.specs.Walk.{Walk, CallMade, then, walk, body_walk}
+use Rattle.gl_logic.specs.Walk.{Walk, CallMade, then, walk}
 use Rattle.gl_logic.specs.Evaluate.{evaluate, HasValue}
 use Rattle.gl_logic.specs.Counts.{seen, seen_in}
 use Rattle.gl_logic.specs.CellCounts.{cells, world_constants, constants_of}
@@ -17,12 +16,12 @@ use Rattle.gl_logic.specs.Wide.{IsWide, IsWideObject, SomeWide}
 use Rattle.gl_logic.specs.WorldSeen.{WorldSeen}
 use Rattle.gl_logic.proofs.Optional.{none_some, some_same}
 use Rattle.gl_logic.proofs.Walks.{walk_of_value, walk_unique}
-use Rattle.hons_arena.specs.Held.{Held, AddsCellsOf, IsEachOnce, LacksCell, HasNoRoomFor}
+use Rattle.hons_arena.specs.Held.{Held, IsEachOnce, LacksCell, HasNoRoomFor}
 use Rattle.lisp_eval.specs.Answers.{IsDear, IsCrowded}
 use Rattle.lisp_eval.specs.Frames.{Frame, Focus, Visit, Give, rest_of}
 use Rattle.lisp_eval.specs.MachineCalls.{HoldsSeen}
 use Rattle.lisp_eval.specs.Threads.{Thread}
-use Rattle.lisp_eval.specs.Within.{IsIn, IsSeenCell, AreWithin, CoverCells}
+use Rattle.lisp_eval.specs.Within.{IsIn, AreWithin, CoverCells}
 use Rattle.lisp_eval.specs.Narrow.{IsNarrow}
 use Rattle.lisp_eval.specs.Tables.{answered_in}
 use Rattle.lisp_eval.proofs.Cover.{IsFineCall}

@@ -4,6 +4,8 @@ pub mod AppliedGo
 pub mod CallsMade
 pub mod Charges
 pub mod Cover
+pub mod DirectFound
+pub mod Directly
 pub mod Environments
 pub mod Followed
 pub mod Goes
@@ -12,6 +14,7 @@ pub mod Grown
 pub mod Law
 pub mod Levels
 pub mod More
+pub mod Locals
 pub mod Machines
 pub mod MovesGo
 pub mod PlacedConstants

@@ -1,14 +1,14 @@
 -- More depth keeps a threaded walk.
-use Rattle.std.proofs.Common.{◌≡◌, ◌∙◌, ap, sym, refl, ℕ, zero, suc, List, [], Bool, true, false, Option, Some, None, slice_get}
+use Rattle.std.proofs.Common.{◌≡◌, ℕ, zero, suc, List, [], Bool, true, false, Option, Some, slice_get}
 use Rattle.gl_logic.specs.Object.{Object}
 use Rattle.gl_logic.specs.ObjectEq.{is_nil}
 use Rattle.gl_logic.specs.Environment.{extended}
 use Rattle.gl_logic.specs.Definition.{Definition}
 use Rattle.gl_logic.specs.Exp.{Exp, Exps, Var, Const, If, Prim, Call, Let, Last, More}
-use Rattle.gl_logic.specs.Walk.{CallMade, then}
+use Rattle.gl_logic.specs.Walk.{CallMade}
 use Rattle.gl_logic.proofs.Optional.{none_some}
-use Rattle.gl_logic.proofs.Walks.{then_both, pick_both, opened_more}
-use Rattle.lisp_eval.specs.Threads.{Thread, Threads, thread_by, threads_by, stays_shut, finished, skipped, plain_call, threaded}
+use Rattle.gl_logic.proofs.Walks.{then_both, opened_more}
+use Rattle.lisp_eval.specs.Threads.{Thread, Threads, thread_by, threads_by, stays_shut, skipped, plain_call, threaded}
 
 thread_pick_both : (b : Bool) (p p' q q' : Option Thread) (r : Thread) → (p ≡ Some r → p' ≡ Some r) → (q ≡ Some r → q' ≡ Some r) → elim b as (λ _. Option Thread) [ true ↦ p | false ↦ q ] ≡ Some r → elim b as (λ _. Option Thread) [ true ↦ p' | false ↦ q' ] ≡ Some r
 thread_pick_both true p p' q q' r g h e = g e

@@ -1,5 +1,5 @@
 -- The steps of the machine are steps of the evaluation.
-use Rattle.std.proofs.Common.{◌≡◌, ◌∙◌, ap, sym, refl, ℕ, List, [], ◌∷◌, ◌++◌, Bool, true, false, cond, Option, subst}
+use Rattle.std.proofs.Common.{◌≡◌, ap, sym, refl, ℕ, List, [], ◌∷◌, ◌++◌, cond, Option, subst}
 use Rattle.gl_logic.specs.Object.{Object}
 use Rattle.gl_logic.specs.ObjectEq.{is_nil}
 use Rattle.gl_logic.specs.Environment.{look}
@@ -7,7 +7,7 @@ use Rattle.gl_logic.specs.Definition.{Definition}
 use Rattle.gl_logic.specs.Exp.{Exp, Exps, Var, Const, If, Prim, Call, Let, Last, More}
 use Rattle.gl_logic.specs.Walk.{CallMade}
 use Rattle.lisp_eval.specs.Frames.{Work, ToPrim, ToCall, ToLet, Frame, Branch, Arguments, Keep, Focus, Visit, Apply, Give, Rest, focused, resumed, rest_of}
-use Rattle.lisp_eval.specs.Moves.{Next, on, begun, entered, entered_met, handed, handed_kept}
+use Rattle.lisp_eval.specs.Moves.{begun, entered, entered_met, handed, handed_kept}
 use Rattle.lisp_eval.proofs.Goes.{Goes, together, goes_on, goes_into, goes_back, goes_round, goes_apply, goes_argument, arguments_goes, prim_together, call_together, let_together, into_var, into_const, into_if, to_branch, to_keep}
 
 append_none : {A : Type 0} (xs : List A) → xs ++ [] ≡ xs

@@ -1,9 +1,9 @@
 -- The constants of a world, listed and placed.
-use Rattle.std.proofs.Common.{◌≡◌, ◌≢◌, ◌∙◌, ap, sym, refl, subst, Bool, true, false, cond, ℕ, zero, suc, ◌+◌, ◌<◌, ◌≤◌, arith, List, [], ◌∷◌, ◌++◌, length, get_or, take, append_assoc, append-nil, Option, Some, slice_get, inl, inr, Result, Ok, Err, IsErr, ◌↔◌, Bor}
+use Rattle.std.proofs.Common.{◌≡◌, ◌∙◌, ap, sym, refl, subst, Bool, true, false, cond, ℕ, zero, suc, ◌+◌, ◌<◌, ◌≤◌, arith, List, [], ◌∷◌, ◌++◌, length, get_or, take, append_assoc, append-nil, Some, slice_get, inl, inr, Ok}
 use Rattle.std.specs.Prelude.{map}
 use Rattle.std.specs.List.{All, Contains, flat_map, list_any}
 use Rattle.std.proofs.lemmas.Bool.{cases_lt}
-use Rattle.std.proofs.lemmas.List.{length-map, take_more, take_all}
+use Rattle.std.proofs.lemmas.List.{take_all}
 use Rattle.std.proofs.lemmas.List.Elements.{All-contains_itself, Contains-append_left}
 use Rattle.gl_logic.specs.CellCounts.{constants_of, constants_of_all}
 use Rattle.gl_logic.specs.Different.{different}
@@ -14,17 +14,16 @@ use Rattle.gl_logic.specs.TermOf.{term_of, terms_of}
 use Rattle.gl_logic.specs.declared.term.Term.{Term}
 use Rattle.gl_logic.proofs.DifferentObjects.{different_once, contains_different}
 use Rattle.gl_logic.proofs.Optional.{none_some, some_same}
-use Rattle.hons_arena.specs.declared.id.Full.{Full}
 use Rattle.hons_arena.specs.declared.id.Id.{Id}
 use Rattle.hons_arena.specs.Held.{Held, AddsCellsOf, IsWhole, LacksCell, Places}
 use Rattle.hons_arena.specs.Parts.{IsCellOf, AreHeld}
 use Rattle.hons_arena.proofs.Counting.{each_once_few}
 use Rattle.lisp_eval.specs.MachineCalls.{different_cells}
 use Rattle.lisp_eval.specs.Machines.{ArePlaced}
-use Rattle.lisp_eval.specs.Within.{IsIn, IsSeenCell, AreWithin, CoverCells}
+use Rattle.lisp_eval.specs.Within.{AreWithin, CoverCells}
 use Rattle.lisp_eval.proofs.Going.{in_cells}
-use Rattle.lisp_eval.proofs.Places.{At, place_of, below_at, map_at}
-use Rattle.lisp_eval.proofs.Within.{split, stays, full, here}
+use Rattle.lisp_eval.proofs.Places.{place_of, below_at}
+use Rattle.lisp_eval.proofs.Within.{split, stays, full}
 
 -- ---- lists
 pub at_index : {A : Type 0} (ys : List A) (i : ℕ) (e : A) → i < length ys → e ≡ get_or ys i e → slice_get ys i ≡ Some e

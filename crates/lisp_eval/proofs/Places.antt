@@ -1,18 +1,17 @@
 -- Places in lists.
-use Rattle.std.proofs.Common.{◌≡◌, ◌∙◌, ap, sym, refl, subst, ℕ, zero, suc, ◌<◌, Bool, true, false, ◌&&◌, ◌||◌, List, [], ◌∷◌, ◌++◌, length, get_or, arith, Option, None, Some, slice_get}
+use Rattle.std.proofs.Common.{◌≡◌, ap, sym, refl, subst, ℕ, zero, suc, ◌<◌, Bool, true, false, ◌||◌, List, [], ◌∷◌, ◌++◌, length, arith, Option, Some, slice_get}
 use Rattle.std.specs.Prelude.{map}
-use Rattle.std.specs.List.{Contains, list_any}
-use Rattle.std.proofs.lemmas.Bool.{or_cases}
+use Rattle.std.specs.List.{Contains}
 use Rattle.gl_logic.specs.Definition.{Definition}
 use Rattle.gl_logic.specs.Environment.{extended}
 use Rattle.gl_logic.specs.Every.{Every}
 use Rattle.gl_logic.specs.Object.{Object}
 use Rattle.gl_logic.specs.Counts.{call_eq}
-use Rattle.gl_logic.specs.Walk.{CallMade, Walk, then, ended, body_walk}
+use Rattle.gl_logic.specs.Walk.{CallMade, then, body_walk}
 use Rattle.gl_logic.proofs.Optional.{none_some, some_same, then_inverted}
 use Rattle.hons_arena.specs.declared.id.Id.{Id}
 use Rattle.hons_arena.specs.Ids.{object_at, IsLive}
-use Rattle.lisp_eval.specs.Frames.{Frame, Focus, Apply, ToCall, Rest, call_of, focused, resume, before, rest_of}
+use Rattle.lisp_eval.specs.Frames.{Frame, Apply, ToCall, Rest, call_of, focused, rest_of}
 use Rattle.lisp_eval.specs.States.{values_of}
 use Rattle.lisp_eval.specs.Threads.{Thread, is_kept, stays_shut, plain_call, threaded, thread_by, finished, skipped}
 use Rattle.lisp_eval.proofs.CallsMade.{call_equal_from, call_equal_itself}

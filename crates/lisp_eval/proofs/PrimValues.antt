@@ -1,6 +1,6 @@
 -- Values of primitives on ids.
-use Rattle.std.proofs.Common.{◌≡◌, ◌∙◌, ap, sym, refl, subst, Bool, true, false, ℤ, Result, Ok, Err, IsErr, IsErrOf}
-use Rattle.gl_logic.specs.Object.{Object, Int, Cons}
+use Rattle.std.proofs.Common.{◌≡◌, ◌∙◌, sym, refl, subst, true, ℤ, Result, Ok, Err, IsErr}
+use Rattle.gl_logic.specs.Object.{Object, Int}
 use Rattle.gl_logic.specs.Parts.{is_cell}
 use Rattle.gl_logic.specs.PrimValue.{prim_value, prim_of, integer_in}
 use Rattle.gl_logic.specs.declared.prim.Primitive.{Primitive}

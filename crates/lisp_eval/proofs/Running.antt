@@ -1,21 +1,19 @@
 -- The invariant of an evaluation, and what follows from it at each of its ends.
-use Rattle.std.proofs.Common.{◌≡◌, ◌∙◌, ap, sym, refl, ℕ, zero, suc, ◌+◌, ◌<◌, ◌≤◌, List, [], ◌∷◌, ◌++◌, Option, Some, subst, arith, length}
+use Rattle.std.proofs.Common.{◌≡◌, ◌∙◌, ap, sym, refl, ℕ, ◌+◌, ◌<◌, List, [], ◌∷◌, ◌++◌, Some, subst, arith, length}
 use Rattle.gl_logic.specs.Object.{Object}
 use Rattle.gl_logic.specs.Definition.{Definition}
 use Rattle.gl_logic.specs.Exp.{Exp}
 use Rattle.gl_logic.specs.Walk.{Walk, CallMade, then, walk}
-use Rattle.gl_logic.specs.Evaluate.{evaluate}
 use Rattle.gl_logic.specs.Counts.{memoized_cost}
-use Rattle.gl_logic.proofs.Optional.{none_some, some_same, then_inverted}
+use Rattle.gl_logic.proofs.Optional.{some_same, then_inverted}
 use Rattle.gl_logic.specs.Every.{Every}
 use Rattle.lisp_eval.specs.Threads.{Thread, met_in, thread, threaded, threaded_cost}
-use Rattle.lisp_eval.specs.Frames.{Frame, Keep, Focus, Visit, Apply, Give, Rest, before, followed, given, all_of, resume, focused, rest_of}
-use Rattle.lisp_eval.proofs.Along.{then_is}
+use Rattle.lisp_eval.specs.Frames.{Frame, Keep, Focus, Visit, Give, Rest, before, given, all_of, resume, focused, rest_of}
 use Rattle.lisp_eval.proofs.Values.{value_seen}
 use Rattle.lisp_eval.specs.CallValue.{IsCallValue}
 use Rattle.lisp_eval.proofs.Followed.{followed_by_none}
 use Rattle.lisp_eval.proofs.Cover.{AnswersAreFine, IsFineCall, Threaded, threads_there}
-use Rattle.lisp_eval.proofs.Goes.{Left, Goes, kept_value}
+use Rattle.lisp_eval.proofs.Goes.{Goes, kept_value}
 use Rattle.lisp_eval.proofs.Law.{threaded_at_most}
 
 module _ (P Fine : Object → Type 0) (ds : List Definition) (answered functions : List ℕ) (depth : ℕ) (run : Thread) where

@@ -1,6 +1,6 @@
 -- P and Fine as `eval` takes them: being seen by the plain walk, and having no integer part that leaves 128 bits.
-use Rattle.std.proofs.Common.{◌≡◌, ◌∙◌, ap, sym, refl, ℕ, zero, suc, ◌<◌, List, [], ◌∷◌, ◌++◌, Option, Some, subst, arith, length, get_or, slice_get}
-use Rattle.gl_logic.specs.Object.{Object, Int, Character, Symbol, Text, Cons, nil, car, cdr}
+use Rattle.std.proofs.Common.{◌≡◌, refl, ℕ, zero, suc, List, [], ◌∷◌, Some, subst, slice_get}
+use Rattle.gl_logic.specs.Object.{Object, Int, Character, Symbol, Text, Cons, car, cdr}
 use Rattle.gl_logic.specs.Width.{Fits}
 use Rattle.gl_logic.specs.Wide.{IsWideObject, SomeWide}
 use Rattle.gl_logic.specs.Every.{Every}

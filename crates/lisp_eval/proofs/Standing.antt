@@ -1,6 +1,5 @@
 -- Ids and states that stand for one thing in whatever arena more cells are added to.
-use Rattle.std.proofs.Common.{◌≡◌, ◌∙◌, ap, sym, refl, subst, ℕ, zero, suc, ◌+◌, ◌-◌, ◌<◌, ◌≤◌, Bool, true, false, List, [], ◌∷◌, ◌++◌, length, get_or, arith, Option, Some, slice_get, pos, inl, inr, append_assoc}
-use Rattle.std.specs.Prelude.{map}
+use Rattle.std.proofs.Common.{◌≡◌, ◌∙◌, ap, sym, refl, ℕ, zero, suc, ◌+◌, ◌-◌, List, [], ◌∷◌, ◌++◌, length, get_or, arith, pos, inl, inr, append_assoc}
 use Rattle.std.proofs.lemmas.Bool.{cases_lt}
 use Rattle.std.proofs.lemmas.List.{get_or-append-add}
 use Rattle.gl_logic.specs.Object.{Object, Int, nil}
@@ -10,8 +9,8 @@ use Rattle.hons_arena.specs.declared.id.IdKind.{IdKind}
 use Rattle.hons_arena.specs.declared.id.IdKind.TheVariants as kind
 use Rattle.hons_arena.specs.Held.{AddsCellsOf}
 use Rattle.hons_arena.specs.Ids.{object_at, object_numbered, IsLive, IsNumberBelow}
-use Rattle.lisp_eval.specs.Bindings.{nil_id, id_or_nil}
-use Rattle.lisp_eval.specs.Frames.{Work, Frame, Focus, Visit, Apply, Give}
+use Rattle.lisp_eval.specs.Bindings.{id_or_nil}
+use Rattle.lisp_eval.specs.Frames.{Work, Focus, Visit, Apply, Give}
 use Rattle.lisp_eval.specs.States.{values_of}
 use Rattle.lisp_eval.proofs.Environments.{append_none}
 

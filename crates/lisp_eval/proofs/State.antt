@@ -1,41 +1,41 @@
 -- The invariant of the evaluator's loop, and its steps.
-use Rattle.std.proofs.Common.{◌≡◌, ◌∙◌, ap, sym, refl, subst, ℕ, zero, suc, ◌+◌, ◌-◌, ◌<◌, ◌≤◌, Bool, true, false, cond, ◌&&◌, List, [], ◌∷◌, ◌++◌, length, get_or, arith, Option, None, Some, slice_get, inl, inr}
+use Rattle.std.proofs.Common.{◌≡◌, ◌∙◌, ap, sym, refl, subst, ℕ, ◌+◌, ◌-◌, List, [], ◌∷◌, ◌++◌, length, arith, Option, Some}
 use Rattle.std.specs.Prelude.{map}
-use Rattle.gl_logic.specs.Object.{Object, nil}
-use Rattle.gl_logic.specs.Definition.{Definition}
-use Rattle.gl_logic.specs.Environment.{look, extended}
+use Rattle.gl_logic.specs.Object.{Object}
+use Rattle.gl_logic.specs.Environment.{look}
 use Rattle.gl_logic.specs.Every.{Every}
 use Rattle.gl_logic.specs.Exp.{Exp, Var, Const}
 use Rattle.gl_logic.specs.IsGround.{AreGround}
-use Rattle.gl_logic.specs.PrimValue.{prim_of, prim_value}
 use Rattle.gl_logic.specs.TermOf.{term_of}
 use Rattle.gl_logic.specs.Walk.{CallMade}
-use Rattle.gl_logic.specs.Wide.{IsWide, IsWideObject}
 use Rattle.gl_logic.specs.WorldSeen.{WorldSeen}
+use Rattle.gl_logic.proofs.Optional.{then_inverted}
 use Rattle.hons_arena.specs.declared.id.Id.{Id}
 use Rattle.hons_arena.specs.Held.{Held, AddsCellsOf, IsEachOnce, LacksCell}
 use Rattle.hons_arena.specs.Ids.{object_at, IsLive, IsIdOf}
 use Rattle.memo_tables.specs.Calls.{Call}
 use Rattle.lisp_eval.specs.Answers.{IsDear, IsCrowded}
-use Rattle.lisp_eval.specs.Bindings.{id_or_nil, id_in}
+use Rattle.lisp_eval.specs.Bindings.{id_in}
 use Rattle.lisp_eval.specs.CallValue.{IsCallValue}
 use Rattle.lisp_eval.specs.Compound.{IsCompound}
-use Rattle.lisp_eval.specs.Frames.{Work, ToPrim, ToCall, ToLet, Frame, Focus, Visit, Apply, Give, rest_of}
+use Rattle.lisp_eval.specs.Directs.{Ends, GivesAtOnce}
+use Rattle.lisp_eval.specs.Frames.{Frame, Focus, Visit, Give, Rest, all_of, focused, rest_of}
 use Rattle.lisp_eval.specs.Kept.{entries_of}
 use Rattle.lisp_eval.specs.Moves.{Next, on, entered, entered_met}
-use Rattle.lisp_eval.specs.States.{env_of, values_of, work_of, frame_of, frames_of, focus_of, IsNext}
-use Rattle.lisp_eval.specs.Threads.{is_kept}
+use Rattle.lisp_eval.specs.States.{env_of, frames_of, focus_of, IsNext}
+use Rattle.lisp_eval.specs.Threads.{Thread, is_kept, thread, threaded}
 use Rattle.lisp_eval.specs.Tables.{answered_in}
 use Rattle.lisp_eval.specs.Within.{IsIn, AreWithin}
+use Rattle.lisp_eval.specs.declared.frame.Binding.{Binding}
 use Rattle.lisp_eval.specs.declared.frame.Focus as program
 use Rattle.lisp_eval.specs.declared.frame.Focus.TheVariants as focus
 use Rattle.lisp_eval.specs.declared.frame.Frame as held
-use Rattle.lisp_eval.specs.declared.frame.Work.TheVariants as work
 use Rattle.lisp_eval.proofs.Environments.{append_none, look_is, stays_at}
-use Rattle.lisp_eval.proofs.Goes.{Goes, prim_done, let_done}
-use Rattle.lisp_eval.proofs.Going.{Narrow, Going, StepOn, going_step, going_wide, going_crowded, going_dear}
+use Rattle.lisp_eval.proofs.Goes.{at_once_goes}
+use Rattle.lisp_eval.proofs.Going.{Narrow, Going, StepOn, going_step, going_crowded, going_dear}
 use Rattle.lisp_eval.proofs.MovesGo.{entered_goes}
-use Rattle.lisp_eval.proofs.Standing.{stable_live, Grows, grows_same, grows_added, still, env_in, values_in, id_stands, at_once}
+use Rattle.lisp_eval.proofs.Standing.{stable_live, grows_added, still, env_in, at_once}
+use Rattle.lisp_eval.proofs.Values.{value_seen}
 use Rattle.lisp_eval.proofs.Within.{stays}
 
 compound_met : (u : Exp) (env : List (ℕ × Object)) → IsCompound u → entered_met u env ≡ []
@@ -160,3 +160,66 @@ module _ (w : WorldSeen) (functions : List ℕ) (env : List (ℕ × Object)) (t 
       pub const_crowded : (held : Held) → held.objects ≡ new → LacksCell held x → IsEachOnce held.objects → IsCrowded w env t start held.limit
       const_crowded held e lack once = going_crowded w s.ground functions env t limit start left (Visit (Const x) visit_env) s.stack s.kept objects const_gives.0 held x const_gives.1.met_seen.0 lack once
           (subst (λ (zs : List Object). AreWithin start const_gives.0.walked.seen zs) (sym e) const_within)
+
+    -- a term whose value is there at once, after so many visits
+    module _ (y : Object) (visits : ℕ) (gives_at_once : GivesAtOnce w.definitions functions (env_of objects uenv.value.items) (term_of u.now) y visits) where
+      abbrev here : Exp
+      here = term_of u.now
+
+      abbrev rest_now : Option Rest
+      rest_now = rest_of w.definitions (answered_in w.definitions) functions at_visit.depth (Visit here visit_env) s.stack s.kept
+
+      the_walk : (r : Thread) × (thread w.definitions (answered_in w.definitions) functions at_visit.depth visit_env here s.kept ≡ Some r)
+      the_walk =
+          let i = then_inverted (focused w.definitions (answered_in w.definitions) functions at_visit.depth (Visit here visit_env) s.kept) _ at_visit.running.rest at_visit.running.is in
+          let j = then_inverted (thread w.definitions (answered_in w.definitions) functions at_visit.depth visit_env here s.kept) all_of i.0 i.1.0 in (j.0, j.1.0)
+
+      ends : Ends s.kept y visits the_walk.0
+      ends = subst (λ (e : List (ℕ × Object)). GivesAtOnce w.definitions functions e here y visits) (at_once (λ all. env_of all uenv.value.items) visit_env objects env_stands) gives_at_once at_visit.depth s.kept the_walk.0 the_walk.1
+
+      found_step : (left' : ℕ) → visits + left' ≡ left → StepOn w s.ground functions env t limit start left (Visit here visit_env) s.stack s.kept objects at_visit the_walk.0.seen left' (Give the_walk.0.value) s.stack s.kept
+      found_step left' b = going_step w s.ground functions env t limit start left (Visit here visit_env) s.stack s.kept objects at_visit left' (length the_walk.0.seen) the_walk.0.seen (Give the_walk.0.value) s.stack s.kept (omega (arith, b, ends.count))
+          (at_once_goes (IsIn at_visit.walked.seen) Narrow w.definitions (answered_in w.definitions) functions at_visit.depth here visit_env s.stack s.kept the_walk.0 the_walk.1 ends.calls)
+
+      found_seen : (left' : ℕ) → visits + left' ≡ left → IsIn at_visit.walked.seen y
+      found_seen left' b = subst (IsIn at_visit.walked.seen) ends.value (value_seen (IsIn at_visit.walked.seen) (threaded w.definitions (answered_in w.definitions) functions at_visit.depth) here visit_env s.kept the_walk.0 the_walk.1 (found_step left' b).met_seen)
+
+      found_within : (left' : ℕ) → visits + left' ≡ left → (new : List Object) → AddsCellsOf y objects new → AreWithin start at_visit.walked.seen new
+      found_within left' b new adds = stays start at_visit.walked.seen objects new y (found_seen left' b) adds at_visit.within
+
+      pub found_next : (left' : ℕ) → visits + left' ≡ left → (new : List Object) → AddsCellsOf y objects new → (id : Id) → IsIdOf new y id → State left' (focus.Give id) frames new entries
+      found_next left' b new adds id is = record {
+        focus = Give the_walk.0.value;
+        stack = s.stack;
+        ground = s.ground;
+        kept = s.kept;
+        calls = s.calls;
+        going = (found_step left' b).goes_on ends.narrow new (found_within left' b new adds);
+        focus_is = λ more. ap Give (stays_at new more id is.0 ∙ (is.1 ∙ sym ends.value));
+        frames_are = still (λ all. frames_of all frames) s.stack objects new (grows_added y objects new adds) s.frames_are;
+        entries_are = still (λ all. entries_of all entries) s.calls objects new (grows_added y objects new adds) s.entries_are;
+        right = s.right;
+        same = s.same;
+      }
+
+      pub found_crowded : (left' : ℕ) → visits + left' ≡ left → (held : Held) → held.objects ≡ objects → LacksCell held y → IsEachOnce held.objects → IsCrowded w env t start held.limit
+      found_crowded left' b held e lack once = going_crowded w s.ground functions env t limit start left (Visit here visit_env) s.stack s.kept objects at_visit held y (found_seen left' b) lack once
+          (subst (λ (zs : List Object). AreWithin start at_visit.walked.seen zs) (sym e) at_visit.within)
+
+    pub visit_live : (bindings : List Binding) → bindings ≡ uenv.value.items → Every (λ b. IsLive objects b.value) bindings
+    visit_live bindings e = all_live bindings visit_env (λ more. ap (env_of (objects ++ more)) e ∙ env_stands more) where
+      heads : (a b : ℕ × Object) (xs ys : List (ℕ × Object)) → a ∷ xs ≡ b ∷ ys → a ≡ b
+      heads a b xs ys q = cc
+
+      tails : (a b : ℕ × Object) (xs ys : List (ℕ × Object)) → a ∷ xs ≡ b ∷ ys → xs ≡ ys
+      tails a b xs ys q = cc
+
+      all_live : (bs : List Binding) (e : List (ℕ × Object)) → ((more : List Object) → env_of (objects ++ more) bs ≡ e) → Every (λ b. IsLive objects b.value) bs
+      all_live [] e h = tt
+      all_live (b ∷ bs) [] h = absurd (no_pair b bs (h [])) where
+        no_pair : (b : Binding) (bs : List Binding) → env_of (objects ++ []) (b ∷ bs) ≡ [] → ⊥
+        no_pair b bs q = absurd cc
+      all_live (b ∷ bs) (x ∷ e) h = (
+        stable_live objects b.value x.1 (λ more. ap (λ (p : ℕ × Object). p.1) (heads (b.name.number, object_at (objects ++ more) b.value) x (env_of (objects ++ more) bs) e (h more))),
+        all_live bs e (λ more. tails (b.name.number, object_at (objects ++ more) b.value) x (env_of (objects ++ more) bs) e (h more)),
+      )

@@ -1,20 +1,18 @@
 -- The invariant of the evaluator's loop, where work is done.
-use Rattle.std.proofs.Common.{◌≡◌, ◌∙◌, ap, sym, refl, subst, ℕ, zero, suc, ◌+◌, ◌-◌, ◌<◌, ◌≤◌, Bool, true, false, true≢false, cond, ◌&&◌, ◌||◌, List, [], ◌∷◌, ◌++◌, length, get_or, arith, Option, None, Some, slice_get, inl, inr}
-use Rattle.std.specs.Prelude.{map, eqb, is_some}
-use Rattle.std.specs.List.{Contains, list_any}
-use Rattle.std.proofs.lemmas.Bool.{and_from, eq-eqb}
+use Rattle.std.proofs.Common.{◌≡◌, ◌∙◌, ap, sym, refl, subst, ℕ, ◌<◌, Bool, true, false, ◌&&◌, ◌||◌, List, [], ◌∷◌, ◌++◌, length, get_or, arith, Option, None, Some, slice_get}
+use Rattle.std.specs.Prelude.{map}
+use Rattle.std.proofs.lemmas.Bool.{and_from}
 use Rattle.gl_logic.specs.Object.{Object, nil}
 use Rattle.gl_logic.specs.Definition.{Definition}
 use Rattle.gl_logic.specs.Environment.{extended}
-use Rattle.gl_logic.specs.Every.{Every}
 use Rattle.gl_logic.specs.Exp.{Exp}
-use Rattle.gl_logic.specs.Counts.{is_among, call_eq, objects_eq}
+use Rattle.gl_logic.specs.Counts.{is_among}
 use Rattle.gl_logic.specs.PrimValue.{prim_of, prim_value}
 use Rattle.gl_logic.specs.TermOf.{term_of}
-use Rattle.gl_logic.specs.Walk.{CallMade, Walk, then}
+use Rattle.gl_logic.specs.Walk.{CallMade}
 use Rattle.gl_logic.specs.Wide.{IsWide, IsWideObject}
 use Rattle.gl_logic.specs.WorldSeen.{WorldSeen}
-use Rattle.gl_logic.proofs.Optional.{none_some, some_same, then_inverted}
+use Rattle.gl_logic.proofs.Optional.{some_same}
 use Rattle.hons_arena.specs.declared.id.Id.{Id}
 use Rattle.hons_arena.specs.Held.{Held, AddsCellsOf, IsEachOnce, LacksCell, HasNoRoomFor}
 use Rattle.hons_arena.specs.Ids.{object_at, IsLive, IsIdOf}
@@ -22,11 +20,10 @@ use Rattle.memo_tables.specs.Calls.{Call, IsKept, IsKeptAs}
 use Rattle.lisp_eval.specs.Answers.{IsCrowded}
 use Rattle.lisp_eval.specs.Bindings.{id_or_nil}
 use Rattle.lisp_eval.specs.CallValue.{IsCallValue}
-use Rattle.lisp_eval.specs.Frames.{Work, ToPrim, ToCall, ToLet, Frame, Keep, Focus, Visit, Apply, Give, rest_of}
+use Rattle.lisp_eval.specs.Frames.{Work, ToPrim, ToCall, ToLet, Frame, Keep, Focus, Visit, Apply, Give}
 use Rattle.lisp_eval.specs.Kept.{IsKnown, entry_of, entries_of, kept_frame}
 use Rattle.lisp_eval.specs.declared.calls.Known.TheVariants as known
-use Rattle.lisp_eval.specs.Moves.{Next, on}
-use Rattle.lisp_eval.specs.States.{env_of, values_of, work_of, frame_of, frames_of, focus_of, keep_of, IsNext}
+use Rattle.lisp_eval.specs.States.{env_of, values_of, work_of, frames_of, keep_of, IsNext}
 use Rattle.lisp_eval.specs.Threads.{is_kept, stays_shut}
 use Rattle.lisp_eval.specs.Tables.{answered_in, table_value, answer_object}
 use Rattle.lisp_eval.specs.Within.{IsIn, AreWithin}
@@ -34,12 +31,11 @@ use Rattle.lisp_eval.specs.declared.frame.Focus as program
 use Rattle.lisp_eval.specs.declared.frame.Focus.TheVariants as focus
 use Rattle.lisp_eval.specs.declared.frame.Frame as held
 use Rattle.lisp_eval.specs.declared.frame.Work.TheVariants as work
-use Rattle.lisp_eval.proofs.CallsMade.{call_equal_from, call_equal_itself}
 use Rattle.lisp_eval.proofs.Environments.{append_none, stays_at}
-use Rattle.lisp_eval.proofs.Goes.{Goes, prim_done, let_done, call_shut, call_enters, call_keeps}
+use Rattle.lisp_eval.proofs.Goes.{prim_done, let_done, call_shut, call_enters, call_keeps}
 use Rattle.lisp_eval.proofs.Going.{Narrow, Going, StepOn, going_step, going_wide, going_crowded, going_no_room}
 use Rattle.lisp_eval.proofs.Places.{At, place_of, contains_at, below_at, map_at, map_back, every_place, kept_at, kept_place, same_ids, ids_live, call_is_there}
-use Rattle.lisp_eval.proofs.Standing.{stable_live, Grows, grows_added, still, values_in, work_in, id_stands, at_once}
+use Rattle.lisp_eval.proofs.Standing.{stable_live, grows_added, still, values_in, work_in, id_stands, at_once}
 use Rattle.lisp_eval.proofs.State.{State}
 use Rattle.lisp_eval.proofs.TableValues.{tables_are_right}
 use Rattle.lisp_eval.proofs.Within.{stays}

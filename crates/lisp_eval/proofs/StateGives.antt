@@ -1,7 +1,6 @@
 -- The invariant of the evaluator's loop, where a value is there; its start and its end.
-use Rattle.std.proofs.Common.{◌≡◌, ◌∙◌, ap, sym, refl, subst, ℕ, zero, suc, ◌+◌, ◌-◌, ◌<◌, ◌≤◌, Bool, true, false, ◌&&◌, ◌||◌, List, [], ◌∷◌, ◌++◌, length, arith, Option, None, Some, slice_get, inl, inr, ◌⊎◌}
+use Rattle.std.proofs.Common.{◌≡◌, ◌∙◌, ap, sym, refl, subst, ℕ, Bool, true, false, ◌||◌, List, [], ◌∷◌, ◌++◌, arith, Some, slice_get, inl, inr}
 use Rattle.std.specs.Prelude.{map}
-use Rattle.std.specs.List.{list_any}
 use Rattle.std.proofs.lemmas.List.Folds.{list_any-append}
 use Rattle.gl_logic.specs.Object.{Object}
 use Rattle.gl_logic.specs.Definition.{Definition}
@@ -10,22 +9,20 @@ use Rattle.gl_logic.specs.Exp.{Exp}
 use Rattle.gl_logic.specs.Evaluate.{evaluate, HasValue}
 use Rattle.gl_logic.specs.Counts.{call_eq}
 use Rattle.gl_logic.specs.IsGround.{AreGround}
-use Rattle.gl_logic.specs.TermOf.{term_of}
 use Rattle.gl_logic.specs.Walk.{CallMade, Walk, then, body_walk}
-use Rattle.gl_logic.specs.Wide.{IsWide}
 use Rattle.gl_logic.specs.WorldSeen.{WorldSeen}
 use Rattle.gl_logic.proofs.MadeCalls.{every_append}
-use Rattle.gl_logic.proofs.Optional.{some_same, then_inverted}
+use Rattle.gl_logic.proofs.Optional.{then_inverted}
 use Rattle.hons_arena.specs.declared.id.Id.{Id}
 use Rattle.hons_arena.specs.Ids.{object_at, IsLive}
 use Rattle.memo_tables.specs.Calls.{Call, IsKept}
 use Rattle.lisp_eval.specs.Answers.{IsValueOf, FitMemos, IsRightEntry, IsNarrowCall}
 use Rattle.lisp_eval.specs.CallValue.{IsCallValue}
-use Rattle.lisp_eval.specs.Frames.{Frame, Branch, Arguments, Keep, Focus, Visit, Give}
+use Rattle.lisp_eval.specs.Frames.{Frame, Keep, Focus, Visit, Give}
 use Rattle.lisp_eval.specs.Kept.{KeepsCall, entry_of, entries_of}
 use Rattle.lisp_eval.specs.MachineCalls.{HoldsSeen}
 use Rattle.lisp_eval.specs.Moves.{Next, handed, handed_kept}
-use Rattle.lisp_eval.specs.States.{env_of, values_of, frame_of, frames_of, focus_of, IsNext}
+use Rattle.lisp_eval.specs.States.{values_of, frame_of, frames_of, focus_of, IsNext}
 use Rattle.lisp_eval.specs.Threads.{is_kept}
 use Rattle.lisp_eval.specs.Tables.{answered_in}
 use Rattle.lisp_eval.specs.Within.{IsIn}
@@ -38,7 +35,7 @@ use Rattle.lisp_eval.proofs.Cover.{IsFineCall}
 use Rattle.lisp_eval.proofs.Environments.{frames_push}
 use Rattle.lisp_eval.proofs.Going.{Narrow, Going, StepOn, going_step, going_start, going_done, going_holds}
 use Rattle.lisp_eval.proofs.MovesGo.{handed_goes}
-use Rattle.lisp_eval.proofs.Places.{At, place_of, map_at, map_back, kept_at}
+use Rattle.lisp_eval.proofs.Places.{At, place_of, map_at, kept_at}
 use Rattle.lisp_eval.proofs.Running.{keeps_value}
 use Rattle.lisp_eval.proofs.Standing.{stable_live, value_in, at_once, last_same}
 use Rattle.lisp_eval.proofs.State.{State}

@@ -1,5 +1,5 @@
 -- Definitions that only take objects apart and put them together see nothing but what is fine.
-use Rattle.std.proofs.Common.{◌≡◌, ◌∙◌, ap, sym, refl, ℕ, zero, suc, List, [], ◌∷◌, ◌++◌, Bool, true, false, cond, eqb, if◌then◌else◌, Option, Some, subst, slice_get}
+use Rattle.std.proofs.Common.{◌≡◌, ℕ, zero, suc, List, [], ◌∷◌, ◌++◌, Bool, true, false, eqb, if◌then◌else◌, Option, Some, subst, slice_get}
 use Rattle.gl_logic.specs.Object.{Object, nil}
 use Rattle.gl_logic.specs.ObjectEq.{is_nil}
 use Rattle.gl_logic.specs.PrimValue.{prim_value}
@@ -7,12 +7,12 @@ use Rattle.gl_logic.specs.declared.prim.Primitive as primitive
 use Rattle.gl_logic.specs.Environment.{look, bound, extended}
 use Rattle.gl_logic.specs.Definition.{Definition}
 use Rattle.gl_logic.specs.Exp.{Exp, Exps, Var, Const, If, Prim, Call, Let, Last, More}
-use Rattle.gl_logic.specs.Walk.{Walk, Walks, CallMade, ended, gathered, joined, walk_by, walks_by, opened, body_walk, walk}
+use Rattle.gl_logic.specs.Walk.{Walk, Walks, CallMade, ended, walk_by, walks_by, opened, body_walk}
 use Rattle.gl_logic.specs.Counts.{is_among}
 use Rattle.gl_logic.proofs.Optional.{none_some, some_same, Holds, then_holds, pick_holds, then_inverted}
 use Rattle.gl_logic.specs.Every.{Every}
 use Rattle.gl_logic.proofs.MadeCalls.{every_append}
-use Rattle.lisp_eval.proofs.Cover.{IsFineCall, AnswersAreFine}
+use Rattle.lisp_eval.proofs.Cover.{AnswersAreFine}
 
 module _ (Fine : Object → Type 0) (nil_fine : Fine nil) where
   abbrev pub KeepsFine : primitive.Primitive → Type 0

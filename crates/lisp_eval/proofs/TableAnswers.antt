@@ -1,5 +1,5 @@
 -- The six functions that tables answer: their definitions see nothing wide where no part of their arguments is.
-use Rattle.std.proofs.Common.{◌≡◌, ◌∙◌, ap, sym, refl, subst, ℕ, zero, suc, ◌<◌, arith, List, [], ◌∷◌, length, get_or, Bool, true, false, ◌||◌, eqb, cond, Option, None, Some, slice_get, inl, inr, ◌⊎◌}
+use Rattle.std.proofs.Common.{◌≡◌, ◌∙◌, ap, sym, refl, subst, ℕ, zero, suc, ◌<◌, arith, List, [], ◌∷◌, length, get_or, Bool, true, false, ◌||◌, eqb, cond, None, Some, slice_get, inl, inr}
 use Rattle.std.proofs.lemmas.Bool.{or_cases, eqb-true, ltb-true}
 use Rattle.std.specs.Prelude.{ltb}
 use Rattle.gl_logic.specs.Counts.{is_among}
@@ -10,15 +10,15 @@ use Rattle.gl_logic.specs.Ground.{ground, ground_definitions}
 use Rattle.gl_logic.specs.GroundCalls.{IsGroundIn}
 use Rattle.gl_logic.specs.IsGround.{AreGround}
 use Rattle.gl_logic.specs.Object.{Object, Int, Character, Symbol, Text, Cons, nil, car, cdr, boolean_object}
-use Rattle.gl_logic.specs.Walk.{Walk, then, walk, opened, body_walk}
+use Rattle.gl_logic.specs.Walk.{then, walk, body_walk}
 use Rattle.gl_logic.specs.Wide.{IsWideObject}
 use Rattle.gl_logic.specs.declared.prim.Primitive as primitive
 use Rattle.gl_logic.specs.declared.prim.Primitive.TheVariants as prim
 use Rattle.gl_logic.proofs.GroundCalls.{walks_as_ground}
-use Rattle.gl_logic.proofs.Optional.{none_some, some_same, then_inverted}
+use Rattle.gl_logic.proofs.Optional.{some_same, then_inverted}
 use Rattle.lisp_eval.specs.Narrow.{IsNarrow}
 use Rattle.lisp_eval.specs.Tables.{table_functions, answered_in}
-use Rattle.lisp_eval.proofs.Cover.{AnswersAreFine, IsFineCall}
+use Rattle.lisp_eval.proofs.Cover.{AnswersAreFine}
 use Rattle.lisp_eval.proofs.Structural.{KeepsFine, IsStructural, answers_are_fine}
 
 pub deep_narrow : (x : Object) → IsNarrow x → IsWideObject x → ⊥

@@ -1,5 +1,5 @@
 -- What tables answer is the value of the plain call.
-use Rattle.std.proofs.Common.{◌≡◌, ◌∙◌, ap, sym, refl, subst, ℕ, zero, suc, ◌<◌, arith, List, [], ◌∷◌, ◌++◌, length, get_or, Bool, true, false, cond, Option, None, Some, slice_get}
+use Rattle.std.proofs.Common.{◌≡◌, ◌∙◌, ap, sym, refl, subst, ℕ, zero, suc, ◌<◌, arith, List, [], ◌∷◌, ◌++◌, length, get_or, Bool, true, false, cond, Option, Some, slice_get}
 use Rattle.std.specs.Prelude.{ltb}
 use Rattle.std.proofs.lemmas.Bool.{ltb-true}
 use Rattle.gl_logic.specs.ConstantCall.{constant_call, constant_terms}
@@ -7,7 +7,7 @@ use Rattle.gl_logic.specs.Counts.{is_among}
 use Rattle.gl_logic.specs.Definition.{Definition}
 use Rattle.gl_logic.specs.Environment.{extended}
 use Rattle.gl_logic.specs.Evaluate.{HasValue}
-use Rattle.gl_logic.specs.Exp.{Exp, Exps, Var, Call, Last, More}
+use Rattle.gl_logic.specs.Exp.{Exps, Var, Call, Last, More}
 use Rattle.gl_logic.specs.Ground.{ground, ground_definitions}
 use Rattle.gl_logic.specs.GroundCalls.{IsGroundIn}
 use Rattle.gl_logic.specs.IsGround.{AreGround}
@@ -15,12 +15,12 @@ use Rattle.gl_logic.specs.Object.{Object, nil}
 use Rattle.gl_logic.specs.Walk.{Walk, Walks, then, ended, joined, walk, walks_by, opened, body_walk}
 use Rattle.gl_logic.proofs.GroundCalls.{walks_as_ground}
 use Rattle.gl_logic.proofs.Optional.{none_some, some_same, then_inverted}
-use Rattle.fast_alists.specs.Alists.{first_pair, forked, with_key}
+use Rattle.fast_alists.specs.Alists.{first_pair}
 use Rattle.fast_alists.specs.Values.{pair_or_nil, HoldsGround}
 use Rattle.fast_alists.proofs.Values.{acons_gives, get_gives, fork_gives}
 use Rattle.lisp_eval.specs.CallValue.{IsCallValue}
 use Rattle.lisp_eval.specs.Tables.{table_functions, answered_in, table_value}
-use Rattle.lisp_eval.proofs.TableAnswers.{among_cases, none_among, ground_count, small}
+use Rattle.lisp_eval.proofs.TableAnswers.{among_cases, none_among, ground_count}
 
 -- the body of a call has that value, with some depth
 record BodyValue (ds : List Definition) (f : ℕ) (xs : List Object) (y : Object) : Type 0 where

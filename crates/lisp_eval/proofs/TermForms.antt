@@ -1,14 +1,8 @@
 -- What each form of a term stands for.
-use Rattle.std.proofs.Common.{◌≡◌, ◌∙◌, ap, sym, List}
-use Rattle.std.specs.Prelude.{ℕ}
+use Rattle.std.proofs.Common.{◌≡◌, ◌∙◌, ap, sym}
 use Rattle.gl_logic.specs.Exp.{Exp}
 use Rattle.gl_logic.specs.Exp as exp
-use Rattle.gl_logic.specs.Object.{Object}
 use Rattle.gl_logic.specs.TermOf.{term_of, terms_of, step}
-use Rattle.gl_logic.specs.declared.ids.FnId.{FnId}
-use Rattle.gl_logic.specs.declared.ids.TextId.{TextId}
-use Rattle.gl_logic.specs.declared.prim.Primitive.{Primitive}
-use Rattle.gl_logic.specs.declared.term.Term.{Term}
 use Rattle.gl_logic.specs.declared.term.Term.TheFolds.{fold-roll-Term}
 use Rattle.gl_logic.specs.declared.term.Term.TheOpen as open_term
 use Rattle.gl_logic.specs.declared.term.Term.TheVariants.{rolls-Var, rolls-Const, rolls-If, rolls-Prim, rolls-Call, rolls-Let}

@@ -1,13 +1,12 @@
 -- Turns that a focus may still take before a term is visited.
 use Rattle.std.proofs.Common.{◌≡◌, ◌∙◌, ap, sym, refl, ℕ, suc, ◌+◌, ◌*◌, ◌<◌, ◌≤◌, arith, List, [], ◌∷◌, ◌++◌, length, length-append, Option, None, Some}
-use Rattle.std.specs.Prelude.{map}
 use Rattle.gl_logic.specs.Exp.{Exp, Exps, Last, More}
 use Rattle.gl_logic.specs.Object.{Object}
 use Rattle.hons_arena.specs.declared.id.Id.{Id}
 use Rattle.memo_tables.specs.Calls.{Call}
 use Rattle.lisp_eval.specs.Frames.{Frame, Branch, Arguments, Keep, Focus, Visit, Apply, Give, Work}
 use Rattle.lisp_eval.specs.Kept.{kept_frame}
-use Rattle.lisp_eval.specs.Moves.{Next, begun, handed}
+use Rattle.lisp_eval.specs.Moves.{begun, handed}
 use Rattle.lisp_eval.specs.States.{frame_of, frames_of, focus_of, IsNext}
 use Rattle.lisp_eval.specs.declared.frame.Focus as program
 use Rattle.lisp_eval.specs.declared.frame.Focus.TheVariants as focus

@@ -1,5 +1,5 @@
 -- What a live id stands for has no wide part.
-use Rattle.std.proofs.Common.{◌≡◌, ◌∙◌, ap, sym, refl, subst, true, ℕ, ◌<◌, List, length, get_or, inl, inr}
+use Rattle.std.proofs.Common.{◌∙◌, sym, refl, subst, inl, inr}
 use Rattle.std.proofs.lemmas.List.{get_or_default}
 use Rattle.std.specs.List.{Contains}
 use Rattle.gl_logic.specs.Object.{Object, Int, Character, Symbol, Text, Cons, nil}
@@ -8,9 +8,8 @@ use Rattle.hons_arena.specs.declared.id.Id.{Id}
 use Rattle.hons_arena.specs.declared.id.IdKind.TheVariants as kind
 use Rattle.hons_arena.specs.Held.{Held, IsWhole}
 use Rattle.hons_arena.specs.Ids.{object_at, IsLive}
-use Rattle.hons_arena.specs.Parts.{IsCellOf, AreHeld}
+use Rattle.hons_arena.specs.Parts.{AreHeld}
 use Rattle.hons_arena.proofs.CellsIn.{IsPart, cell_of}
-use Rattle.hons_arena.proofs.Placing.{part_self}
 use Rattle.lisp_eval.specs.Narrow.{IsNarrow}
 
 module _ (held : Held) (whole : IsWhole held) where

@@ -1,5 +1,5 @@
 -- Cells that an evaluation speaks of.
-use Rattle.std.proofs.Common.{◌≡◌, ◌≢◌, ◌∙◌, ap, sym, refl, ℕ, zero, suc, ◌+◌, ◌<◌, ◌≤◌, List, [], ◌∷◌, ◌++◌, subst, arith, length, length-append, get_or, inl, inr, ◌⊎◌}
+use Rattle.std.proofs.Common.{◌≢◌, ◌∙◌, sym, zero, suc, ◌<◌, List, [], ◌∷◌, ◌++◌, subst, arith, length, length-append, get_or, inl, inr, ◌⊎◌}
 use Rattle.std.specs.List.{All, AllPairs, Contains}
 use Rattle.std.proofs.lemmas.List.{get_or_default}
 use Rattle.std.proofs.lemmas.List.Elements.{All-contains_itself}
@@ -9,7 +9,7 @@ use Rattle.gl_logic.specs.Different.{different}
 use Rattle.hons_arena.specs.Parts.{IsCellOf}
 use Rattle.hons_arena.specs.Held.{Held, AddsCellsOf, IsEachOnce, LacksCell, HasNoRoomFor}
 use Rattle.hons_arena.proofs.Counting.{each_once_few}
-use Rattle.lisp_eval.specs.Within.{IsIn, IsSeenCell, IsWithin, AreWithin, CoverCells}
+use Rattle.lisp_eval.specs.Within.{IsIn, IsWithin, AreWithin, CoverCells}
 
 pub split : (xs ys : List Object) (y : Object) → Contains (xs ++ ys) y → Contains xs y ⊎ Contains ys y
 split [] ys y c = inr c

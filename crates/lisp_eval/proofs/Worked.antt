@@ -1,5 +1,5 @@
 -- The threaded count on the rows of counts that were computed outside this project.
-use Rattle.std.proofs.Common.{◌≡◌, refl, ℕ, Bool, true, List, [], ◌∷◌, eqb, pos}
+use Rattle.std.proofs.Common.{◌≡◌, refl, Bool, true, [], ◌∷◌, eqb, pos}
 use Rattle.std.specs.List.{list_all}
 use Rattle.gl_logic.specs.Ground.{ground, ground_definitions}
 use Rattle.gl_logic.specs.Object.{Int}

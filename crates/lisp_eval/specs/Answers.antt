@@ -1,5 +1,5 @@
 -- What an evaluation answers, and when.
-use Rattle.std.specs.Prelude.{◌≡◌, ◌<◌, ◌++◌, ℕ, List, length, map, Some, Result, IfOk, IsErrOf}
+use Rattle.std.specs.Prelude.{◌≡◌, ◌<◌, ◌++◌, ℕ, List, length, Some, Result, IsErrOf}
 use Rattle.gl_logic.specs.Object.{Object}
 use Rattle.gl_logic.specs.ObjectEq.{object_eq}
 use Rattle.gl_logic.specs.Definition.{Definition}
@@ -14,12 +14,11 @@ use Rattle.gl_logic.specs.WorldSeen.{WorldSeen}
 use Rattle.gl_logic.specs.Walk.{Walk, CallMade, body_walk}
 use Rattle.hons_arena.specs.declared.id.Id.{Id}
 use Rattle.hons_arena.specs.Held.{Held}
-use Rattle.hons_arena.specs.Ids.{object_at, IsLive, IsIdOf}
+use Rattle.hons_arena.specs.Ids.{object_at, IsLive}
 use Rattle.memo_tables.specs.Calls.{Call}
 use Rattle.lisp_eval.specs.CallValue.{IsCallValue}
 use Rattle.lisp_eval.specs.Kept.{entries_of}
 use Rattle.lisp_eval.specs.Narrow.{IsNarrow}
-use Rattle.lisp_eval.specs.States.{env_of}
 use Rattle.lisp_eval.specs.declared.frame.Binding.{Binding}
 use Rattle.lisp_eval.specs.declared.run.Cause.{Cause}
 use Rattle.lisp_eval.specs.declared.run.Cause.TheVariants as cause

@@ -1,5 +1,5 @@
 -- What a stack of frames makes of a value: the rest of an evaluation.
-use Rattle.std.specs.Prelude.{ℕ, zero, suc, ◌+◌, Bool, true, false, List, [], ◌∷◌, ◌++◌, length, Option, Some, None}
+use Rattle.std.specs.Prelude.{ℕ, ◌+◌, Bool, true, false, List, [], ◌∷◌, ◌++◌, length, Option, Some, None}
 use Rattle.gl_logic.specs.Object.{Object}
 use Rattle.gl_logic.specs.ObjectEq.{object_eq, is_nil}
 use Rattle.gl_logic.specs.PrimValue.{prim_value}
@@ -8,7 +8,7 @@ use Rattle.gl_logic.specs.Definition.{Definition}
 use Rattle.gl_logic.specs.Exp.{Exp, Exps}
 use Rattle.gl_logic.specs.declared.prim.Primitive as primitive
 use Rattle.gl_logic.specs.Walk.{CallMade, Walk, then}
-use Rattle.lisp_eval.specs.Threads.{Thread, Threads, plain_call, threaded, thread, threads, keeping}
+use Rattle.lisp_eval.specs.Threads.{Thread, plain_call, threaded, thread, threads}
 
 -- what is done with the values of some terms
 pub data Work : Type 0 where

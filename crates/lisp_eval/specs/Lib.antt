@@ -4,6 +4,7 @@ pub mod Bindings
 pub mod CallValue
 pub mod Compound
 pub mod Costs
+pub mod Directs
 pub mod Frames
 pub mod Gives
 pub mod Kept
@@ -13,6 +14,7 @@ pub mod Machines
 pub mod Moves
 pub mod Narrow
 pub mod Nexts
+pub mod Outside
 pub mod States
 pub mod Tables
 pub mod Threads

@@ -13,7 +13,6 @@ use Rattle.hons_arena.specs.Held.{Held}
 use Rattle.memo_tables.specs.Calls.{Call}
 use Rattle.lisp_eval.specs.Answers.{IsValueOf, IsCauseOf}
 use Rattle.lisp_eval.specs.Frames.{Visit}
-use Rattle.lisp_eval.specs.Frames as spec
 use Rattle.lisp_eval.specs.Kept.{kept_frame}
 use Rattle.lisp_eval.specs.Moves.{Next, begun, entered, handed}
 use Rattle.lisp_eval.specs.States.{env_of, values_of, work_of, frame_of, IsNext}

@@ -1,5 +1,5 @@
 -- Cells that were held at the start, or are of something seen.
-use Rattle.std.specs.Prelude.{◌≡◌, ℕ, List, Some, slice_get, All, Contains}
+use Rattle.std.specs.Prelude.{◌≡◌, ℕ, List, Some, slice_get, Contains}
 use Rattle.std.proofs.Common.{◌⊎◌}
 use Rattle.gl_logic.specs.Object.{Object}
 use Rattle.hons_arena.specs.Parts.{IsCellOf}

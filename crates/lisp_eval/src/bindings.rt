@@ -9,7 +9,7 @@ use hons_arena::{Id, IdKind};
 use std::alloc::Global;
 
 /// The id of NIL.
-const NIL: Id = Id {
+pub const NIL: Id = Id {
     kind: IdKind::Symbol,
     number: 0,
 };

@@ -26,7 +26,7 @@ pub enum Known {
 
 /// Whether calls of a function are kept.
 #[tactic(auto, using(crate::proofs::Amongs::is_among_step))]
-fn is_memoized(functions: &[u64], f: FnId) -> bool
+pub fn is_memoized(functions: &[u64], f: FnId) -> bool
     ensures { result ≡ is_among functions.now f.number }
 {
     for g in functions {

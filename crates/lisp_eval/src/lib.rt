@@ -2,15 +2,19 @@
 //!
 //! A [`Machine`] begins with a world and the functions whose finished calls it keeps, takes inputs, and evaluates terms. It
 //! runs on a stack of frames of its own, so that no depth of definitions is too great for it. Each value is the id of an
-//! object in its arena. It counts a visit to a subterm when it makes it, and opens a call of a memoized function once for
-//! the same arguments. Its refusals tell the truth: Steps only where the memoized cost exceeds the limit, Cells only where
+//! object in its arena. A primitive, or a call of a small definition, whose parts need no cell is evaluated at once, with no
+//! frame and no memory, and the integers on its way take no cells. It counts a visit to a subterm when it makes it, and opens a
+//! call of a memoized function once for the same arguments. Its refusals tell the truth: Steps only where the memoized cost exceeds the limit, Cells only where
 //! the cells that were held and those of the values computed are more different objects than the arena has cells, Width
 //! only where some value leaves 128 bits.
+//!
+//! What it takes is counted in `docs/BENCHMARKS.md`: the last rows of the theorems, and the evaluator's own.
 #![tactic(auto)]
 
 mod bindings;
 mod calls;
 mod constants;
+mod direct;
 mod env;
 mod eval;
 mod fault;
@@ -21,6 +25,7 @@ mod primitives;
 mod run;
 mod steps;
 mod tables;
+mod value;
 
 pub use env::Env;
 pub use fault::EvalFault;

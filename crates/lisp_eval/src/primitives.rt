@@ -2,12 +2,13 @@
 
 ghost use Rattle.std.specs.Prelude.{◌≡◌, IsTrue};
 ghost use Rattle.gl_logic.specs.Object.{Character, boolean_object};
-ghost use Rattle.gl_logic.specs.ObjectEq.{object_eq, is_nil};
-ghost use Rattle.gl_logic.specs.PrimValue.{prim_of, integer_in, natural_in, code_in, character_of};
+ghost use Rattle.gl_logic.specs.PrimValue.{prim_of, natural_in, code_in, character_of};
 ghost use Rattle.hons_arena.specs.Ids.{object_at, IsLive, IsIdOf};
 ghost use Rattle.lisp_eval.specs.declared.primitives.PrimFault.TheVariants as fault;
 ghost use Rattle.lisp_eval.specs.Gives.{is_predicate, IsByteTest, Gives};
+ghost use Rattle.lisp_eval.specs.Outside.{value_object, IsLiveValue};
 
+use crate::value::Value;
 use gl_logic::{Prim, TextId};
 use hons_arena::{Full, HonsArena, Id, Kind};
 use int_prims::{apply_int, is_operation, test_int};
@@ -37,12 +38,12 @@ pub fn primitive(arena: &mut HonsArena, prim: Prim, x: Id, y: Id) -> Result<Id, 
     ensures { Gives arena.old arena.new (prim_of prim (object_at arena.old.objects x) (object_at arena.old.objects y)) result }
 {
     if is_predicate(prim) {
-        let holds = predicate(arena, prim, x, y);
+        let holds = predicate(arena, prim, Value::Held(x), Value::Held(y));
         return Ok(boolean(arena, holds));
     }
     if is_operation(prim) {
-        let a = integer(arena, x);
-        let b = integer(arena, y);
+        let a = Value::Held(x).integer(arena);
+        let b = Value::Held(y).integer(arena);
         return match apply_int(prim, a, b) {
             Ok(i) => Ok(arena.int(i)?),
             Err(_) => Err(PrimFault::Wide),
@@ -53,7 +54,7 @@ pub fn primitive(arena: &mut HonsArena, prim: Prim, x: Id, y: Id) -> Result<Id, 
         Prim::Car => Ok(arena.car(x)),
         Prim::Cdr => Ok(arena.cdr(x)),
         Prim::CharCode => {
-            let code = code(arena, x);
+            let code = code(arena, Value::Held(x));
             Ok(arena.int(i128::from(code))?)
         }
         Prim::CodeChar => {
@@ -65,7 +66,7 @@ pub fn primitive(arena: &mut HonsArena, prim: Prim, x: Id, y: Id) -> Result<Id, 
 }
 
 /// T or NIL.
-fn boolean(arena: &HonsArena, b: bool) -> Id
+pub fn boolean(arena: &HonsArena, b: bool) -> Id
     ensures { IsIdOf arena.now.objects (boolean_object b) result }
 {
     arena.symbol(TextId {
@@ -74,7 +75,7 @@ fn boolean(arena: &HonsArena, b: bool) -> Id
 }
 
 /// Whether a primitive's value is always T or NIL.
-fn is_predicate(prim: Prim) -> bool
+pub fn is_predicate(prim: Prim) -> bool
     ensures { result ≡ is_predicate prim }
 {
     matches!(
@@ -94,78 +95,47 @@ fn is_predicate(prim: Prim) -> bool
 }
 
 /// Whether a predicate holds.
-fn predicate(arena: &HonsArena, prim: Prim, x: Id, y: Id) -> bool
+pub fn predicate(arena: &HonsArena, prim: Prim, x: Value, y: Value) -> bool
     requires prim { IsTrue (is_predicate prim) }
-    requires x { IsLive arena.now.objects x }
-    requires y { IsLive arena.now.objects y }
-    ensures { prim_of prim (object_at arena.now.objects x) (object_at arena.now.objects y) ≡ boolean_object result }
+    requires x { IsLiveValue arena.now.objects x }
+    requires y { IsLiveValue arena.now.objects y }
+    ensures { prim_of prim (value_object arena.now.objects x) (value_object arena.now.objects y) ≡ boolean_object result }
 {
     match prim {
-        Prim::Consp => matches!(arena.kind(x), Kind::Cons),
-        Prim::Integerp => matches!(arena.kind(x), Kind::Int(_)),
-        Prim::Symbolp => matches!(arena.kind(x), Kind::Symbol(_)),
-        Prim::Stringp => matches!(arena.kind(x), Kind::Text(_)),
-        Prim::Characterp => matches!(arena.kind(x), Kind::Character(_)),
-        Prim::Equal => same(arena, x, y),
-        Prim::Not => is_nil(arena, x),
-        Prim::Less => test_int(Prim::Less, integer(arena, x), integer(arena, y)),
-        Prim::Logbitp => test_int(Prim::Logbitp, integer(arena, x), integer(arena, y)),
+        Prim::Consp => matches!(x.kind(arena), Kind::Cons),
+        Prim::Integerp => matches!(x.kind(arena), Kind::Int(_)),
+        Prim::Symbolp => matches!(x.kind(arena), Kind::Symbol(_)),
+        Prim::Stringp => matches!(x.kind(arena), Kind::Text(_)),
+        Prim::Characterp => matches!(x.kind(arena), Kind::Character(_)),
+        Prim::Equal => x.same(y, arena),
+        Prim::Not => x.is_nil(arena),
+        Prim::Less => test_int(Prim::Less, x.integer(arena), y.integer(arena)),
+        Prim::Logbitp => test_int(Prim::Logbitp, x.integer(arena), y.integer(arena)),
         Prim::UnsignedByteP => both_integers(arena, Prim::UnsignedByteP, x, y),
         Prim::SignedByteP => both_integers(arena, Prim::SignedByteP, x, y),
         _ => unreachable!(),
     }
 }
 
-/// Whether two objects are equal.
-fn same(arena: &HonsArena, x: Id, y: Id) -> bool
-    requires x { IsLive arena.now.objects x }
-    requires y { IsLive arena.now.objects y }
-    ensures { result ≡ object_eq (object_at arena.now.objects x) (object_at arena.now.objects y) }
-{
-    arena.same(x, y)
-}
-
-/// Whether an object is NIL.
-pub fn is_nil(arena: &HonsArena, x: Id) -> bool
-    requires { IsLive arena.now.objects x }
-    ensures { result ≡ is_nil (object_at arena.now.objects x) }
-{
-    match arena.kind(x) {
-        Kind::Symbol(name) => name.number == 0,
-        _ => false,
-    }
-}
-
-/// The integer that an object counts as: 0 where it is none.
-fn integer(arena: &HonsArena, x: Id) -> i128
-    requires { IsLive arena.now.objects x }
-    ensures { result ≡ integer_in (object_at arena.now.objects x) }
-{
-    match arena.kind(x) {
-        Kind::Int(i) => i,
-        _ => 0,
-    }
-}
-
 /// A test of two integers, false where either object is none.
-fn both_integers(arena: &HonsArena, prim: Prim, x: Id, y: Id) -> bool
+fn both_integers(arena: &HonsArena, prim: Prim, x: Value, y: Value) -> bool
     requires prim { IsByteTest prim }
-    requires x { IsLive arena.now.objects x }
-    requires y { IsLive arena.now.objects y }
-    ensures { prim_of prim (object_at arena.now.objects x) (object_at arena.now.objects y) ≡ boolean_object result }
+    requires x { IsLiveValue arena.now.objects x }
+    requires y { IsLiveValue arena.now.objects y }
+    ensures { prim_of prim (value_object arena.now.objects x) (value_object arena.now.objects y) ≡ boolean_object result }
 {
-    match (arena.kind(x), arena.kind(y)) {
+    match (x.kind(arena), y.kind(arena)) {
         (Kind::Int(a), Kind::Int(b)) => test_int(prim, a, b),
         _ => false,
     }
 }
 
 /// The code of a character, 0 for any other object.
-fn code(arena: &HonsArena, x: Id) -> u8
-    requires { IsLive arena.now.objects x }
-    ensures { result ≡ code_in (object_at arena.now.objects x) }
+pub fn code(arena: &HonsArena, x: Value) -> u8
+    requires { IsLiveValue arena.now.objects x }
+    ensures { result ≡ code_in (value_object arena.now.objects x) }
 {
-    match arena.kind(x) {
+    match x.kind(arena) {
         Kind::Character(code) => code,
         _ => 0,
     }

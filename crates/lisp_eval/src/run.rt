@@ -12,10 +12,12 @@ ghost use Rattle.lisp_eval.specs.States.{env_of};
 
 use crate::bindings::{id_at, look};
 use crate::calls::{Known, bound, is_answered, look_up, open};
+use crate::direct::call_at_once;
 use crate::frame::{Binding, Focus, Work};
 use crate::primitives::{PrimFault, primitive};
 use crate::steps::{hand, visit};
 use crate::tables::answer;
+use crate::value::Value;
 use fast_alists::{AlistFault, FastAlists};
 use gl_logic::{NoMemory, Term, World};
 use hons_arena::{HonsArena, Id};
@@ -68,16 +70,41 @@ pub fn run<'a>(
                 if left == 0 {
                     return Ok(Err(Cause::Steps));
                 }
-                left -= 1;
                 match t {
                     Term::Var(name) => {
+                        left -= 1;
                         focus = Focus::Give(look(inner.as_ref().as_slice(), *name));
                     }
-                    Term::Const(tree) => match arena.place(tree) {
-                        Ok(id) => focus = Focus::Give(id),
-                        Err(_) => return Ok(Err(Cause::Cells)),
+                    Term::Const(tree) => {
+                        left -= 1;
+                        match arena.place(tree) {
+                            Ok(id) => focus = Focus::Give(id),
+                            Err(_) => return Ok(Err(Cause::Cells)),
+                        }
+                    }
+                    _ => match call_at_once(
+                        world,
+                        functions,
+                        arena,
+                        t,
+                        inner.as_ref().as_slice(),
+                        left,
+                    ) {
+                        Some(found) => {
+                            left = found.left;
+                            match found.value {
+                                Value::Held(id) => focus = Focus::Give(id),
+                                Value::Int(i) => match arena.int(i) {
+                                    Ok(id) => focus = Focus::Give(id),
+                                    Err(_) => return Ok(Err(Cause::Cells)),
+                                },
+                            }
+                        }
+                        None => {
+                            left -= 1;
+                            focus = visit(t, inner, alloc, &mut frames)?;
+                        }
                     },
-                    _ => focus = visit(t, inner, alloc, &mut frames)?,
                 }
             }
             Focus::Apply(work, values, outer) => match work {

@@ -8,7 +8,7 @@ ghost use Rattle.lisp_eval.specs.Kept.{KeepsCall};
 ghost use Rattle.lisp_eval.specs.Nexts.{Begins, Enters, Hands};
 
 use crate::frame::{Binding, Focus, Frame, Work};
-use crate::primitives::is_nil;
+use crate::value::Value;
 use gl_logic::{NoMemory, Term};
 use hons_arena::{HonsArena, Id};
 use memo_tables::MemoTables;
@@ -92,7 +92,7 @@ pub fn hand<'a>(
 {
     match frame {
         Frame::Branch(then, otherwise, env) => {
-            if is_nil(arena, value) {
+            if Value::Held(value).is_nil(arena) {
                 Ok(Focus::Visit(otherwise, env))
             } else {
                 Ok(Focus::Visit(then, env))

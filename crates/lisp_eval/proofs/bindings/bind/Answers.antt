@@ -1,4 +1,4 @@
-use Rattle.std.proofs.Common.{arith, rules, ◌≡◌, ◌∙◌, ap, ◌++◌, ℕ, length}
+use Rattle.std.proofs.Common.{arith, ◌∙◌, ap, ◌++◌}
 use Rattle.lisp_eval.proofs.Environments.{bind_next, bind_all}
 use Rattle.lisp_eval.proofs.bindings.bind.Goals as goal
 

@@ -1,4 +1,4 @@
-use Rattle.std.proofs.Common.{◌≡◌, ◌++◌, take}
+use Rattle.std.proofs.Common.{◌≡◌, take}
 use Rattle.lisp_eval.specs.Bindings.{bindings_of}
 use Rattle.lisp_eval.proofs.bindings.bind.Given as goal
 

@@ -1,11 +1,9 @@
-use Rattle.std.proofs.Common.{◌≡◌, ◌∙◌, ap, sym, refl, [], ◌∷◌, ◌++◌}
-use Rattle.gl_logic.specs.Definition.{Definition}
+use Rattle.std.proofs.Common.{◌∙◌, ap, sym, refl, [], ◌++◌}
 use Rattle.gl_logic.specs.DefinitionOf.{definition_of}
 use Rattle.gl_logic.proofs.Optional.{some_same}
 use Rattle.lisp_eval.specs.Bindings.{bindings_of}
 use Rattle.lisp_eval.specs.Kept.{kept_frame}
-use Rattle.lisp_eval.specs.States.{frames_of, frame_of}
-use Rattle.lisp_eval.specs.declared.frame.Frame.TheVariants as frame
+use Rattle.lisp_eval.specs.States.{frames_of}
 use Rattle.lisp_eval.proofs.Environments.{opened_next, frames_push, append_none}
 use Rattle.lisp_eval.proofs.calls.open.Goals as goal
 

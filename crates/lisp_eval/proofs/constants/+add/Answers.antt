@@ -1,7 +1,3 @@
-use Rattle.std.proofs.Common.{◌≡◌, ◌++◌, map, Bor}
-use Rattle.gl_logic.specs.CellCounts.{constants_of}
-use Rattle.gl_logic.specs.Object.{Object}
-use Rattle.gl_logic.specs.TermOf.{term_of}
 use Rattle.lisp_eval.proofs.PlacedConstants.{constants_next, behind_more}
 use Rattle.lisp_eval.proofs.constants.+add.Goals as goal
 

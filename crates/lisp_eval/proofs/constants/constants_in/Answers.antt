@@ -1,4 +1,4 @@
-use Rattle.std.proofs.Common.{rules, ◌≡◌, ◌∙◌, ap, sym, ℕ, [], ◌∷◌, ◌++◌, map, Bor}
+use Rattle.std.proofs.Common.{◌∙◌, ap, sym, ℕ, [], ◌∷◌, ◌++◌, map, Bor}
 use Rattle.gl_logic.specs.Object.{Object}
 use Rattle.lisp_eval.proofs.PlacedConstants.{take_next, map-push}
 use Rattle.lisp_eval.proofs.constants.constants_in.Goals as goal

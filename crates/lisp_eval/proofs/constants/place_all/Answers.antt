@@ -1,4 +1,4 @@
-use Rattle.std.proofs.Common.{rules, arith, ◌≡◌, ◌<◌, ◌≤◌, ◌∙◌, ap, sym, subst, refl, length, map, Bor, Some, List, slice_get, IsErr, ℕ}
+use Rattle.std.proofs.Common.{rules, arith, ◌≡◌, ◌<◌, ◌∙◌, length, map, Bor, Some, slice_get, IsErr}
 use Rattle.std.proofs.lemmas.List.{length-map}
 use Rattle.gl_logic.specs.Object.{Object}
 use Rattle.lisp_eval.specs.MachineCalls.{different_cells}

@@ -1,5 +1,4 @@
-use Rattle.std.proofs.Common.{rules, ◌≡◌, ◌∙◌, ap, sym, subst, List}
-use Rattle.lisp_eval.specs.declared.frame.Binding.{Binding}
+use Rattle.std.proofs.Common.{rules, ◌≡◌, ◌∙◌, ap, sym}
 use Rattle.lisp_eval.specs.States.{env_of}
 use Rattle.lisp_eval.proofs.Grown.{env_stable}
 use Rattle.lisp_eval.proofs.eval.started.Goals as goal

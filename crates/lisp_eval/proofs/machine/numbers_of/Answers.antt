@@ -1,4 +1,4 @@
-use Rattle.std.proofs.Common.{◌≡◌, ◌∙◌, ap, sym, ◌++◌, ◌∷◌, []}
+use Rattle.std.proofs.Common.{◌∙◌, ap, sym, ◌++◌, ◌∷◌, []}
 use Rattle.lisp_eval.proofs.PlacedConstants.{take_next}
 use Rattle.lisp_eval.proofs.machine.numbers_of.Goals as goal
 

@@ -1,22 +1,26 @@
-use Rattle.std.proofs.Common.{rules, true, false, ◌≡◌, ◌∙◌, ap, sym, refl, subst, ℕ, ◌<◌, ◌++◌, [], List, Result, Ok, Err, Some, None}
+use Rattle.std.proofs.Common.{rules, true, ◌≡◌, ◌∙◌, ap, sym, refl, subst, arith, ◌+◌, ◌-◌, [], List, Result, Ok, Err, None}
 use Rattle.gl_logic.specs.Exp.{Var, Const}
-use Rattle.gl_logic.specs.Object.{Object}
+use Rattle.gl_logic.specs.Object.{Object, Int}
 use Rattle.gl_logic.specs.PrimValue.{prim_of}
 use Rattle.gl_logic.specs.TermOf.{term_of}
-use Rattle.hons_arena.specs.Held.{Held, LacksCell}
-use Rattle.hons_arena.specs.Ids.{object_at, IsLive}
+use Rattle.hons_arena.specs.Held.{Held, Interns, LacksCell, AddsCellsOf, IsWhole}
+use Rattle.hons_arena.specs.declared.id.Full.{Full}
+use Rattle.hons_arena.specs.Ids.{object_at, IsLive, IsIdOf}
 use Rattle.hons_arena.specs.declared.id.Id.{Id}
 use Rattle.fast_alists.proofs.Agreeing.{tables_stay}
-use Rattle.hons_arena.proofs.CellsIn.{cell_of}
-use Rattle.hons_arena.proofs.Placing.{part_self}
-use Rattle.lisp_eval.specs.Answers.{IsCrowded}
+use Rattle.fast_alists.specs.Tables.{Agree}
+use Rattle.hons_arena.proofs.Placing.{part_self, adds_none, adds_entered}
+use Rattle.lisp_eval.specs.Answers.{HasGrown}
 use Rattle.lisp_eval.specs.Bindings.{id_in, id_or_nil}
 use Rattle.lisp_eval.specs.Compound.{IsCompound}
+use Rattle.lisp_eval.specs.Directs.{IsFound}
 use Rattle.lisp_eval.specs.Frames.{Visit}
 use Rattle.lisp_eval.specs.Gives.{Gives}
 use Rattle.lisp_eval.specs.Kept.{IsKnown}
 use Rattle.lisp_eval.specs.Narrow.{IsNarrow}
+use Rattle.lisp_eval.specs.Outside.{value_object, IsLiveValue}
 use Rattle.lisp_eval.specs.States.{env_of}
+use Rattle.lisp_eval.specs.declared.frame.Binding.{Binding}
 use Rattle.lisp_eval.specs.Tables.{answered_in, answer_object}
 use Rattle.fast_alists.specs.Makes.{Makes}
 use Rattle.fast_alists.specs.declared.fault.AlistFault.{AlistFault}
@@ -24,7 +28,6 @@ use Rattle.fast_alists.specs.declared.fault.AlistFault.TheVariants as alist_faul
 use Rattle.gl_logic.specs.Counts.{is_among}
 use Rattle.lisp_eval.specs.declared.frame.Focus as program
 use Rattle.lisp_eval.specs.declared.frame.Focus.TheVariants as focus
-use Rattle.lisp_eval.specs.declared.frame.Work.TheVariants as work
 use Rattle.lisp_eval.specs.declared.calls.Known.{Known}
 use Rattle.lisp_eval.specs.declared.calls.Known.TheVariants as known
 use Rattle.lisp_eval.specs.declared.primitives.PrimFault.{PrimFault}
@@ -33,11 +36,12 @@ use Rattle.lisp_eval.proofs.Environments.{append_none}
 use Rattle.gl_logic.proofs.Worlds.{world_ground}
 use Rattle.lisp_eval.proofs.WholeNarrow.{whole_narrow}
 use Rattle.lisp_eval.proofs.Grown.{grown_more, crowded_at, lacks_itself}
-use Rattle.lisp_eval.proofs.State.{State, visit_dear, visit_next, var_live, var_next, const_next, const_crowded}
+use Rattle.lisp_eval.proofs.State.{State, visit_dear, visit_next, var_live, var_next, const_next, const_crowded, visit_live, found_next, found_crowded}
 use Rattle.lisp_eval.proofs.StateApplies.{answered_crowded, answered_next, arg_live, prim_next, prim_wide, prim_crowded, let_next, kept_live, kept_next, call_there, call_definition, opens_known}
 use Rattle.lisp_eval.proofs.StateGives.{state_start, state_done, give_live, hand_next, keeps_on}
 use Rattle.lisp_eval.proofs.Turns.{opens_smaller, hand_smaller}
 use Rattle.lisp_eval.proofs.TermForms.{var_term, const_term}
+use Rattle.lisp_eval.proofs.run.run.Goals.{in-Held, in-Int+in-Ok-int}
 use Rattle.lisp_eval.proofs.run.run.Goals as goal
 
 pub loop-focus-init : goal.loop-focus-init
@@ -121,8 +125,8 @@ loop-focus-preserved-in-Const-1 c =
       limit = c.place.ensures.places.limit ∙ l.invariant.limit;
     }
 
-pub loop-focus-preserved-in_default : goal.loop-focus-preserved-in_default
-loop-focus-preserved-in_default c =
+pub loop-focus-preserved-in-None : goal.loop-focus-preserved-in-None
+loop-focus-preserved-in-None c =
     let l = c.loop-focus in
     let w = c.args.world.now in
     let fs = c.args.functions.now in
@@ -132,12 +136,102 @@ loop-focus-preserved-in_default c =
     let s = subst (λ (f : program.Focus). State w fs env t c.args.limit st l.left f l.frames.items l.arena.objects l.memos) c.in-Visit.is l.invariant.state in
     let compound : IsCompound (term_of c.in-Visit.t.now) = c.visit.ensures.parts in
     record {
-      state = visit_next w fs env t c.args.limit st l.left c.in-Visit.t c.in-Visit.inner l.frames.items l.arena.objects l.memos s c.if-left-eq0.false compound c.in_ok-focus-in_default.focus c.visit.new.frames.items c.in_ok-focus-in_default.ensures.next;
+      state = visit_next w fs env t c.args.limit st l.left c.in-Visit.t c.in-Visit.inner l.frames.items l.arena.objects l.memos s c.if-left-eq0.false compound c.in_ok-focus-in-None.focus c.visit.new.frames.items c.in_ok-focus-in-None.ensures.next;
       grown = l.invariant.grown;
       whole = l.invariant.whole;
       alists = l.invariant.alists;
       limit = l.invariant.limit;
     }
+
+pub call_at_once-requires : goal.call_at_once-requires
+call_at_once-requires c =
+    let l = c.loop-focus in
+    let w = c.args.world.now in
+    let fs = c.args.functions.now in
+    let st = c.args.arena.now.objects in
+    let env = env_of st c.args.env.value.items in
+    let t = term_of c.args.term.now in
+    let s = subst (λ (f : program.Focus). State w fs env t c.args.limit st l.left f l.frames.items l.arena.objects l.memos) c.in-Visit.is l.invariant.state in
+    record {
+      whole = l.invariant.whole;
+      env = visit_live w fs env t c.args.limit st l.left c.in-Visit.t c.in-Visit.inner l.frames.items l.arena.objects l.memos s c.as_slice-in_default.result.now (c.as_slice-in_default.ensures.value ∙ ap (λ z. z.items) c.as_ref-in_default.ensures);
+    }
+
+pub returns-in-Err-int : goal.returns-in-Err-int
+returns-in-Err-int c =
+    let l = c.loop-focus in
+    let w = c.args.world.now in
+    let fs = c.args.functions.now in
+    let st = c.args.arena.now.objects in
+    let env = env_of st c.args.env.value.items in
+    let t = term_of c.args.term.now in
+    let s = subst (λ (f : program.Focus). State w fs env t c.args.limit st l.left f l.frames.items l.arena.objects l.memos) c.in-Visit.is l.invariant.state in
+    let objects = l.arena.objects in
+    let items : c.as_slice-in_default.result.now ≡ c.in-Visit.inner.value.items = c.as_slice-in_default.ensures.value ∙ ap (λ z. z.items) c.as_ref-in_default.ensures in
+    let g = subst (λ (bs : List Binding). IsFound w.definitions fs objects (env_of objects bs) (term_of c.in-Visit.t.now) l.left c.in-Some.found) items c.in-Some.ensures in
+    let y = value_object objects c.in-Some.found.value in
+    let visits : l.left - c.in-Some.found.left + c.in-Some.found.left ≡ l.left = omega (arith, g.fewer) in
+    let v = Int c.in-Int.i in
+    let is : y ≡ v = ap (value_object objects) c.in-Int.is in
+    let refused : c.int.result ≡ Err c.in-Err-int.field-0 = search rules in
+    let asked : Interns l.arena c.int.new.self v c.int.result = search rules in
+    let i : Interns l.arena c.int.new.self v (Err c.in-Err-int.field-0) = subst (λ (r : Result Id Full). Interns l.arena c.int.new.self v r) refused asked in
+    let lack = subst (LacksCell l.arena) (sym is) (lacks_itself l.arena v refl (i.full.0 refl)) in
+    record {
+      answer = crowded_at w env t st l.arena.limit c.args.arena.now.limit l.invariant.limit
+          (found_crowded w fs env t c.args.limit st l.left c.in-Visit.t c.in-Visit.inner l.frames.items objects l.memos s y (l.left - c.in-Some.found.left) g.gives c.in-Some.found.left visits l.arena refl lack l.invariant.whole.different);
+      memos = tt;
+      cells = tt;
+      alists = tt;
+      grown = subst (λ (h : Held). HasGrown st h.objects) (sym i.unchanged) l.invariant.grown;
+      limit = i.limit ∙ l.invariant.limit;
+    }
+
+pub loop-focus-preserved-in-Some-1 : goal.loop-focus-preserved-in-Some-1
+loop-focus-preserved-in-Some-1 c =
+    let l = c.loop-focus in
+    let w = c.args.world.now in
+    let fs = c.args.functions.now in
+    let st = c.args.arena.now.objects in
+    let env = env_of st c.args.env.value.items in
+    let t = term_of c.args.term.now in
+    let s = subst (λ (f : program.Focus). State w fs env t c.args.limit st l.left f l.frames.items l.arena.objects l.memos) c.in-Visit.is l.invariant.state in
+    let objects = l.arena.objects in
+    let items : c.as_slice-in_default.result.now ≡ c.in-Visit.inner.value.items = c.as_slice-in_default.ensures.value ∙ ap (λ z. z.items) c.as_ref-in_default.ensures in
+    let g = subst (λ (bs : List Binding). IsFound w.definitions fs objects (env_of objects bs) (term_of c.in-Visit.t.now) l.left c.in-Some.found) items c.in-Some.ensures in
+    let y = value_object objects c.in-Some.found.value in
+    let visits : l.left - c.in-Some.found.left + c.in-Some.found.left ≡ l.left = omega (arith, g.fewer) in
+    let next = found_next w fs env t c.args.limit st l.left c.in-Visit.t c.in-Visit.inner l.frames.items objects l.memos s y (l.left - c.in-Some.found.left) g.gives c.in-Some.found.left visits in
+    elim c.match-found.branch [
+      | in-Held k ↦
+          let id : IsIdOf objects y k.in-Held.id = (subst (IsLiveValue objects) k.in-Held.is g.live, sym (ap (value_object objects) k.in-Held.is)) in
+          let state = next objects (adds_none y objects) k.in-Held.id id in
+          record {
+            state = subst (λ (f : program.Focus). State w fs env t c.args.limit st c.in-Some.found.left f l.frames.items c.match-found.arena.objects l.memos) (sym k.focus-is)
+                (subst (λ (h : Held). State w fs env t c.args.limit st c.in-Some.found.left (focus.Give k.in-Held.id) l.frames.items h.objects l.memos) (sym k.arena-is) state);
+            grown = subst (λ (h : Held). HasGrown st h.objects) (sym k.arena-is) l.invariant.grown;
+            whole = subst IsWhole (sym k.arena-is) l.invariant.whole;
+            alists = subst (λ (h : Held). Agree h.objects l.alists) (sym k.arena-is) l.invariant.alists;
+            limit = ap (λ (h : Held). h.limit) k.arena-is ∙ l.invariant.limit;
+          }
+      | in-Int+in-Ok-int k ↦
+          let v = Int k.in-Int.i in
+          let is : y ≡ v = ap (value_object objects) k.in-Int.is in
+          let new = k.int.new.self in
+          let given : k.int.result ≡ Ok k.in-Ok-int.id = search rules in
+          let asked : Interns l.arena new v k.int.result = search rules in
+          let i : Interns l.arena new v (Ok k.in-Ok-int.id) = subst (λ (r : Result Id Full). Interns l.arena new v r) given asked in
+          let adds : AddsCellsOf v objects new.objects = adds_entered v v objects new.objects refl (part_self v) i.objects in
+          let state = next new.objects (subst (λ (x : Object). AddsCellsOf x objects new.objects) (sym is) adds) k.in-Ok-int.id (i.id.0, i.id.1 ∙ sym is) in
+          record {
+            state = subst (λ (f : program.Focus). State w fs env t c.args.limit st c.in-Some.found.left f l.frames.items c.match-found.arena.objects l.memos) (sym k.focus-is)
+                (subst (λ (h : Held). State w fs env t c.args.limit st c.in-Some.found.left (focus.Give k.in-Ok-int.id) l.frames.items h.objects l.memos) (sym k.arena-is) state);
+            grown = subst (λ (h : Held). HasGrown st h.objects) (sym k.arena-is) (grown_more v st objects new.objects l.invariant.grown adds);
+            whole = subst IsWhole (sym k.arena-is) i.whole;
+            alists = subst (λ (h : Held). Agree h.objects l.alists) (sym k.arena-is) (tables_stay v objects new.objects adds l.alists l.invariant.alists);
+            limit = ap (λ (h : Held). h.limit) k.arena-is ∙ (i.limit ∙ l.invariant.limit);
+          }
+    ]
 
 pub primitive-requires-clause-x : goal.primitive-requires-clause-x
 primitive-requires-clause-x c =
@@ -372,8 +466,8 @@ loop-focus-smaller-in-Let c =
     let l = c.loop-focus in
     opens_smaller l.left c.in-Apply.work c.in-Apply.values c.in-Apply.outer l.focus c.in-Apply.is None l.frames.items c.in_ok-focus-in-Let.focus l.frames.items (term_of c.in-Let.body.now) _ (c.in_ok-focus-in-Let.ensures.next [] l.frames.items)
 
-pub returns-in-None-clause-answer : goal.returns-in-None-clause-answer
-returns-in-None-clause-answer c =
+pub returns-in-None-pop-clause-answer : goal.returns-in-None-pop-clause-answer
+returns-in-None-pop-clause-answer c =
     let l = c.loop-focus in
     let w = c.args.world.now in
     let fs = c.args.functions.now in
@@ -384,8 +478,8 @@ returns-in-None-clause-answer c =
     let none : l.frames.items ≡ [] = search rules in
     (state_done w fs env t c.args.limit st l.left c.in-Give.value l.frames.items l.arena.objects l.memos s none).0
 
-pub returns-in-None-clause-memos : goal.returns-in-None-clause-memos
-returns-in-None-clause-memos c =
+pub returns-in-None-pop-clause-memos : goal.returns-in-None-pop-clause-memos
+returns-in-None-pop-clause-memos c =
     let l = c.loop-focus in
     let w = c.args.world.now in
     let fs = c.args.functions.now in
@@ -396,8 +490,8 @@ returns-in-None-clause-memos c =
     let none : l.frames.items ≡ [] = search rules in
     (state_done w fs env t c.args.limit st l.left c.in-Give.value l.frames.items l.arena.objects l.memos s none).1.0
 
-pub returns-in-None-clause-cells : goal.returns-in-None-clause-cells
-returns-in-None-clause-cells c =
+pub returns-in-None-pop-clause-cells : goal.returns-in-None-pop-clause-cells
+returns-in-None-pop-clause-cells c =
     let l = c.loop-focus in
     let w = c.args.world.now in
     let fs = c.args.functions.now in
@@ -428,9 +522,9 @@ loop-focus-preserved c =
     let env = env_of st c.args.env.value.items in
     let t = term_of c.args.term.now in
     let s = subst (λ (f : program.Focus). State w fs env t c.args.limit st l.left f l.frames.items l.arena.objects l.memos) c.in-Give.is l.invariant.state in
-    let keeps = keeps_on w fs env t c.args.limit st l.left c.in-Give.value l.frames.items l.arena.objects l.memos s c.pop.new.self.items c.in-Some.frame c.in-Some.ensures.items c.hand.new.memos c.in_ok-focus-in-Some.ensures.keeps in
+    let keeps = keeps_on w fs env t c.args.limit st l.left c.in-Give.value l.frames.items l.arena.objects l.memos s c.pop.new.self.items c.in-Some-pop.frame c.in-Some-pop.ensures.items c.hand.new.memos c.in_ok-focus-in-Some-pop.ensures.keeps in
     record {
-      state = hand_next w fs env t c.args.limit st l.left c.in-Give.value l.frames.items l.arena.objects l.memos s c.pop.new.self.items c.in-Some.frame c.in-Some.ensures.items c.hand.new.memos keeps c.in_ok-focus-in-Some.focus c.hand.new.frames.items c.in_ok-focus-in-Some.ensures.next;
+      state = hand_next w fs env t c.args.limit st l.left c.in-Give.value l.frames.items l.arena.objects l.memos s c.pop.new.self.items c.in-Some-pop.frame c.in-Some-pop.ensures.items c.hand.new.memos keeps c.in_ok-focus-in-Some-pop.focus c.hand.new.frames.items c.in_ok-focus-in-Some-pop.ensures.next;
       grown = l.invariant.grown;
       whole = l.invariant.whole;
       alists = l.invariant.alists;
@@ -440,4 +534,4 @@ loop-focus-preserved c =
 pub loop-focus-smaller : goal.loop-focus-smaller
 loop-focus-smaller c =
     let l = c.loop-focus in
-    hand_smaller l.left l.arena.objects c.in-Give.value l.focus c.in-Give.is l.frames.items c.pop.new.self.items c.in-Some.frame c.in-Some.ensures.items c.in_ok-focus-in-Some.focus c.hand.new.frames.items (object_at l.arena.objects c.in-Give.value) (c.in_ok-focus-in-Some.ensures.next [])
+    hand_smaller l.left l.arena.objects c.in-Give.value l.focus c.in-Give.is l.frames.items c.pop.new.self.items c.in-Some-pop.frame c.in-Some-pop.ensures.items c.in_ok-focus-in-Some-pop.focus c.hand.new.frames.items (object_at l.arena.objects c.in-Give.value) (c.in_ok-focus-in-Some-pop.ensures.next [])

@@ -1,4 +1,4 @@
-use Rattle.std.proofs.Common.{◌≡◌, sym, subst, ◌++◌}
+use Rattle.std.proofs.Common.{sym, subst, ◌++◌}
 use Rattle.std.specs.Prelude.{IfOk}
 use Rattle.gl_logic.specs.TermOf.{terms_of}
 use Rattle.hons_arena.specs.Ids.{object_at}

@@ -1,17 +1,14 @@
-use Rattle.std.proofs.Common.{rules, ◌≡◌, ◌∙◌, ap, sym, subst, refl, [], ◌∷◌, ◌++◌}
+use Rattle.std.proofs.Common.{rules, ◌≡◌, ◌∙◌, ap, sym, subst, refl}
 use Rattle.std.specs.Prelude.{IfOk}
 use Rattle.gl_logic.specs.Exp.{Exp}
 use Rattle.gl_logic.specs.Exp as exp
 use Rattle.gl_logic.specs.TermOf.{term_of, terms_of}
 use Rattle.gl_logic.specs.declared.term.Term.{Term}
-use Rattle.lisp_eval.specs.Bindings.{id_in}
 use Rattle.lisp_eval.specs.Frames as spec
 use Rattle.lisp_eval.specs.Moves.{entered}
-use Rattle.lisp_eval.specs.States.{env_of, IsNext, focus_of, frame_of}
-use Rattle.lisp_eval.specs.declared.frame.Focus.TheVariants as focus
-use Rattle.lisp_eval.specs.declared.frame.Frame.TheVariants as frame
-use Rattle.lisp_eval.proofs.Environments.{next_at, var_next, frames_push}
-use Rattle.lisp_eval.proofs.TermForms.{var_term, if_term, prim_term, call_term, let_term}
+use Rattle.lisp_eval.specs.States.{env_of, IsNext}
+use Rattle.lisp_eval.proofs.Environments.{next_at}
+use Rattle.lisp_eval.proofs.TermForms.{prim_term, call_term, let_term}
 use Rattle.lisp_eval.proofs.steps.visit.Goals as goal
 
 pub returns-in-Prim-clause-next : goal.returns-in-Prim-clause-next
