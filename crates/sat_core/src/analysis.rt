@@ -173,6 +173,15 @@ impl Analysis {
         Ok(())
     }
 
+    /// Makes the variables of the reasons of the clause's literals more active: those that would be met next.
+    fn bump_reasons(&self, trail: &Trail, clauses: &Clauses, order: &mut Order) {
+        for literal in &self.literals {
+            if let Some(reason) = trail.fact(literal.variable()).reason {
+                order.bump_all(clauses.of(reason));
+            }
+        }
+    }
+
     /// Looks at the reason of a variable. Whether each literal of it is seen, of level 0, or has a reason and a level of the
     /// clause, and then is to be looked at.
     fn look(&mut self, variable: u32, trail: &Trail, clauses: &Clauses) -> Result<bool, NoMemory> {
@@ -328,6 +337,7 @@ impl Analysis {
         if trail.level() == 0 {
             self.follow(clauses.of(conflict), trail, order)?;
         } else if self.resolve(conflict, trail, clauses, order)? {
+            self.bump_reasons(trail, clauses, order);
             self.minimise(trail, clauses)?;
         } else {
             return Ok(None);

@@ -75,13 +75,14 @@ fn begin(alloc: Global, aig: &Aig, e: Edge) -> Result<ClauseBook, NoMemory>
     Ok(book)
 }
 
-/// Searches for an assignment that makes the edge true, and learns at most this many clauses.
+/// Searches, from where the search stands, for an assignment that makes the edge true, and learns at most this many clauses.
 fn search_for(
     alloc: Global,
     aig: &mut Aig,
     book: &mut ClauseBook,
     e: Edge,
     clauses: u32,
+    search: &mut Search,
     out: &mut Assignment,
 ) -> Result<Decision, NoMemory>
     requires live { IsLive aig.old e }
@@ -96,14 +97,13 @@ fn search_for(
     ensures bits { length out.new ≡ length out.old }
     ensures untouched { result ≢ Ok Decision.Sometimes → out.new ≡ out.old }
 {
-    let mut search = Search::new(alloc, book)?;
     for _learned in 0..clauses {
         let conflict = search.run()?;
-        let found = is_found(alloc, aig, e, &search, conflict, out)?;
+        let found = is_found(alloc, aig, e, search, conflict, out)?;
         if found {
             return Ok(Decision::Sometimes);
         }
-        let empty = learns_empty(alloc, &mut search, conflict, book)?;
+        let empty = learns_empty(alloc, search, conflict, book)?;
         if empty {
             return Ok(Decision::Never);
         }
@@ -111,7 +111,8 @@ fn search_for(
     Ok(Decision::Spent)
 }
 
-/// Decides whether some assignment makes the edge true, by a book of the edge's clauses that has learned none.
+/// Decides whether some assignment makes the edge true, by a book of the edge's clauses that has learned none. Tells how
+/// many literals were propagated, where it searches.
 fn decide_by(
     alloc: Global,
     aig: &mut Aig,
@@ -119,6 +120,7 @@ fn decide_by(
     e: Edge,
     clauses: u32,
     last: &[bool],
+    propagations: &mut u64,
     out: &mut Assignment,
 ) -> Result<Decision, NoMemory>
     requires live { IsLive aig.old e }
@@ -139,16 +141,21 @@ fn decide_by(
     if known {
         return Ok(Decision::Sometimes);
     }
-    search_for(alloc, aig, book, e, clauses, out)
+    let mut search = Search::new(alloc, book)?;
+    let decision = search_for(alloc, aig, book, e, clauses, &mut search, out)?;
+    *propagations = search.propagations;
+    Ok(decision)
 }
 
-/// Decides whether some assignment makes the edge true. The decision, and its book.
+/// Decides whether some assignment makes the edge true. The decision, and its book; and how many literals were propagated,
+/// where it searches.
 pub fn decide_edge(
     alloc: Global,
     aig: &mut Aig,
     e: Edge,
     clauses: u32,
     last: &[bool],
+    propagations: &mut u64,
     out: &mut Assignment,
 ) -> Result<(Decision, ClauseBook), NoMemory>
     requires live { IsLive aig.old e }
@@ -163,6 +170,6 @@ pub fn decide_edge(
     ensures refused { OnErr result (out.new ≡ out.old) }
 {
     let mut book = begin(alloc, aig, e)?;
-    let decision = decide_by(alloc, aig, &mut book, e, clauses, last, out)?;
+    let decision = decide_by(alloc, aig, &mut book, e, clauses, last, propagations, out)?;
     Ok((decision, book))
 }

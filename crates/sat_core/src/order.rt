@@ -1,11 +1,14 @@
 //! The order in which variables are decided: by activity, in a heap.
 
-use super::literal::number_of;
+use super::literal::{Literal, number_of};
 use gl_logic::NoMemory;
 use std::alloc::Global;
 
-/// What a bump adds at first. It grows by a sixteenth with each conflict.
+/// What a bump adds at first. It grows by a part of `SLOWNESS` with each conflict.
 const FIRST_STEP: u64 = 1 << 20;
+
+/// How slowly later bumps come to weigh more.
+const SLOWNESS: u64 = 128;
 
 /// Where an activity or the step has come to this, all are halved, as often as `HALVINGS` says.
 const MOST: u64 = 1 << 62;
@@ -157,9 +160,16 @@ impl Order {
         }
     }
 
+    /// Makes the variables of these literals more active.
+    pub fn bump_all(&mut self, literals: &[Literal]) {
+        for literal in literals {
+            self.bump(literal.variable());
+        }
+    }
+
     /// Later bumps weigh more.
     pub fn age(&mut self) {
-        self.step = self.step.saturating_add(self.step / 16);
+        self.step = self.step.saturating_add(self.step / SLOWNESS);
         if self.step >= MOST {
             self.halve();
         }

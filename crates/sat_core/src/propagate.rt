@@ -153,6 +153,7 @@ impl Search {
             let Some(literal) = self.trail.next() else {
                 return Ok(None);
             };
+            self.propagations = self.propagations.saturating_add(1);
             let conflict = self.propagate_one(literal)?;
             if conflict.is_some() {
                 return Ok(conflict);

@@ -36,6 +36,8 @@ pub struct Search {
     period: u32,
     /// A clause that the unit clauses make false.
     failed: Option<u32>,
+    /// How many literals were taken from the trail, and the clauses gone through that watch their complements.
+    pub(crate) propagations: u64,
 }
 
 /// How many clauses are learned before some are forgotten for the first time.
@@ -64,6 +66,7 @@ impl Search {
             left: FIRST_PERIOD,
             period: FIRST_PERIOD,
             failed: None,
+            propagations: 0,
         };
         search.load(alloc, book)?;
         Ok(search)

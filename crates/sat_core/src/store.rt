@@ -25,6 +25,8 @@ pub struct AigSat {
     spent: bool,
     /// The assignment that was found last.
     last: Vec<bool>,
+    /// How many literals the search of the last decision propagated.
+    propagations: u64,
 }
 
 impl Model for AigSat {
@@ -56,6 +58,7 @@ impl AigSat {
             book: None,
             spent: false,
             last: Vec::new(alloc),
+            propagations: 0,
         })
     }
 
@@ -72,6 +75,12 @@ impl AigSat {
         ensures well { IsSpentWell self.now.spent self.now.clauses self.now.book }
     {
         self.spent
+    }
+
+    /// How many literals the search of the last decision propagated: took from its trail, and went through the clauses that
+    /// watch them. 0 where there was no search. It is for measuring alone: no answer stands on it, and no clause speaks of it.
+    pub fn propagations(&self) -> u64 {
+        self.propagations
     }
 
     /// Hands out the book of the last decision. None exactly where no decision was made since the last taking, or the last
@@ -178,6 +187,7 @@ impl Bits for AigSat {
         ensures refused { OnErr result (self.new.book ≡ None) }
     {
         self.spent = false;
+        self.propagations = 0;
         self.book = None;
         let (decision, book) = decide_edge(
             self.alloc,
@@ -185,6 +195,7 @@ impl Bits for AigSat {
             e,
             self.clauses,
             &self.last,
+            &mut self.propagations,
             out,
         )?;
         self.book = Some(book);

@@ -270,6 +270,7 @@ fn answers_and_books(rt: HostRuntime) -> Result<(), Fail> {
             decide(&rt, rt.alloc(), &mut store, e)? == expected,
             "{e:?}"
         );
+        assert!(rt; (store.propagations() > 0) == (expected == Decision::Spent));
         let (count, empty) = taken(&rt, &mut store);
         assert!(rt;
             count == learned && empty == (expected == Decision::Never),
