@@ -18,25 +18,31 @@
 //! which stand in the order of the trail. So hints are written in analysis and never searched for. A clause that the book
 //! refuses is replaced by that of the decisions, with the reasons in their order. Variables of the cone alone are decided,
 //! by activity, in a heap: a whole number, to which later conflicts add more, and all are halved before one would leave its
-//! type. Each takes the value that it had last. The search begins anew after Luby's numbers times a hundred conflicts, and
-//! then and when forgets half of the long clauses that it learned, those whose literals had most levels. The book keeps
-//! them.
+//! type. A conflict adds to the variables that it is followed through, and to those of the reasons of the learned clause's
+//! literals, as CaDiCaL and MapleSAT do: on products of words this halves the clauses that are learned. Each variable takes the
+//! value that it had last. The search begins anew after Luby's numbers times a hundred conflicts, and then and when forgets half
+//! of the long clauses that it learned, those whose literals had most levels. The book keeps them.
 //!
 //! No call nests: each walk is a loop.
 //!
-//! Processor time in seconds of the whole process, the least of three runs on a shared machine, with the clauses that were
-//! learned and checked, beside MiniSat 2.2.1 and CaDiCaL 1.5.3 (Debian's packages) on the same clauses, as `bench/decisions`
-//! prints them:
+//! A propagation is a literal that is taken from the trail, with the clauses gone through that watch its complement. With all
+//! that stands between them, analysis, checks and the start of the process, a million of them take two tenths of a second on
+//! the adders and the 5-bit product, three tenths on the 8-bit one, which watches most clauses, and six on the pigeonholes,
+//! where every twentieth is a conflict.
 //!
-//! | edge, which no assignment makes true | nodes | learned | time | MiniSat | CaDiCaL |
-//! |---|---|---|---|---|---|
-//! | two 64-bit adders of different build differ | 1,581 | 1,915 | 0.030 | 0.026 | 0.025 |
-//! | 7 pigeons in 6 holes | 335 | 358 | 0.005 | 0.007 | 0.005 |
-//! | 8 pigeons in 7 holes | 503 | 1,406 | 0.022 | 0.025 | 0.018 |
-//! | two 5-bit products in two orders differ | 372 | 1,590 | 0.038 | 0.023 | 0.040 |
-//! | of 6 bits | 563 | 7,716 | 0.279 | 0.220 | 0.223 |
-//! | of 7 bits | 792 | 39,553 | 2.514 | 2.220 | 1.354 |
-//! | of 8 bits, one run | 1,059 | 166,342 | 20.2 | 18.5 | |
+//! Processor time in seconds of the whole process, the least of five runs on a shared machine, with the clauses that were
+//! learned and checked and the propagations in thousands, beside MiniSat 2.2.1 and CaDiCaL 1.5.3 (Debian's packages) on the
+//! same clauses, as `bench/decisions` prints them:
+//!
+//! | edge, which no assignment makes true | nodes | learned | propagations | time | MiniSat | CaDiCaL |
+//! |---|---|---|---|---|---|---|
+//! | two 64-bit adders of different build differ | 1,581 | 1,732 | 164 | 0.029 | 0.022 | 0.023 |
+//! | 7 pigeons in 6 holes | 335 | 338 | 7 | 0.004 | 0.006 | 0.004 |
+//! | 8 pigeons in 7 holes | 503 | 1,008 | 23 | 0.013 | 0.022 | 0.016 |
+//! | two 5-bit products in two orders differ | 372 | 894 | 114 | 0.023 | 0.021 | 0.038 |
+//! | of 6 bits | 563 | 4,474 | 836 | 0.188 | 0.198 | 0.209 |
+//! | of 7 bits | 792 | 15,797 | 3,856 | 0.976 | 2.058 | 1.248 |
+//! | of 8 bits | 1,059 | 70,451 | 21,048 | 6.859 | 16.429 | 7.819 |
 #![tactic(auto)]
 
 mod analysis;

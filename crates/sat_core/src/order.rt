@@ -4,7 +4,7 @@ use super::literal::{Literal, number_of};
 use gl_logic::NoMemory;
 use std::alloc::Global;
 
-/// What a bump adds at first. It grows by a part of `SLOWNESS` with each conflict.
+/// What a bump adds at first. It grows by one part in `SLOWNESS` with each conflict.
 const FIRST_STEP: u64 = 1 << 20;
 
 /// How slowly later bumps come to weigh more.
