@@ -256,21 +256,21 @@ fn answers_and_books(rt: HostRuntime) -> Result<(), Fail> {
     let neither = disjunction(&rt, &mut store, not_x, y);
     let low = complement(&rt, &store, high);
     let hard = pigeons(&rt, &mut store, 4, 3);
-    for (e, expected, learned) in [
-        (high, Decision::Sometimes, 0),
-        (x, Decision::Sometimes, 0),
-        (not_y, Decision::Sometimes, 0),
-        (both, Decision::Sometimes, 0),
-        (neither, Decision::Sometimes, 0),
-        (low, Decision::Never, 1),
-        (hard, Decision::Spent, 1),
-        (both, Decision::Sometimes, 0),
+    for (e, expected, learned, searches) in [
+        (high, Decision::Sometimes, 0, false),
+        (x, Decision::Sometimes, 0, false),
+        (not_y, Decision::Sometimes, 0, false),
+        (both, Decision::Sometimes, 0, true),
+        (neither, Decision::Sometimes, 0, false),
+        (low, Decision::Never, 1, false),
+        (hard, Decision::Spent, 1, true),
+        (both, Decision::Sometimes, 0, true),
     ] {
         assert!(rt;
             decide(&rt, rt.alloc(), &mut store, e)? == expected,
             "{e:?}"
         );
-        assert!(rt; (store.propagations() > 0) == (expected == Decision::Spent));
+        assert!(rt; (store.propagations() > 0) == searches, "{e:?}");
         let (count, empty) = taken(&rt, &mut store);
         assert!(rt;
             count == learned && empty == (expected == Decision::Never),
