@@ -81,7 +81,7 @@ pub const DIAGRAMS: [Row; 1] = [(
     0,
 )];
 
-/// Each fault of an interpretation. But for the last two, one input alone has the cause.
+/// Faults of an interpretation. But for the last, which comes of the store, one input alone has the cause.
 pub const FAULTS: [Row; 5] = [
     (
         "(defun down (n) (if (zp n) 0 (down (- n 1))))
