@@ -36,8 +36,3 @@ pub use event::Event;
 pub use fault::EventFault;
 pub use ground_world::prelude;
 pub use one_event::event_of;
-
-#[cfg(test)]
-mod ground_tests;
-#[cfg(test)]
-mod tests;

@@ -3,7 +3,7 @@
 mod probes;
 mod reader;
 
-use super::*;
+use event_world::{Event, EventFault, event_of, prelude};
 use gl_logic::{Measure, NoMemory, Texts, Tree, World};
 use gl_translate::TermFault;
 use probes::PROBES;

@@ -1,7 +1,7 @@
 //! The world that every book begins with.
 
-use super::*;
-use gl_logic::{FnId, Measure, NoMemory, TextId, Texts, World};
+use event_world::prelude;
+use gl_logic::{Measure, NoMemory, Texts, World};
 use std::process::Abort;
 use std::test::Fail;
 

@@ -1,0 +1,4 @@
+//! Books' worlds and events, with ample memory.
+
+mod events;
+mod first_world;
