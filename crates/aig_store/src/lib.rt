@@ -28,6 +28,3 @@ pub mod walk;
 
 pub use node::AigNode;
 pub use store::Aig;
-
-#[cfg(test)]
-mod tests;

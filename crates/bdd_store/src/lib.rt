@@ -57,6 +57,3 @@ mod tables;
 mod walks;
 
 pub use store::Bdd;
-
-#[cfg(test)]
-mod tests;

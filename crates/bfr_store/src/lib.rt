@@ -18,6 +18,3 @@ pub use bitvec::Bitvec;
 pub use edge::{Decision, Edge, Full};
 pub use gates::{exclusive_or, or};
 pub use meaning::Meaning;
-
-#[cfg(test)]
-mod tests;

@@ -18,6 +18,3 @@ mod turn;
 pub use book::{ClauseBook, Learn};
 pub use clause::{Clause, Entry, Hints};
 pub use cnf::cnf_of;
-
-#[cfg(test)]
-mod tests;

@@ -61,6 +61,3 @@ mod trail;
 mod watch;
 
 pub use store::AigSat;
-
-#[cfg(test)]
-mod tests;

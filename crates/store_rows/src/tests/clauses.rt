@@ -6,9 +6,9 @@ ghost use Rattle.bfr_store.specs.Edges.{node_of};
 ghost use Rattle.aig_store.specs.Nodes.{IsLive};
 ghost use Rattle.cnf_rup.specs.Literals.{IsClause};
 
-use crate::{Clause, ClauseBook, Hints, Learn, cnf_of};
 use aig_store::Aig;
 use bfr_store::Edge;
+use cnf_rup::{Clause, ClauseBook, Hints, Learn, cnf_of};
 use gl_logic::{Assignment, NoMemory};
 use std::alloc::Global;
 use std::process::Abort;

@@ -1,8 +1,8 @@
 //! What no clause says: that calls succeed with ample memory, that the trait's generic gates run on this store, and how
 //! many nodes known functions take.
 
-use crate::Bdd;
-use crate::node::{FALSE, TRUE};
+use bdd_store::Bdd;
+use bdd_store::node::{FALSE, TRUE};
 use bfr_store::{Bits, Decision, Edge, exclusive_or, or};
 use gl_logic::{Assignment, NoMemory};
 use std::alloc::{AllocError, Global};

@@ -3,10 +3,10 @@
 
 ghost use Rattle.std.specs.Prelude.{◌≡◌, ◌<◌, length};
 
-use crate::AigSat;
 use bfr_store::{Bits, Decision, Edge};
 use cnf_rup::{Clause, ClauseBook};
 use gl_logic::{Assignment, NoMemory};
+use sat_core::AigSat;
 use std::alloc::Global;
 use std::process::Abort;
 use std::test::Fail;

@@ -1,7 +1,7 @@
 //! What no clause says: that calls succeed with ample memory, what they answer on functions that are known from outside,
 //! and that a new store costs little.
 
-use crate::{Aig, AigNode};
+use aig_store::{Aig, AigNode};
 use bfr_store::Edge;
 use gl_logic::{Assignment, NoMemory};
 use std::alloc::Global;

@@ -1,6 +1,6 @@
 //! What no clause says: that the calls run, at the greatest length too.
 
-use crate::{Bitvec, Edge};
+use bfr_store::{Bitvec, Edge};
 use std::process::Abort;
 use std::test::Fail;
 

@@ -1,5 +1,5 @@
 use Rattle.std.proofs.Common.{◌<◌, All}
-use Rattle.cnf_rup.proofs.tests.hints_of.Given as goal
+use Rattle.store_rows.proofs.tests.clauses.hints_of.Given as goal
 
 abbrev pub invariant-loop-number : goal.invariant-loop-number
 invariant-loop-number g l = All (λ n. 0 < n) l.hints
