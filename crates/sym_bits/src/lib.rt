@@ -62,6 +62,3 @@ pub use quotients::{floor_mod, truncate_rem};
 pub use shifted::Shifted;
 pub use shifts::shift;
 pub use sums::{add, negate, negate_if, subtract};
-
-#[cfg(test)]
-mod tests;

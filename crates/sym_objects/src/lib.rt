@@ -35,6 +35,3 @@ mod walk;
 pub use fault::SobFault;
 pub use sob::{Sob, SobNode};
 pub use sobs::Sobs;
-
-#[cfg(test)]
-mod tests;

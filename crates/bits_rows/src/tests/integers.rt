@@ -7,13 +7,13 @@ ghost use Rattle.std.specs.List.{All};
 mod fixed;
 
 use self::fixed::{Fixed, check, integer, is_set, number_of};
-use crate::{
-    add, and_bits, bit_at, fits, floor_mod, int_length, less, narrow, negate, or_bits, same, shift,
-    times, truncate_rem, xor_bits,
-};
 use bfr_store::{Bits, Bitvec, Edge, Full};
 use std::process::Abort;
 use std::test::Fail;
+use sym_bits::{
+    add, and_bits, bit_at, fits, floor_mod, int_length, less, narrow, negate, or_bits, same, shift,
+    times, truncate_rem, xor_bits,
+};
 
 /// How many bits the integers from -8 to 7 have beside their sign.
 const LENGTHS: [i128; 16] = [3, 3, 3, 3, 2, 2, 1, 0, 0, 1, 2, 2, 3, 3, 3, 3];

@@ -7,13 +7,13 @@ mod single;
 ghost use Rattle.sym_objects.specs.Seen.{IsLive, IsWhole};
 
 use self::single::{Single, high, low};
-use crate::{Sob, SobNode, Sobs};
 use bfr_store::{Bitvec, Edge, Meaning};
 use gl_logic::{NoMemory, TextId, Tree};
 use hons_arena::HonsArena;
 use std::alloc::Global;
 use std::process::Abort;
 use std::test::Fail;
+use sym_objects::{Sob, SobNode, Sobs};
 
 /// How long the lists are.
 const LENGTH: u32 = 100_000;

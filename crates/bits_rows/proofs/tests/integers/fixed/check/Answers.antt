@@ -1,7 +1,7 @@
 use Rattle.std.proofs.Common.{ℕ, ◌<◌, get_or, arith, below_more, ap}
 use Rattle.bfr_store.specs.declared.edge.Edge.{Edge}
 use Rattle.sym_bits.proofs.Reading.{read_at}
-use Rattle.sym_bits.proofs.tests.fixed.check.Goals as goal
+use Rattle.bits_rows.proofs.tests.integers.fixed.check.Goals as goal
 
 pub loop-k-preserved : goal.loop-k-preserved
 loop-k-preserved g c =
