@@ -98,33 +98,50 @@ fn note(
     }
 }
 
-/// The world of a book's first form, in which `*K*` is 5 and P, Q and T1 are noted.
-fn world_of(alloc: Global, texts: &mut Texts) -> Result<World, NoMemory> {
-    let mut world = prelude(alloc, texts)?;
+/// Sets `*K*` to 5, and notes it and P, Q and T1.
+fn take_in(alloc: Global, world: &mut World, texts: &mut Texts) -> Result<(), NoMemory> {
     let name = texts.id_of(b"*K*")?;
     if world.constant(name).is_none() {
         world.set_constant(name, Tree::int(5))?;
     }
-    note(alloc, &mut world, texts, b"*K*", b"(DEFCONST *K* 5)")?;
-    note(alloc, &mut world, texts, b"P", b"(DEFUN P (X) X)")?;
-    note(alloc, &mut world, texts, b"Q", b"(DEFUN Q (X) X)")?;
+    note(alloc, world, texts, b"*K*", b"(DEFCONST *K* 5)")?;
+    note(alloc, world, texts, b"P", b"(DEFUN P (X) X)")?;
+    note(alloc, world, texts, b"Q", b"(DEFUN Q (X) X)")?;
     note(
         alloc,
-        &mut world,
+        world,
         texts,
         b"T1",
         b"(DEF-GL-THM T1 :CONCL T :G-BINDINGS (QUOTE ()))",
-    )?;
+    )
+}
+
+/// The world of a book's first form, in which `*K*` is 5 and P, Q and T1 are noted.
+fn world_of(alloc: Global, texts: &mut Texts) -> Result<World, NoMemory> {
+    let mut world = prelude(alloc, texts)?;
+    take_in(alloc, &mut world, texts)?;
     Ok(world)
+}
+
+fn try_row(
+    rt: &impl Abort,
+    alloc: Global,
+    world: &World,
+    texts: &mut Texts,
+    form: &str,
+    wanted: &str,
+) -> Result<(), NoMemory> {
+    let tree = form_of(alloc, form.as_bytes(), texts)?;
+    let given = answer(alloc, &tree, world, texts)?;
+    assert!(rt; given.as_bytes() == wanted.as_bytes(), "{form} is {wanted}");
+    Ok(())
 }
 
 fn try_rows(rt: &impl Abort, alloc: Global, rows: &[(&str, &str)]) -> Result<(), Fail> {
     let mut texts = Texts::new(alloc)?;
     let world = world_of(alloc, &mut texts)?;
     for (form, wanted) in rows {
-        let form_read = form_of(alloc, form.as_bytes(), &mut texts)?;
-        let given = answer(alloc, &form_read, &world, &mut texts)?;
-        assert!(rt; given.as_bytes() == wanted.as_bytes(), "{form} is {wanted}");
+        try_row(rt, alloc, &world, &mut texts, form, wanted)?;
     }
     Ok(())
 }
