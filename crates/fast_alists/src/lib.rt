@@ -13,6 +13,3 @@ mod walk;
 
 pub use alists::FastAlists;
 pub use fault::AlistFault;
-
-#[cfg(test)]
-mod tests;

@@ -34,6 +34,3 @@ mod tree_of;
 pub use arena::HonsArena;
 pub use id::{Full, Id, IdKind, Kind, Mark};
 pub use tree_of::TreeFault;
-
-#[cfg(test)]
-mod tests;

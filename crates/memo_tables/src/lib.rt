@@ -7,6 +7,3 @@ mod tables;
 
 pub use call::MemoCall;
 pub use tables::MemoTables;
-
-#[cfg(test)]
-mod tests;

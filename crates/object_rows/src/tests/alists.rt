@@ -2,45 +2,89 @@
 
 ghost use Rattle.fast_alists.specs.Tables.{Agree};
 
-use super::*;
+use fast_alists::{AlistFault, FastAlists};
 use gl_logic::TextId;
 use hons_arena::{HonsArena, Id};
 use std::alloc::Global;
 use std::process::Abort;
 use std::test::Fail;
 
+/// A pair of symbols or, where there is no second one, a symbol.
+fn item(arena: &mut HonsArena, key: u64, value: Option<u64>) -> Result<Id, Fail> {
+    let key = arena.symbol(TextId { number: key });
+    match value {
+        Some(value) => {
+            let value = arena.symbol(TextId { number: value });
+            Ok(arena.cons(key, value)?)
+        }
+        None => Ok(key),
+    }
+}
+
+/// Puts an object in front of a list.
+fn in_front<R: Abort>(rt: &R, arena: &mut HonsArena, item: Id, list: Id) -> Result<Id, Fail> {
+    assert!(rt; arena.is_live(item) && arena.is_live(list));
+    Ok(arena.cons(item, list)?)
+}
+
 /// A list of pairs of symbols and, where there is no second one, of symbols, in front of NIL.
 fn list<R: Abort>(rt: &R, arena: &mut HonsArena, items: &[(u64, Option<u64>)]) -> Result<Id, Fail> {
     let mut whole = arena.symbol(TextId { number: 0 });
     for (key, value) in items.iter().rev() {
-        let key = arena.symbol(TextId { number: *key });
-        let item = match value {
-            Some(value) => {
-                let value = arena.symbol(TextId { number: *value });
-                arena.cons(key, value)?
-            }
-            None => key,
-        };
-        assert!(rt; arena.is_live(item) && arena.is_live(whole));
-        whole = arena.cons(item, whole)?;
+        let item = item(arena, *key, *value)?;
+        whole = in_front(rt, arena, item, whole)?;
     }
     Ok(whole)
 }
 
-/// A row: two lists and their fork, made with a table of the second list and without it.
+/// The fork of two lists.
+fn fork<R: Abort>(
+    rt: &R,
+    alists: &mut FastAlists,
+    arena: &mut HonsArena,
+    alist: Id,
+    ans: Id,
+) -> Result<Id, Fail>
+    requires { Agree arena.old.objects alists.old }
+    ensures { Agree arena.new.objects alists.new }
+{
+    assert!(rt; arena.is_live(alist) && arena.is_live(ans));
+    Ok(alists.fork(arena, alist, ans)?)
+}
+
+/// Two lists and their fork, made with a table of the second list and without it.
+fn fork_twice<R: Abort>(
+    rt: &R,
+    alists: &mut FastAlists,
+    arena: &mut HonsArena,
+    row: (Id, Id, Id),
+) -> Result<(), Fail>
+    requires { Agree arena.old.objects alists.old }
+{
+    let (alist, ans, wanted) = row;
+    assert!(rt; fork(rt, alists, arena, alist, ans)? == wanted);
+    assert!(rt; fork(rt, alists, arena, ans, ans)? == ans);
+    assert!(rt; fork(rt, alists, arena, alist, ans)? == wanted);
+    Ok(())
+}
+
+/// The lists of a row.
+fn row_of<R: Abort>(
+    rt: &R,
+    arena: &mut HonsArena,
+    row: [&[(u64, Option<u64>)]; 3],
+) -> Result<(Id, Id, Id), Fail> {
+    let alist = list(rt, arena, row[0])?;
+    let ans = list(rt, arena, row[1])?;
+    Ok((alist, ans, list(rt, arena, row[2])?))
+}
+
+/// Tries a row in an arena and with tables of its own.
 fn forks_to<R: Abort>(rt: &R, alloc: Global, row: [&[(u64, Option<u64>)]; 3]) -> Result<(), Fail> {
     let mut arena = HonsArena::new(alloc, 1000)?;
-    let alist = list(rt, &mut arena, row[0])?;
-    let ans = list(rt, &mut arena, row[1])?;
-    let wanted = list(rt, &mut arena, row[2])?;
+    let row = row_of(rt, &mut arena, row)?;
     let mut alists = FastAlists::new(alloc)?;
-    assert!(rt; arena.is_live(alist) && arena.is_live(ans));
-    assert!(rt; alists.fork(&mut arena, alist, ans)? == wanted);
-    assert!(rt; arena.is_live(alist) && arena.is_live(ans));
-    assert!(rt; alists.fork(&mut arena, ans, ans)? == ans);
-    assert!(rt; arena.is_live(alist) && arena.is_live(ans));
-    assert!(rt; alists.fork(&mut arena, alist, ans)? == wanted);
-    Ok(())
+    fork_twice(rt, &mut alists, &mut arena, row)
 }
 
 #[test]
@@ -168,17 +212,36 @@ fn all_keys<R: Abort>(
     Ok(())
 }
 
-#[test]
-fn look_ups(rt: HostRuntime) -> Result<(), Fail> {
-    let mut arena = HonsArena::new(rt.alloc(), 1000)?;
-    let plain = list(&rt, &mut arena, &[(7, None), (1, Some(1)), (1, Some(2))])?;
+/// Four lists, each a pair longer than the one before, and a plain list behind a pair.
+fn lists<R: Abort>(
+    rt: &R,
+    alists: &mut FastAlists,
+    arena: &mut HonsArena,
+    plain: Id,
+) -> Result<(Id, Id, Id, Id, Id), Fail>
+    requires { Agree arena.old.objects alists.old }
+    ensures { Agree arena.new.objects alists.new }
+{
     let nil = arena.symbol(TextId { number: 0 });
-    let mut alists = FastAlists::new(rt.alloc())?;
-    let first = put(&rt, &mut alists, &mut arena, (1, 5), nil)?;
-    let second = put(&rt, &mut alists, &mut arena, (3, 4), first)?;
-    let older = put(&rt, &mut alists, &mut arena, (1, 1), second)?;
-    let newer = put(&rt, &mut alists, &mut arena, (1, 2), older)?;
-    let longer = put(&rt, &mut alists, &mut arena, (2, 8), plain)?;
+    let first = put(rt, alists, arena, (1, 5), nil)?;
+    let second = put(rt, alists, arena, (3, 4), first)?;
+    let older = put(rt, alists, arena, (1, 1), second)?;
+    let newer = put(rt, alists, arena, (1, 2), older)?;
+    let longer = put(rt, alists, arena, (2, 8), plain)?;
+    Ok((first, second, older, newer, longer))
+}
+
+/// Looks keys up in these lists, after the tables of one of them were freed.
+fn look_up_all<R: Abort>(
+    rt: &R,
+    alists: &mut FastAlists,
+    arena: &mut HonsArena,
+    plain: Id,
+) -> Result<(), Fail>
+    requires { Agree arena.old.objects alists.old }
+{
+    let nil = arena.symbol(TextId { number: 0 });
+    let (first, second, older, newer, longer) = lists(rt, alists, arena, plain)?;
     alists.free(second);
     let rows = [
         (1, first, 5),
@@ -195,7 +258,15 @@ fn look_ups(rt: HostRuntime) -> Result<(), Fail> {
         (1, longer, 1),
         (1, nil, 0),
     ];
-    all_found(&rt, &alists, &arena, &rows)
+    all_found(rt, alists, arena, &rows)
+}
+
+#[test]
+fn look_ups(rt: HostRuntime) -> Result<(), Fail> {
+    let mut arena = HonsArena::new(rt.alloc(), 1000)?;
+    let plain = list(&rt, &mut arena, &[(7, None), (1, Some(1)), (1, Some(2))])?;
+    let mut alists = FastAlists::new(rt.alloc())?;
+    look_up_all(&rt, &mut alists, &mut arena, plain)
 }
 
 #[test]
