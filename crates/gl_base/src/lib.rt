@@ -12,5 +12,3 @@ pub mod sink;
 pub mod status;
 pub mod sure_shelf;
 pub mod sure_sink;
-#[cfg(test)]
-mod tests;

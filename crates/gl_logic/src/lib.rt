@@ -37,6 +37,3 @@ pub use terms::Terms;
 pub use texts::Texts;
 pub use tree::{Tree, TreeKind};
 pub use world::World;
-
-#[cfg(test)]
-mod tests;

@@ -15,6 +15,3 @@ mod wide;
 
 pub use apply::{apply_int, is_operation, is_test, test_int};
 pub use wide::Wide;
-
-#[cfg(test)]
-mod tests;

@@ -5,6 +5,3 @@ mod atoms;
 mod lists;
 
 pub use lists::print;
-
-#[cfg(test)]
-mod tests;

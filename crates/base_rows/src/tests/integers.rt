@@ -6,8 +6,8 @@ mod tables;
 ghost use Rattle.std.specs.Prelude.{IsTrue};
 ghost use Rattle.int_prims.specs.Integers.{is_operation, is_test};
 
-use crate::{apply_int, test_int};
 use gl_logic::Prim;
+use int_prims::{apply_int, test_int};
 use std::process::Abort;
 
 // the number that a word of a table writes

@@ -6,7 +6,7 @@ use Rattle.gl_logic.specs.Named.{AreDifferentNames}
 use Rattle.gl_logic.specs.WorldSeen.{IsClique}
 use Rattle.gl_logic.specs.WorkedDefinitions.{atom_definition}
 use Rattle.gl_logic.proofs.Worlds.{clique_of_one}
-use Rattle.gl_logic.proofs.tests.a_clique_is_added.Goals as goal
+use Rattle.base_rows.proofs.tests.worlds.a_clique_is_added.Goals as goal
 
 first_ground : IsGround 0 atom_definition
 unfolding ground

@@ -1,36 +1,47 @@
-use crate::failed::Failed;
-use crate::limits::Limits;
-use crate::memory_shelf::MemoryShelf;
-use crate::memory_sink::MemorySink;
-use crate::shelf::Shelf;
-use crate::sink::{Sink, put_all};
-use crate::status::Status;
-use crate::sure_shelf::SureShelf;
-use crate::sure_sink::SureSink;
+//! Shelves and sinks in memory, limits and statuses.
+
+use gl_base::failed::Failed;
+use gl_base::limits::Limits;
+use gl_base::memory_shelf::MemoryShelf;
+use gl_base::memory_sink::MemorySink;
+use gl_base::shelf::Shelf;
+use gl_base::sink::{Sink, put_all};
+use gl_base::status::Status;
+use gl_base::sure_shelf::SureShelf;
+use gl_base::sure_sink::SureSink;
 use std::alloc::{AllocError, Global};
+use std::process::Abort;
 use std::test::Fail;
 
 type Texts = Vec<(String, Vec<u8>)>;
 
+fn text(alloc: Global, name: &str, bytes: &str) -> Result<(String, Vec<u8>), AllocError> {
+    let bytes = bytes.as_bytes().to_vec(alloc)?;
+    Ok((String::from_str(alloc, name)?, bytes))
+}
+
 fn texts(alloc: Global) -> Result<Texts, AllocError> {
     let mut texts = Vec::new(alloc);
     for (name, bytes) in [("a", "first"), ("b", ""), ("a", "second")] {
-        let name = String::from_str(alloc, name)?;
-        texts.push((name, bytes.as_bytes().to_vec(alloc)?))?;
+        texts.push(text(alloc, name, bytes)?)?;
     }
     Ok(texts)
 }
 
 #[test]
 fn codes(rt: HostRuntime) {
-    assert_eq!(rt; Status::Good.code(), 0);
-    assert_eq!(rt; Status::Refuted.code(), 1);
-    assert_eq!(rt; Status::BookRefused.code(), 2);
-    assert_eq!(rt; Status::Undecided.code(), 3);
-    assert_eq!(rt; Status::ReadFault.code(), 4);
-    assert_eq!(rt; Status::WriteFault.code(), 5);
-    assert_eq!(rt; Status::NoMemory.code(), 6);
-    assert_eq!(rt; Status::Usage.code(), 64);
+    for (status, code) in [
+        (Status::Good, 0),
+        (Status::Refuted, 1),
+        (Status::BookRefused, 2),
+        (Status::Undecided, 3),
+        (Status::ReadFault, 4),
+        (Status::WriteFault, 5),
+        (Status::NoMemory, 6),
+        (Status::Usage, 64),
+    ] {
+        assert_eq!(rt; status.code(), code);
+    }
 }
 
 #[test]
@@ -65,6 +76,21 @@ fn read_all<S: Shelf>(
     Ok((bytes, false))
 }
 
+/// Reads a text, and compares what came, and whether its end did.
+fn compare<S: Shelf>(
+    rt: &impl Abort,
+    alloc: Global,
+    shelf: &mut S,
+    name: &str,
+    want: &str,
+    whole: bool,
+) -> Result<(), Fail> {
+    let (bytes, ended) = read_all(shelf, name, alloc)?;
+    assert_eq!(rt; bytes.as_slice(), want.as_bytes());
+    assert_eq!(rt; ended, whole);
+    Ok(())
+}
+
 #[test]
 fn memory_shelf_reads(rt: HostRuntime) -> Result<(), Fail> {
     let alloc = rt.alloc();
@@ -75,27 +101,35 @@ fn memory_shelf_reads(rt: HostRuntime) -> Result<(), Fail> {
         ("c", "", false),
         ("a", "first", true),
     ] {
-        let (bytes, ended) = read_all(&mut shelf, name, alloc)?;
-        assert_eq!(rt; bytes.as_slice(), want.as_bytes());
-        assert_eq!(rt; ended, whole);
+        compare(&rt, alloc, &mut shelf, name, want, whole)?;
     }
     Ok(())
 }
 
+/// What comes of a text where this call fails.
+fn compare_failing(
+    rt: &impl Abort,
+    alloc: Global,
+    call: u64,
+    want: &str,
+    whole: bool,
+) -> Result<(), Fail> {
+    let mut shelf = MemoryShelf::new(alloc, texts(alloc)?, [call].to_vec(alloc)?)?;
+    compare(rt, alloc, &mut shelf, "a", want, whole)
+}
+
 #[test]
 fn memory_shelf_fails_where_told(rt: HostRuntime) -> Result<(), Fail> {
-    let alloc = rt.alloc();
     // the calls are the open, two reads of bytes and the read of the end
-    for (call, want) in [(1, ""), (2, ""), (3, "fir"), (4, "first")] {
-        let mut shelf = MemoryShelf::new(alloc, texts(alloc)?, [call].to_vec(alloc)?)?;
-        let (bytes, ended) = read_all(&mut shelf, "a", alloc)?;
-        assert_eq!(rt; bytes.as_slice(), want.as_bytes());
-        assert!(rt; !ended);
+    for (call, want, whole) in [
+        (1, "", false),
+        (2, "", false),
+        (3, "fir", false),
+        (4, "first", false),
+        (5, "first", true),
+    ] {
+        compare_failing(&rt, rt.alloc(), call, want, whole)?;
     }
-    let mut shelf = MemoryShelf::new(alloc, texts(alloc)?, [5].to_vec(alloc)?)?;
-    let (bytes, ended) = read_all(&mut shelf, "a", alloc)?;
-    assert_eq!(rt; bytes.as_slice(), b"first".as_slice());
-    assert!(rt; ended);
     Ok(())
 }
 
@@ -104,9 +138,7 @@ fn sure_shelf_reads(rt: HostRuntime) -> Result<(), Fail> {
     let alloc = rt.alloc();
     let mut shelf = SureShelf::new(alloc, texts(alloc)?)?;
     for (name, want) in [("a", "first"), ("b", ""), ("c", "")] {
-        let (bytes, ended) = read_all(&mut shelf, name, alloc)?;
-        assert_eq!(rt; bytes.as_slice(), want.as_bytes());
-        assert!(rt; ended);
+        compare(&rt, alloc, &mut shelf, name, want, true)?;
     }
     Ok(())
 }
@@ -124,15 +156,20 @@ fn memory_sink_takes(rt: HostRuntime) -> Result<(), Fail> {
     Ok(())
 }
 
+/// What a sink takes where this call fails.
+fn put_failing(rt: &impl Abort, alloc: Global, call: u64, want: &str) -> Result<(), Fail> {
+    let mut sink = MemorySink::new(alloc, 8, [call].to_vec(alloc)?)?;
+    assert_eq!(rt; put_all(&mut sink, b"ab").is_err(), call == 1);
+    assert_eq!(rt; put_all(&mut sink, b"cd").is_err(), call == 2);
+    assert_eq!(rt; sink.flush().is_err(), call == 3);
+    assert_eq!(rt; sink.bytes(), want.as_bytes());
+    Ok(())
+}
+
 #[test]
 fn memory_sink_fails_where_told(rt: HostRuntime) -> Result<(), Fail> {
-    let alloc = rt.alloc();
     for (call, want) in [(1, "cd"), (2, "ab"), (3, "abcd"), (4, "abcd")] {
-        let mut sink = MemorySink::new(alloc, 8, [call].to_vec(alloc)?)?;
-        assert_eq!(rt; put_all(&mut sink, b"ab").is_err(), call == 1);
-        assert_eq!(rt; put_all(&mut sink, b"cd").is_err(), call == 2);
-        assert_eq!(rt; sink.flush().is_err(), call == 3);
-        assert_eq!(rt; sink.bytes(), want.as_bytes());
+        put_failing(&rt, rt.alloc(), call, want)?;
     }
     Ok(())
 }

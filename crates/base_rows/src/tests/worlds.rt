@@ -8,31 +8,54 @@ ghost use Rattle.gl_logic.specs.TermOf.{term_of};
 ghost use Rattle.gl_logic.specs.DefinitionOf.{definition_of};
 ghost use Rattle.gl_logic.specs.WorkedDefinitions.{atom_definition};
 
-use super::*;
+use gl_logic::{
+    Assignment, Def, Defs, Measure, Measures, Names, Natural, NoMemory, Prim, Term, Terms, TextId,
+    Texts, Tree, World,
+};
 use std::alloc::Global;
+use std::process::Abort;
 use std::test::Fail;
+
+/// The list of 1.
+fn short(alloc: Global) -> Result<Tree, NoMemory> {
+    let nil = Tree::symbol(TextId { number: 0 });
+    Tree::pair(alloc, Tree::int(1), nil)
+}
+
+/// A character in front of a copy.
+fn longer(alloc: Global, list: &Tree) -> Result<Tree, NoMemory> {
+    Tree::pair(alloc, Tree::character(65), list.copy(alloc)?)
+}
+
+/// Compares a copy of a tree with the tree and with another one.
+fn compare_copy(rt: &impl Abort, alloc: Global, tree: &Tree, other: &Tree) -> Result<(), NoMemory> {
+    let copy = tree.copy(alloc)?;
+    assert!(rt; tree.same(&copy));
+    assert!(rt; !tree.same(other));
+    Ok(())
+}
 
 #[test]
 fn trees_are_made_and_copied(rt: HostRuntime) -> Result<(), Fail> {
-    let alloc = rt.alloc();
-    let nil = Tree::symbol(TextId { number: 0 });
-    let one = Tree::pair(alloc, Tree::int(1), nil)?;
-    let two = Tree::pair(alloc, Tree::character(65), one.copy(alloc)?)?;
-    let copy = two.copy(alloc)?;
-    assert!(rt; two.same(&copy));
-    assert!(rt; !two.same(&one));
+    let one = short(rt.alloc())?;
+    let two = longer(rt.alloc(), &one)?;
+    compare_copy(&rt, rt.alloc(), &two, &one)?;
     assert_eq!(rt; two.elements().len(), 2);
+    Ok(())
+}
+
+/// Asks for the numbers of texts that are there, and of one again.
+fn ask_for_numbers(rt: &impl Abort, texts: &mut Texts) -> Result<(), NoMemory> {
+    for (name, number) in [("NIL", 0), ("CAR", 4), (",", 3), ("CAR", 4)] {
+        assert_eq!(rt; texts.id_of(name.as_bytes())?.number, number);
+    }
     Ok(())
 }
 
 #[test]
 fn texts_are_numbered(rt: HostRuntime) -> Result<(), Fail> {
     let mut texts = Texts::new(rt.alloc())?;
-    assert_eq!(rt; texts.id_of(b"NIL")?.number, 0);
-    assert_eq!(rt; texts.id_of(b"CAR")?.number, 4);
-    assert_eq!(rt; texts.id_of(b",")?.number, 3);
-    assert_eq!(rt; texts.id_of(b"CAR")?.number, 4);
-    Ok(())
+    Ok(ask_for_numbers(&rt, &mut texts)?)
 }
 
 #[test]
@@ -44,14 +67,20 @@ fn assignments_begin_false(rt: HostRuntime) -> Result<(), Fail> {
     Ok(())
 }
 
-#[test]
-fn lists_grow(rt: HostRuntime) -> Result<(), Fail> {
-    let alloc = rt.alloc();
-    let mut names = Names::new(alloc);
+/// Adds a name to a list, and looks at a copy.
+fn add_a_name(rt: &impl Abort, alloc: Global, names: &mut Names) -> Result<(), NoMemory> {
     names.push(TextId { number: 7 })?;
     let copy = names.copy(alloc)?;
     assert_eq!(rt; copy.len(), 1);
     assert!(rt; copy.contains(TextId { number: 7 }));
+    Ok(())
+}
+
+#[test]
+fn lists_grow(rt: HostRuntime) -> Result<(), Fail> {
+    let alloc = rt.alloc();
+    let mut names = Names::new(alloc);
+    add_a_name(&rt, alloc, &mut names)?;
     let mut terms = Terms::new(alloc);
     terms.push(Term::Var(TextId { number: 7 }).copy(alloc)?)?;
     assert_eq!(rt; terms.len(), 1);

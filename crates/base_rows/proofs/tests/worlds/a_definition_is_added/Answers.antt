@@ -3,7 +3,7 @@ use Rattle.gl_logic.specs.Definition.{Definition}
 use Rattle.gl_logic.specs.Ground.{ground}
 use Rattle.gl_logic.specs.IsGround.{IsGround}
 use Rattle.gl_logic.specs.WorkedDefinitions.{atom_definition}
-use Rattle.gl_logic.proofs.tests.a_definition_is_added.Goals as goal
+use Rattle.base_rows.proofs.tests.worlds.a_definition_is_added.Goals as goal
 
 first_ground : (n : ℕ) (d : Definition) → n ≡ 0 → d ≡ atom_definition → IsGround n d
 unfolding ground

@@ -1,0 +1,6 @@
+//! The crates at the base, with ample memory.
+
+mod integers;
+mod printed;
+mod shelves;
+mod worlds;
