@@ -113,11 +113,12 @@ fn atom(alloc: Global) -> Result<Def, NoMemory>
     })
 }
 
-#[test]
-fn a_definition_is_added(rt: HostRuntime) -> Result<(), Fail> {
-    let alloc = rt.alloc();
-    let mut world = World::new(alloc)?;
-    let f = world.push(atom(alloc)?)?;
+/// Adds the first ground definition to a world without definitions.
+fn take_a_definition(rt: &impl Abort, world: &mut World, def: Def) -> Result<(), NoMemory>
+    requires none { world.old.definitions ≡ [] }
+    requires atom { definition_of def ≡ atom_definition }
+{
+    let f = world.push(def)?;
     assert_eq!(rt; world.count(), 1);
     assert_eq!(rt; world.find(TextId { number: 9 }), Some(f));
     assert_eq!(rt; world.def(f).name.number, 9);
@@ -125,18 +126,40 @@ fn a_definition_is_added(rt: HostRuntime) -> Result<(), Fail> {
 }
 
 #[test]
-fn a_clique_is_added(rt: HostRuntime) -> Result<(), Fail> {
-    let alloc = rt.alloc();
-    let mut world = World::new(alloc)?;
+fn a_definition_is_added(rt: HostRuntime) -> Result<(), Fail> {
+    let mut world = World::new(rt.alloc())?;
+    let def = atom(rt.alloc())?;
+    Ok(take_a_definition(&rt, &mut world, def)?)
+}
+
+// the first ground definition alone
+fn only_atom(alloc: Global) -> Result<Defs, NoMemory>
+    ensures { IfOk result (λ ds. ds ≡ atom_definition ∷ []) }
+{
     let mut defs = Defs::new(alloc);
     defs.push(atom(alloc)?)?;
-    assert_eq!(rt; defs.len(), 1);
-    assert_eq!(rt; defs.at(0).name.number, 9);
+    Ok(defs)
+}
+
+/// Adds the first ground definition, as a clique, to a world without definitions.
+fn take_a_clique(rt: &impl Abort, world: &mut World, defs: Defs) -> Result<(), NoMemory>
+    requires none { world.old.definitions ≡ [] }
+    requires atom { defs ≡ atom_definition ∷ [] }
+{
     let f = world.push_clique(defs)?;
     assert_eq!(rt; f.number, 0);
     assert_eq!(rt; world.count(), 1);
     assert_eq!(rt; world.find(TextId { number: 9 }), Some(f));
     Ok(())
+}
+
+#[test]
+fn a_clique_is_added(rt: HostRuntime) -> Result<(), Fail> {
+    let defs = only_atom(rt.alloc())?;
+    assert_eq!(rt; defs.len(), 1);
+    assert_eq!(rt; defs.at(0).name.number, 9);
+    let mut world = World::new(rt.alloc())?;
+    Ok(take_a_clique(&rt, &mut world, defs)?)
 }
 
 #[test]

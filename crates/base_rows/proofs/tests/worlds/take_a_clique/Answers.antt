@@ -1,4 +1,4 @@
-use Rattle.std.proofs.Common.{◌≡◌, ◌∙◌, ◌++◌, ◌∷◌, [], sym, subst, refl, List, zero, suc}
+use Rattle.std.proofs.Common.{◌∷◌, [], sym, subst, refl, List, zero, suc}
 use Rattle.gl_logic.specs.Definition.{Definition}
 use Rattle.gl_logic.specs.Ground.{ground}
 use Rattle.gl_logic.specs.IsGround.{IsGround}
@@ -6,7 +6,7 @@ use Rattle.gl_logic.specs.Named.{AreDifferentNames}
 use Rattle.gl_logic.specs.WorldSeen.{IsClique}
 use Rattle.gl_logic.specs.WorkedDefinitions.{atom_definition}
 use Rattle.gl_logic.proofs.Worlds.{clique_of_one}
-use Rattle.base_rows.proofs.tests.worlds.a_clique_is_added.Goals as goal
+use Rattle.base_rows.proofs.tests.worlds.take_a_clique.Goals as goal
 
 first_ground : IsGround 0 atom_definition
 unfolding ground
@@ -22,5 +22,4 @@ first_clique = clique_of_one [] atom_definition one_name (refl, ((refl, (tt, tt)
 
 pub push_clique-requires-clause-clique : goal.push_clique-requires-clause-clique
 push_clique-requires-clause-clique g c =
-    let members : c.push.new.self ≡ atom_definition ∷ [] = c.in_ok-push.ensures.ok ∙ (λ i. c.new-defs.ensures i ++ c.in_ok-atom.ensures i ∷ []) in
-    subst (λ (ds : List Definition). IsClique ds c.push.new.self) (sym c.in_ok-world.ensures.0) (subst (λ (ds : List Definition). IsClique [] ds) (sym members) first_clique)
+    subst (λ (ds : List Definition). IsClique ds c.args.defs) (sym c.requires.none) (subst (λ (ds : List Definition). IsClique [] ds) (sym c.requires.atom) first_clique)
