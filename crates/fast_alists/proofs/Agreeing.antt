@@ -15,12 +15,10 @@ use Rattle.fast_alists.proofs.Equal.{id_same, id_itself}
 use Rattle.fast_alists.proofs.Pairs.{none_some, some_same, cond_true, cond_false}
 use Rattle.fast_alists.proofs.Covering.{OneId, lacks}
 
-module _ (x : Object) (old new : List Object) (adds : AddsCellsOf x old new) where
-  id_stays : (id : Id) → IsLive old id → IsIdOf new (object_at old id) id
-  id_stays id live = id_kept x old new (object_at old id) id adds (live, refl)
-
-  pub table_stays : (alist : Id) (table : List (Id × Id)) → IsTable old alist table → IsTable new alist table
-  table_stays alist table t =
+-- where live ids stay live, for the same objects
+module _ (old new : List Object) (id_stays : (id : Id) → IsLive old id → IsIdOf new (object_at old id) id) where
+  table_still : (alist : Id) (table : List (Id × Id)) → IsTable old alist table → IsTable new alist table
+  table_still alist table t =
       let list = id_stays alist t.live in record {
         live = list.0;
         right = λ k p h.
@@ -37,8 +35,18 @@ module _ (x : Object) (old new : List Object) (adds : AddsCellsOf x old new) whe
         ];
       }
 
+  pub tables_still : (tables : List (Id × List (Id × Id))) → Agree old tables → Agree new tables
+  tables_still tables agree alist table h = table_still alist table (agree alist table h)
+
+module _ (x : Object) (old new : List Object) (adds : AddsCellsOf x old new) where
+  id_stays : (id : Id) → IsLive old id → IsIdOf new (object_at old id) id
+  id_stays id live = id_kept x old new (object_at old id) id adds (live, refl)
+
+  pub table_stays : (alist : Id) (table : List (Id × Id)) → IsTable old alist table → IsTable new alist table
+  table_stays = table_still old new id_stays
+
   pub tables_stay : (tables : List (Id × List (Id × Id))) → Agree old tables → Agree new tables
-  tables_stay tables agree alist table h = table_stays alist table (agree alist table h)
+  tables_stay = tables_still old new id_stays
 
 -- ---- a table is set, or taken out
 set_at : (objects : List Object) (alist id : Id) (given had : Option (List (Id × Id))) (b : Bool) → id_eq alist id ≡ b
