@@ -1,6 +1,5 @@
 -- What is found of a term at once, from what is found of its parts.
-use Rattle.std.proofs.Common.{◌≡◌, ◌∙◌, ap, sym, refl, subst, ℕ, ◌+◌, ◌-◌, Bool, cond, List, [], ◌∷◌, length, arith, get_or, Option, None, Some, slice_get}
-use Rattle.std.specs.Prelude.{IfSome}
+use Rattle.std.proofs.Common.{◌≡◌, ◌∙◌, ap, sym, refl, subst, ℕ, ◌+◌, ◌-◌, Bool, cond, List, [], ◌∷◌, length, arith, get_or, Some, slice_get}
 use Rattle.gl_logic.specs.Definition.{Definition}
 use Rattle.gl_logic.specs.Environment.{look, extended}
 use Rattle.gl_logic.specs.Exp.{Exp, Exps, Var, Const, If, Prim, Call, Last, More}
@@ -9,7 +8,7 @@ use Rattle.gl_logic.specs.ObjectEq.{is_nil}
 use Rattle.gl_logic.specs.PrimValue.{prim_of}
 use Rattle.gl_logic.specs.TermOf.{term_of, terms_of}
 use Rattle.gl_logic.specs.declared.term.Term.{Term}
-use Rattle.gl_logic.proofs.Optional.{some_same}
+use Rattle.gl_logic.proofs.Optional.{none_some, some_same}
 use Rattle.hons_arena.specs.Held.{Held, IsWhole}
 use Rattle.lisp_eval.specs.Directs.{GivesAtOnce, GiveAtOnce, IsFound, AreGiven, OpensAtOnce}
 use Rattle.lisp_eval.specs.Narrow.{IsNarrow}
@@ -24,10 +23,6 @@ use Rattle.lisp_eval.proofs.WholeNarrow.{whole_narrow}
 pub value_narrow : (held : Held) → IsWhole held → (v : Value) → IsLiveValue held.objects v → IsNarrow (value_object held.objects v)
 value_narrow held whole (value.Int i) live = live
 value_narrow held whole (value.Held id) live = whole_narrow held whole id live
-
-pub some_map : {A : Type 0} (P Q : A → Type 0) (r : Option A) → ((x : A) → P x → Q x) → IfSome r P → IfSome r Q
-some_map P Q None h g = tt
-some_map P Q (Some x) h g = h x g
 
 one_bound : (names : List ℕ) (xs : List Object) (n : ℕ) → length names ≡ 1 → slice_get names 0 ≡ Some n → extended names xs [] ≡ (n, get_or xs 0 nil) ∷ []
 one_bound [] xs n c e = absurd (omega (arith, c))
@@ -73,31 +68,56 @@ module _ (ds : List Definition) (functions : List ℕ) (held : Held) (whole : Is
         (if_gives ds functions env test a b (value_object objects f.value) (value_object objects y.value) (left - 1 - f.left) (f.left - y.left) g.gives (subst (λ (r : Bool). GivesAtOnce ds functions env (cond r b a) (value_object objects y.value) (f.left - y.left)) (sym n) h.gives));
   }
 
-  pub one_given : (ts : Exps) (t : Exp) (left : ℕ) (f : Found) (nothing : Value) → ts ≡ More t Last → value_object objects nothing ≡ nil → IsLiveValue objects nothing → IsFound ds functions objects env t left f → AreGiven ds functions objects env ts left (record { first = f.value; second = nothing; left = f.left })
+  pub one_given : (ts : Exps) (t : Exp) (left : ℕ) (f : Found) (nothing : Value) → ts ≡ More t Last → value_object objects nothing ≡ nil → IsLiveValue objects nothing → IsFound ds functions objects env t left f → AreGiven ds functions objects env ts left (record { first = f.value; second = nothing; third = nothing; left = f.left })
   one_given ts t left f nothing e is live g = record {
     values = value_object objects f.value ∷ [];
     first_live = g.live;
     second_live = live;
+    third_live = live;
     first = refl;
     second = sym is;
+    third = sym is;
     fewer = g.fewer;
     give = subst (λ (us : Exps). GiveAtOnce ds functions env us (value_object objects f.value ∷ []) (left - f.left)) (sym e) (subst (λ (n : ℕ). GiveAtOnce ds functions env (More t Last) (value_object objects f.value ∷ []) n) (omega (arith, g.fewer))
         (more_give ds functions env t Last (value_object objects f.value) [] (left - f.left) 0 g.gives (none_give ds functions env)));
   }
 
-  pub two_given : (ts : Exps) (t u : Exp) (left : ℕ) (f y : Found) → ts ≡ More t (More u Last) → IsFound ds functions objects env t left f → IsFound ds functions objects env u f.left y → AreGiven ds functions objects env ts left (record { first = f.value; second = y.value; left = y.left })
-  two_given ts t u left f y e g h =
+  pub two_given : (ts : Exps) (t u : Exp) (left : ℕ) (f y : Found) (nothing : Value) → ts ≡ More t (More u Last) → value_object objects nothing ≡ nil → IsLiveValue objects nothing → IsFound ds functions objects env t left f → IsFound ds functions objects env u f.left y
+      → AreGiven ds functions objects env ts left (record { first = f.value; second = y.value; third = nothing; left = y.left })
+  two_given ts t u left f y nothing e is live g h =
       let a = value_object objects f.value in
       let b = value_object objects y.value in
       record {
         values = a ∷ b ∷ [];
         first_live = g.live;
         second_live = h.live;
+        third_live = live;
         first = refl;
         second = refl;
+        third = sym is;
         fewer = omega (arith, g.fewer, h.fewer);
         give = subst (λ (us : Exps). GiveAtOnce ds functions env us (a ∷ b ∷ []) (left - y.left)) (sym e) (subst (λ (n : ℕ). GiveAtOnce ds functions env (More t (More u Last)) (a ∷ b ∷ []) n) (omega (arith, g.fewer, h.fewer))
             (more_give ds functions env t (More u Last) a (b ∷ []) (left - f.left) (f.left - y.left + 0) g.gives (more_give ds functions env u Last b [] (f.left - y.left) 0 h.gives (none_give ds functions env))));
+      }
+
+  pub three_given : (ts : Exps) (t u v : Exp) (left : ℕ) (f y z : Found) → ts ≡ More t (More u (More v Last)) → IsFound ds functions objects env t left f → IsFound ds functions objects env u f.left y → IsFound ds functions objects env v y.left z
+      → AreGiven ds functions objects env ts left (record { first = f.value; second = y.value; third = z.value; left = z.left })
+  three_given ts t u v left f y z e g h k =
+      let a = value_object objects f.value in
+      let b = value_object objects y.value in
+      let d = value_object objects z.value in
+      record {
+        values = a ∷ b ∷ d ∷ [];
+        first_live = g.live;
+        second_live = h.live;
+        third_live = k.live;
+        first = refl;
+        second = refl;
+        third = refl;
+        fewer = omega (arith, g.fewer, h.fewer, k.fewer);
+        give = subst (λ (us : Exps). GiveAtOnce ds functions env us (a ∷ b ∷ d ∷ []) (left - z.left)) (sym e) (subst (λ (n : ℕ). GiveAtOnce ds functions env (More t (More u (More v Last))) (a ∷ b ∷ d ∷ []) n) (omega (arith, g.fewer, h.fewer, k.fewer))
+            (more_give ds functions env t (More u (More v Last)) a (b ∷ d ∷ []) (left - f.left) (f.left - y.left + (y.left - z.left + 0)) g.gives (more_give ds functions env u (More v Last) b (d ∷ []) (f.left - y.left) (y.left - z.left + 0) h.gives
+            (more_give ds functions env v Last d [] (y.left - z.left) 0 k.gives (none_give ds functions env)))));
       }
 
   pub found_prim : (t : Exp) (p : _) (ts : Exps) (left : ℕ) (g : Given) (x : Value) → (left ≡ 0 → ⊥) → t ≡ Prim p ts → AreGiven ds functions objects env ts (left - 1) g → IsLiveValue objects x → value_object objects x ≡ prim_of p (value_object objects g.first) (value_object objects g.second) → IsFound ds functions objects env t left (record { value = x; left = g.left })
@@ -125,6 +145,15 @@ module _ (ds : List Definition) (functions : List ℕ) (held : Held) (whole : Is
   two_locals names n k g ts left a c e f = (λ i. (n, sym a.first i) ∷ (k, sym a.second i) ∷ []) ∙ sym (two_bound names a.values n k c e f)
 
 -- ---- lists of one term and of two
+pub first_term : (ts : List Term) (x : Term) → slice_get ts 0 ≡ Some x → (us : Exps) × (terms_of ts ≡ More (term_of x) us)
+first_term [] x e = none_some x e
+first_term (t ∷ ts) x e = (terms_of ts, ap (λ (u : Term). More (term_of u) (terms_of ts)) (some_same t x e))
+
+pub second_term : (ts : List Term) (x y : Term) → slice_get ts 0 ≡ Some x → slice_get ts 1 ≡ Some y → (us : Exps) × (terms_of ts ≡ More (term_of x) (More (term_of y) us))
+second_term [] x y e f = none_some x e
+second_term (t ∷ []) x y e f = none_some y f
+second_term (t ∷ u ∷ ts) x y e f = (terms_of ts, λ i. More (term_of (some_same t x e i)) (More (term_of (some_same u y f i)) (terms_of ts)))
+
 pub one_term : (ts : List Term) (x : Term) → length ts ≡ 1 → slice_get ts 0 ≡ Some x → terms_of ts ≡ More (term_of x) Last
 one_term [] x c e = absurd (omega (arith, c))
 one_term (t ∷ []) x c e = ap (λ (u : Term). More (term_of u) Last) (some_same t x e)
@@ -135,3 +164,10 @@ two_terms [] x y c e f = absurd (omega (arith, c))
 two_terms (t ∷ []) x y c e f = absurd (omega (arith, c))
 two_terms (t ∷ u ∷ []) x y c e f = λ i. More (term_of (some_same t x e i)) (More (term_of (some_same u y f i)) Last)
 two_terms (t ∷ u ∷ v ∷ ts) x y c e f = absurd (omega (arith, c))
+
+pub three_terms : (ts : List Term) (x y z : Term) → length ts ≡ 3 → slice_get ts 0 ≡ Some x → slice_get ts 1 ≡ Some y → slice_get ts 2 ≡ Some z → terms_of ts ≡ More (term_of x) (More (term_of y) (More (term_of z) Last))
+three_terms [] x y z c e f g = absurd (omega (arith, c))
+three_terms (t ∷ []) x y z c e f g = absurd (omega (arith, c))
+three_terms (t ∷ u ∷ []) x y z c e f g = absurd (omega (arith, c))
+three_terms (t ∷ u ∷ v ∷ []) x y z c e f g = λ i. More (term_of (some_same t x e i)) (More (term_of (some_same u y f i)) (More (term_of (some_same v z g i)) Last))
+three_terms (t ∷ u ∷ v ∷ w ∷ ts) x y z c e f g = absurd (omega (arith, c))

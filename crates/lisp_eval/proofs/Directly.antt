@@ -15,8 +15,9 @@ use Rattle.gl_logic.proofs.Optional.{none_some, some_same, then_inverted}
 use Rattle.lisp_eval.specs.Directs.{Ends, AllEnd, GivesAtOnce, GiveAtOnce, OpensAtOnce}
 use Rattle.lisp_eval.specs.Narrow.{IsNarrow}
 use Rattle.lisp_eval.specs.Tables.{answered_in}
-use Rattle.lisp_eval.specs.Threads.{Thread, Threads, after, chained, keeping, finished, stays_shut, plain_call, skipped, threaded, thread, threads, thread_by}
-use Rattle.lisp_eval.proofs.Values.{value_seen}
+use Rattle.lisp_eval.specs.CallValue.{IsCallValue}
+use Rattle.lisp_eval.specs.Threads.{Thread, Threads, after, chained, is_kept, keeping, finished, stays_shut, plain_call, skipped, threaded, thread, threads, thread_by}
+use Rattle.lisp_eval.proofs.Values.{value_seen, call_value_unique}
 
 module _ (ds : List Definition) (functions : List ℕ) where
   abbrev A : List ℕ
@@ -137,3 +138,40 @@ module _ (ds : List Definition) (functions : List ℕ) where
       let here : threaded ds A functions n f xs kept ≡ Some j.0 = (λ l. threaded ds A functions n f (sym q.values l) (sym q.calls l)) ∙ j.1.0 in
       let b = body_ends f d xs y k n kept j.0 o s h here in
       after_ends w.seen kept m k y j.0 r q.count q.narrow b.0 b.1 j.1.1
+
+  -- a call that tables answer
+  either : (a b : Bool) → a ≡ true → (a || b) ≡ true
+  either true b e = refl
+  either false b e = absurd cc
+
+  shut_ends : (f : ℕ) (xs : List Object) (y : Object) (n : ℕ) (kept : List CallMade) (r : Thread) → is_among A f ≡ true → IsCallValue ds f xs y → threaded ds A functions n f xs kept ≡ Some r → Ends kept y 0 r
+  shut_ends f xs y zero kept r a v e = none_some r e
+  shut_ends f xs y (suc n) kept r a v e = closed (stays_shut A functions f xs kept) (either (is_among A f) (is_among functions f && is_kept kept (f, xs)) a) e where
+    closed : (b : Bool) → b ≡ true → elim b as (λ _. Option Thread) [ true ↦ then (plain_call ds (suc n) f xs) (λ w. skipped kept w.value) | false ↦ then (slice_get ds f) (λ c. then (thread_by (threaded ds A functions n) c.body (extended c.formals xs []) kept) (finished functions f xs)) ] ≡ Some r → Ends kept y 0 r
+    closed false z q = absurd cc
+    closed true z q =
+        let i = then_inverted (plain_call ds (suc n) f xs) (λ w. skipped kept w.value) r q in
+        let is : i.0.value ≡ y = call_value_unique ds f xs i.0.value y (record { depth = suc n; run = i.0; runs = i.1.0; value = refl }) v in
+        subst (Ends kept y 0) (some_same _ r i.1.1) (record { value = is; count = refl; narrow = tt; calls = refl })
+
+  shut_at : (n f : ℕ) (xs : List Object) (y : Object) (m : ℕ) (kept : List CallMade) (w : Threads) (j : Thread) → is_among A f ≡ true → IsCallValue ds f xs y → AllEnd kept xs m w → threaded ds A functions n f w.values w.kept ≡ Some j → Ends kept y 0 j
+  shut_at n f xs y m kept w j a v q e = shut_ends f xs y n kept j a v ((λ l. threaded ds A functions n f (sym q.values l) (sym q.calls l)) ∙ e)
+
+  pub shut_gives : (env : List (ℕ × Object)) (f : ℕ) (ts : Exps) (xs : List Object) (y : Object) (m : ℕ) → is_among A f ≡ true → Give env ts xs m → IsCallValue ds f xs y → IsNarrow y → Gives env (Call f ts) y (m + 1)
+  shut_gives env f ts xs y m a g v narrow n kept r e =
+      let i = then_inverted (Ts n env ts kept) _ r e in
+      let w = i.0 in
+      let q = g n kept w i.1.0 in
+      let j = then_inverted (threaded ds A functions n f w.values w.kept) (after w.seen) r i.1.1 in
+      let b = shut_at n f xs y m kept w j.0 a v q j.1.0 in
+      subst (λ (k : ℕ). Ends kept y k r) (omega arith) (after_ends w.seen kept m 0 y j.0 r q.count q.narrow b (subst IsNarrow (sym b.value) narrow) j.1.1)
+
+  -- such a value is seen, narrow or not
+  pub shut_seen : (env : List (ℕ × Object)) (f : ℕ) (ts : Exps) (xs : List Object) (y : Object) (m n : ℕ) (kept : List CallMade) (r : Thread) → is_among A f ≡ true → Give env ts xs m → IsCallValue ds f xs y → T n env (Call f ts) kept ≡ Some r → (before : List Object) × (r.seen ≡ before ++ y ∷ [])
+  shut_seen env f ts xs y m n kept r a g v e =
+      let i = then_inverted (Ts n env ts kept) _ r e in
+      let w = i.0 in
+      let q = g n kept w i.1.0 in
+      let j = then_inverted (threaded ds A functions n f w.values w.kept) (after w.seen) r i.1.1 in
+      let b = shut_at n f xs y m kept w j.0 a v q j.1.0 in
+      (w.seen ++ j.0.seen, sym (ap (λ (z : Thread). z.seen) (some_same _ r j.1.1)) ∙ ap (λ z. (w.seen ++ j.0.seen) ++ z ∷ []) b.value)

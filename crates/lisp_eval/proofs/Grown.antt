@@ -18,8 +18,11 @@ use Rattle.lisp_eval.specs.declared.run.Cause.TheVariants as cause
 use Rattle.lisp_eval.specs.States.{env_of}
 use Rattle.lisp_eval.proofs.Environments.{stays_at}
 
+pub grown_on : (start old new : List Object) → HasGrown start old → HasGrown old new → HasGrown start new
+grown_on start old new g h = (g.0 ++ h.0, h.1 ∙ (ap (λ z. z ++ h.0) g.1 ∙ append_assoc start g.0 h.0))
+
 pub grown_more : (x : Object) (start old new : List Object) → HasGrown start old → AddsCellsOf x old new → HasGrown start new
-grown_more x start old new g a = (g.0 ++ a.made, a.is ∙ (ap (λ z. z ++ a.made) g.1 ∙ append_assoc start g.0 a.made))
+grown_more x start old new g a = grown_on start old new g (a.made, a.is)
 
 pub crowded_at : (w : WorldSeen) (env : List (ℕ × Object)) (t : Exp) (start : List Object) (a b : ℕ) → a ≡ b → IsCrowded w env t start a → IsCrowded w env t start b
 crowded_at w env t start a b e h = subst (λ (k : ℕ). IsCrowded w env t start k) e h

@@ -1,5 +1,5 @@
 -- The invariant of the evaluator's loop, and its steps.
-use Rattle.std.proofs.Common.{◌≡◌, ◌∙◌, ap, sym, refl, subst, ℕ, ◌+◌, ◌-◌, List, [], ◌∷◌, ◌++◌, length, arith, Option, Some}
+use Rattle.std.proofs.Common.{◌≡◌, ◌∙◌, ap, sym, refl, subst, ℕ, ◌-◌, List, [], ◌∷◌, ◌++◌, arith}
 use Rattle.std.specs.Prelude.{map}
 use Rattle.gl_logic.specs.Object.{Object}
 use Rattle.gl_logic.specs.Environment.{look}
@@ -9,7 +9,6 @@ use Rattle.gl_logic.specs.IsGround.{AreGround}
 use Rattle.gl_logic.specs.TermOf.{term_of}
 use Rattle.gl_logic.specs.Walk.{CallMade}
 use Rattle.gl_logic.specs.WorldSeen.{WorldSeen}
-use Rattle.gl_logic.proofs.Optional.{then_inverted}
 use Rattle.hons_arena.specs.declared.id.Id.{Id}
 use Rattle.hons_arena.specs.Held.{Held, AddsCellsOf, IsEachOnce, LacksCell}
 use Rattle.hons_arena.specs.Ids.{object_at, IsLive, IsIdOf}
@@ -18,12 +17,11 @@ use Rattle.lisp_eval.specs.Answers.{IsDear, IsCrowded}
 use Rattle.lisp_eval.specs.Bindings.{id_in}
 use Rattle.lisp_eval.specs.CallValue.{IsCallValue}
 use Rattle.lisp_eval.specs.Compound.{IsCompound}
-use Rattle.lisp_eval.specs.Directs.{Ends, GivesAtOnce}
-use Rattle.lisp_eval.specs.Frames.{Frame, Focus, Visit, Give, Rest, all_of, focused, rest_of}
+use Rattle.lisp_eval.specs.Frames.{Frame, Focus, Visit, Give}
 use Rattle.lisp_eval.specs.Kept.{entries_of}
 use Rattle.lisp_eval.specs.Moves.{Next, on, entered, entered_met}
 use Rattle.lisp_eval.specs.States.{env_of, frames_of, focus_of, IsNext}
-use Rattle.lisp_eval.specs.Threads.{Thread, is_kept, thread, threaded}
+use Rattle.lisp_eval.specs.Threads.{is_kept}
 use Rattle.lisp_eval.specs.Tables.{answered_in}
 use Rattle.lisp_eval.specs.Within.{IsIn, AreWithin}
 use Rattle.lisp_eval.specs.declared.frame.Binding.{Binding}
@@ -31,11 +29,9 @@ use Rattle.lisp_eval.specs.declared.frame.Focus as program
 use Rattle.lisp_eval.specs.declared.frame.Focus.TheVariants as focus
 use Rattle.lisp_eval.specs.declared.frame.Frame as held
 use Rattle.lisp_eval.proofs.Environments.{append_none, look_is, stays_at}
-use Rattle.lisp_eval.proofs.Goes.{at_once_goes}
 use Rattle.lisp_eval.proofs.Going.{Narrow, Going, StepOn, going_step, going_crowded, going_dear}
 use Rattle.lisp_eval.proofs.MovesGo.{entered_goes}
 use Rattle.lisp_eval.proofs.Standing.{stable_live, grows_added, still, env_in, at_once}
-use Rattle.lisp_eval.proofs.Values.{value_seen}
 use Rattle.lisp_eval.proofs.Within.{stays}
 
 compound_met : (u : Exp) (env : List (ℕ × Object)) → IsCompound u → entered_met u env ≡ []
@@ -62,13 +58,13 @@ module _ (w : WorldSeen) (functions : List ℕ) (env : List (ℕ × Object)) (t 
 
   -- ---- a term is visited
   module _ (left : ℕ) (u : _) (uenv : _) (frames : List held.Frame) (objects : List Object) (entries : List (Call × Id)) (s : State left (focus.Visit u uenv) frames objects entries) where
-    abbrev visit_env : List (ℕ × Object)
+    abbrev pub visit_env : List (ℕ × Object)
     visit_env = env_of (objects ++ []) uenv.value.items
 
-    env_stands : (more : List Object) → env_of (objects ++ more) uenv.value.items ≡ visit_env
+    pub env_stands : (more : List Object) → env_of (objects ++ more) uenv.value.items ≡ visit_env
     env_stands more = ap env_in (s.focus_is more ∙ sym (s.focus_is []))
 
-    at_visit : Going w s.ground functions env t limit start left (Visit (term_of u.now) visit_env) s.stack s.kept objects
+    pub at_visit : Going w s.ground functions env t limit start left (Visit (term_of u.now) visit_env) s.stack s.kept objects
     at_visit = subst (λ (g : Focus). Going w s.ground functions env t limit start left g s.stack s.kept objects) (sym (s.focus_is [])) s.going
 
     pub visit_dear : left ≡ 0 → IsDear w functions env t limit
@@ -160,51 +156,6 @@ module _ (w : WorldSeen) (functions : List ℕ) (env : List (ℕ × Object)) (t 
       pub const_crowded : (held : Held) → held.objects ≡ new → LacksCell held x → IsEachOnce held.objects → IsCrowded w env t start held.limit
       const_crowded held e lack once = going_crowded w s.ground functions env t limit start left (Visit (Const x) visit_env) s.stack s.kept objects const_gives.0 held x const_gives.1.met_seen.0 lack once
           (subst (λ (zs : List Object). AreWithin start const_gives.0.walked.seen zs) (sym e) const_within)
-
-    -- a term whose value is there at once, after so many visits
-    module _ (y : Object) (visits : ℕ) (gives_at_once : GivesAtOnce w.definitions functions (env_of objects uenv.value.items) (term_of u.now) y visits) where
-      abbrev here : Exp
-      here = term_of u.now
-
-      abbrev rest_now : Option Rest
-      rest_now = rest_of w.definitions (answered_in w.definitions) functions at_visit.depth (Visit here visit_env) s.stack s.kept
-
-      the_walk : (r : Thread) × (thread w.definitions (answered_in w.definitions) functions at_visit.depth visit_env here s.kept ≡ Some r)
-      the_walk =
-          let i = then_inverted (focused w.definitions (answered_in w.definitions) functions at_visit.depth (Visit here visit_env) s.kept) _ at_visit.running.rest at_visit.running.is in
-          let j = then_inverted (thread w.definitions (answered_in w.definitions) functions at_visit.depth visit_env here s.kept) all_of i.0 i.1.0 in (j.0, j.1.0)
-
-      ends : Ends s.kept y visits the_walk.0
-      ends = subst (λ (e : List (ℕ × Object)). GivesAtOnce w.definitions functions e here y visits) (at_once (λ all. env_of all uenv.value.items) visit_env objects env_stands) gives_at_once at_visit.depth s.kept the_walk.0 the_walk.1
-
-      found_step : (left' : ℕ) → visits + left' ≡ left → StepOn w s.ground functions env t limit start left (Visit here visit_env) s.stack s.kept objects at_visit the_walk.0.seen left' (Give the_walk.0.value) s.stack s.kept
-      found_step left' b = going_step w s.ground functions env t limit start left (Visit here visit_env) s.stack s.kept objects at_visit left' (length the_walk.0.seen) the_walk.0.seen (Give the_walk.0.value) s.stack s.kept (omega (arith, b, ends.count))
-          (at_once_goes (IsIn at_visit.walked.seen) Narrow w.definitions (answered_in w.definitions) functions at_visit.depth here visit_env s.stack s.kept the_walk.0 the_walk.1 ends.calls)
-
-      found_seen : (left' : ℕ) → visits + left' ≡ left → IsIn at_visit.walked.seen y
-      found_seen left' b = subst (IsIn at_visit.walked.seen) ends.value (value_seen (IsIn at_visit.walked.seen) (threaded w.definitions (answered_in w.definitions) functions at_visit.depth) here visit_env s.kept the_walk.0 the_walk.1 (found_step left' b).met_seen)
-
-      found_within : (left' : ℕ) → visits + left' ≡ left → (new : List Object) → AddsCellsOf y objects new → AreWithin start at_visit.walked.seen new
-      found_within left' b new adds = stays start at_visit.walked.seen objects new y (found_seen left' b) adds at_visit.within
-
-      pub found_next : (left' : ℕ) → visits + left' ≡ left → (new : List Object) → AddsCellsOf y objects new → (id : Id) → IsIdOf new y id → State left' (focus.Give id) frames new entries
-      found_next left' b new adds id is = record {
-        focus = Give the_walk.0.value;
-        stack = s.stack;
-        ground = s.ground;
-        kept = s.kept;
-        calls = s.calls;
-        going = (found_step left' b).goes_on ends.narrow new (found_within left' b new adds);
-        focus_is = λ more. ap Give (stays_at new more id is.0 ∙ (is.1 ∙ sym ends.value));
-        frames_are = still (λ all. frames_of all frames) s.stack objects new (grows_added y objects new adds) s.frames_are;
-        entries_are = still (λ all. entries_of all entries) s.calls objects new (grows_added y objects new adds) s.entries_are;
-        right = s.right;
-        same = s.same;
-      }
-
-      pub found_crowded : (left' : ℕ) → visits + left' ≡ left → (held : Held) → held.objects ≡ objects → LacksCell held y → IsEachOnce held.objects → IsCrowded w env t start held.limit
-      found_crowded left' b held e lack once = going_crowded w s.ground functions env t limit start left (Visit here visit_env) s.stack s.kept objects at_visit held y (found_seen left' b) lack once
-          (subst (λ (zs : List Object). AreWithin start at_visit.walked.seen zs) (sym e) at_visit.within)
 
     pub visit_live : (bindings : List Binding) → bindings ≡ uenv.value.items → Every (λ b. IsLive objects b.value) bindings
     visit_live bindings e = all_live bindings visit_env (λ more. ap (env_of (objects ++ more)) e ∙ env_stands more) where

@@ -19,7 +19,7 @@ split (x ∷ xs) ys y (suc i, l, e) = elim (split xs ys y (i, omega (arith, l), 
   | inr c ↦ inr c
 ]
 
-all_at : (P : Object → Type 0) (xs : List Object) (y : Object) → All P xs → Contains xs y → P y
+pub all_at : (P : Object → Type 0) (xs : List Object) (y : Object) → All P xs → Contains xs y → P y
 all_at P xs y h c = subst P c.2 (h c.0 y c.1)
 
 pub stays : (start seen old new : List Object) (x : Object) → IsIn seen x → AddsCellsOf x old new → AreWithin start seen old → AreWithin start seen new

@@ -57,8 +57,10 @@ module _ (definitions : List Definition) (functions : List ℕ) where
     pub values : List Object
     pub first_live : IsLiveValue objects g.first
     pub second_live : IsLiveValue objects g.second
+    pub third_live : IsLiveValue objects g.third
     pub first : get_or values 0 nil ≡ value_object objects g.first
     pub second : get_or values 1 nil ≡ value_object objects g.second
+    pub third : get_or values 2 nil ≡ value_object objects g.third
     pub fewer : g.left < left
     pub give : GiveAtOnce env ts values (left - g.left)
 

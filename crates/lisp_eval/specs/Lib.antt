@@ -1,5 +1,7 @@
+pub mod Aheads
 pub mod Answers
 pub mod Applied
+pub mod Attempts
 pub mod Bindings
 pub mod CallValue
 pub mod Compound
@@ -8,6 +10,7 @@ pub mod Directs
 pub mod Frames
 pub mod Gives
 pub mod Kept
+pub mod Leads
 pub mod Lending
 pub mod MachineCalls
 pub mod Machines
@@ -15,6 +18,7 @@ pub mod Moves
 pub mod Narrow
 pub mod Nexts
 pub mod Outside
+pub mod Sights
 pub mod States
 pub mod Tables
 pub mod Threads

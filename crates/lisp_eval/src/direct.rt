@@ -1,25 +1,31 @@
-//! Terms that are evaluated at once: with no frame, no cell and no memory.
+//! Terms that are evaluated at once: with no frame and no memory, and no cell but for a cons.
 
-ghost use Rattle.std.specs.Prelude.{◌≡◌, ◌-◌, ◌<◌, List, IfSome, IsTrue, Some, length, slice_get};
+ghost use Rattle.std.specs.Prelude.{◌≡◌, ◌+◌, ◌-◌, ◌<◌, List, IfOk, IfSome, IsErrOf, IsTrue, Some, length, slice_get};
+ghost use Rattle.fast_alists.specs.Tables.{Agree};
+ghost use Rattle.gl_logic.specs.Counts.{is_among};
 ghost use Rattle.gl_logic.specs.Environment.{look};
+ghost use Rattle.gl_logic.specs.Exp.{Call};
 ghost use Rattle.gl_logic.specs.Object.{Object};
 ghost use Rattle.gl_logic.specs.PrimValue.{prim_of};
 ghost use Rattle.gl_logic.specs.TermOf.{term_of, terms_of};
-ghost use Rattle.gl_logic.specs.Every.{Every};
 ghost use Rattle.hons_arena.specs.Held.{IsWhole};
-ghost use Rattle.hons_arena.specs.Ids.{IsLive};
-ghost use Rattle.lisp_eval.specs.Directs.{IsFound, AreGiven, OpensAtOnce, scope_env, IsLiveScope};
+ghost use Rattle.lisp_eval.specs.Attempts.{Tells, TellsAll, Applies, EntersThree};
+ghost use Rattle.lisp_eval.specs.Directs.{OpensAtOnce, scope_env, IsLiveScope};
 ghost use Rattle.lisp_eval.specs.Outside.{value_object, local_in, IsLiveValue};
-ghost use Rattle.lisp_eval.specs.States.{env_of};
+ghost use Rattle.lisp_eval.specs.Tables.{answered_in};
+ghost use Rattle.lisp_eval.specs.declared.direct.Stop.TheVariants as stop;
 
 use crate::bindings::{NIL, look};
 use crate::calls::{is_answered, is_memoized};
 use crate::frame::Binding;
 use crate::primitives::{boolean, code, is_predicate, predicate};
-use crate::value::{Local, Value};
+use crate::tables::answer;
+use crate::value::{Local, Value, cons};
+use fast_alists::{AlistFault, FastAlists};
 use gl_logic::{FnId, Names, Prim, Term, TextId, Tree, TreeKind, World};
-use hons_arena::HonsArena;
+use hons_arena::{Full, HonsArena, Id};
 use int_prims::{apply_int, is_operation};
+use std::alloc::{AllocError, AllocFailed};
 
 /// How deep a term that is evaluated at once may nest, with the bodies of the definitions that it opens.
 pub const LEVELS: u64 = 12;
@@ -45,15 +51,60 @@ pub struct Found {
     pub left: u64,
 }
 
-/// The values of one or two arguments.
+/// The values of one to three arguments.
 #[derive(Clone, Copy)]
 pub struct Given {
     /// That of the first.
     pub first: Value,
     /// That of the second, NIL where there is none.
     pub second: Value,
+    /// That of the third, NIL where there is none.
+    pub third: Value,
     /// How many visits are left.
     pub left: u64,
+}
+
+/// The ids of such values.
+#[derive(Clone, Copy)]
+struct Ids {
+    first: Id,
+    second: Id,
+    third: Id,
+}
+
+/// Why a term gives nothing at once.
+#[derive(Clone, Copy, Debug, PartialEq, Eq)]
+pub enum Stop {
+    /// It is not of those that are evaluated at once, or its value is an integer outside 128 bits, or too few visits are left.
+    Beyond,
+    /// There is no cell left.
+    Full,
+    /// There is no memory left.
+    Memory,
+}
+
+impl From<Full> for Stop {
+    ghost from_gives = { λ _ e. e ≡ stop.Full };
+
+    fn from(_full: Full) -> Stop {
+        Stop::Full
+    }
+}
+
+impl From<AllocError> for Stop {
+    ghost from_gives = { λ _ e. e ≡ stop.Memory };
+
+    fn from(_error: AllocError) -> Stop {
+        Stop::Memory
+    }
+}
+
+impl<T: Drop> From<AllocFailed<T>> for Stop {
+    ghost from_gives = { λ _ e. e ≡ stop.Memory };
+
+    fn from(_error: AllocFailed<T>) -> Stop {
+        Stop::Memory
+    }
 }
 
 /// NIL, which an argument that is not there is.
@@ -84,185 +135,189 @@ fn local_value(locals: &[Local], name: TextId) -> Value
     NOTHING
 }
 
-/// The value of a call on the variables of an environment, and the visits that are left of so many, as [`at_once`] finds
-/// them. None for any other term.
-pub fn call_at_once(
-    world: &World,
-    functions: &[u64],
-    arena: &HonsArena,
-    term: &Term,
-    env: &[Binding],
-    left: u64,
-) -> Option<Found>
-    requires whole { IsWhole arena.now }
-    requires env { Every (λ b. IsLive arena.now.objects b.value) env.now }
-    ensures { IfSome result (IsFound world.now.definitions functions.now arena.now.objects (env_of arena.now.objects env.now) (term_of term.now) left) }
-{
-    match term {
-        Term::Prim(_, _) => at_once(
-            world,
-            functions,
-            arena,
-            term,
-            Scope::Outer(env),
-            LEVELS,
-            left,
-        ),
-        Term::Call(_, _) => at_once(
-            world,
-            functions,
-            arena,
-            term,
-            Scope::Outer(env),
-            LEVELS,
-            left,
-        ),
-        _ => None,
-    }
-}
-
 /// The value of a term on the variables of a scope, and the visits that are left of so many; for a term of few levels that
-/// makes no cell, binds nothing, and opens no definitions but those that do neither. None tells nothing of the term.
+/// binds nothing, and opens no definitions but those that bind nothing and call nothing. Full only where a
+/// cons lacks a cell. Cells that were made stay, after a refusal too: each is of a value that the evaluation of the term
+/// speaks of.
 ///
 /// Each kind of compound term has a function of its own, so that a visit has a small frame.
 #[cycle(at_once)]
 pub fn at_once(
     world: &World,
     functions: &[u64],
-    arena: &HonsArena,
+    arena: &mut HonsArena,
+    alists: &mut FastAlists,
     term: &Term,
     scope: Scope,
     levels: u64,
     left: u64,
-) -> Option<Found>
-    requires whole { IsWhole arena.now }
-    requires scope { IsLiveScope arena.now.objects scope }
-    ensures { IfSome result (IsFound world.now.definitions functions.now arena.now.objects (scope_env arena.now.objects scope.entry) (term_of term.now) left) }
+) -> Result<Found, Stop>
+    requires whole { IsWhole arena.old }
+    requires scope { IsLiveScope arena.old.objects scope }
+    requires agree { Agree arena.old.objects alists.old }
+    ensures { Tells world.now.definitions functions.now (scope_env arena.old.objects scope.entry) (term_of term.now) left arena.old arena.new alists.new result }
 {
     if levels == 0 || left == 0 {
-        return None;
+        return Err(Stop::Beyond);
     }
     match term {
-        Term::Var(name) => Some(Found {
+        Term::Var(name) => Ok(Found {
             value: scope.value(*name),
             left: left - 1,
         }),
         Term::Const(tree) => constant_found(arena, tree, left),
-        Term::If(_, _, _) => branch(world, functions, arena, term, scope, levels, left),
-        Term::Prim(_, _) => operation(world, functions, arena, term, scope, levels, left),
-        Term::Call(_, _) => opened(world, functions, arena, term, scope, levels, left),
-        Term::Let(_, _, _) => None,
+        Term::If(_, _, _) => branch(world, functions, arena, alists, term, scope, levels, left),
+        Term::Prim(_, _) => operation(world, functions, arena, alists, term, scope, levels, left),
+        Term::Call(_, _) => opened(world, functions, arena, alists, term, scope, levels, left),
+        Term::Let(_, _, _) => Err(Stop::Beyond),
     }
 }
 
-/// What an `if` gives at once; none for any other term.
+/// What an `if` gives at once; nothing for any other term.
 #[cycle(at_once)]
 #[inline(never)]
 fn branch(
     world: &World,
     functions: &[u64],
-    arena: &HonsArena,
+    arena: &mut HonsArena,
+    alists: &mut FastAlists,
     term: &Term,
     scope: Scope,
     levels: u64,
     left: u64,
-) -> Option<Found>
-    requires whole { IsWhole arena.now }
-    requires scope { IsLiveScope arena.now.objects scope }
+) -> Result<Found, Stop>
+    requires whole { IsWhole arena.old }
+    requires scope { IsLiveScope arena.old.objects scope }
+    requires agree { Agree arena.old.objects alists.old }
     requires levels { 0 < levels }
     requires left { 0 < left }
-    ensures { IfSome result (IsFound world.now.definitions functions.now arena.now.objects (scope_env arena.now.objects scope.entry) (term_of term.now) left) }
+    ensures { Tells world.now.definitions functions.now (scope_env arena.old.objects scope.entry) (term_of term.now) left arena.old arena.new alists.new result }
 {
     match term {
         Term::If(test, then, otherwise) => {
-            let found = at_once(world, functions, arena, test, scope, levels - 1, left - 1)?;
+            let found = at_once(
+                world,
+                functions,
+                arena,
+                alists,
+                test,
+                scope,
+                levels - 1,
+                left - 1,
+            )?;
             if found.value.is_nil(arena) {
                 at_once(
                     world,
                     functions,
                     arena,
+                    alists,
                     otherwise,
                     scope,
                     levels - 1,
                     found.left,
                 )
             } else {
-                at_once(world, functions, arena, then, scope, levels - 1, found.left)
+                at_once(
+                    world,
+                    functions,
+                    arena,
+                    alists,
+                    then,
+                    scope,
+                    levels - 1,
+                    found.left,
+                )
             }
         }
-        _ => None,
+        _ => Err(Stop::Beyond),
     }
 }
 
-/// What a primitive gives at once; none for any other term.
+/// What a primitive gives at once; nothing for any other term.
 #[cycle(at_once)]
 #[inline(never)]
 fn operation(
     world: &World,
     functions: &[u64],
-    arena: &HonsArena,
+    arena: &mut HonsArena,
+    alists: &mut FastAlists,
     term: &Term,
     scope: Scope,
     levels: u64,
     left: u64,
-) -> Option<Found>
-    requires whole { IsWhole arena.now }
-    requires scope { IsLiveScope arena.now.objects scope }
+) -> Result<Found, Stop>
+    requires whole { IsWhole arena.old }
+    requires scope { IsLiveScope arena.old.objects scope }
+    requires agree { Agree arena.old.objects alists.old }
     requires levels { 0 < levels }
     requires left { 0 < left }
-    ensures { IfSome result (IsFound world.now.definitions functions.now arena.now.objects (scope_env arena.now.objects scope.entry) (term_of term.now) left) }
+    ensures { Tells world.now.definitions functions.now (scope_env arena.old.objects scope.entry) (term_of term.now) left arena.old arena.new alists.new result }
 {
     match term {
         Term::Prim(prim, terms) => {
-            if makes_cell(*prim) {
-                return None;
-            }
             let given = arguments(
                 world,
                 functions,
                 arena,
+                alists,
                 terms.as_slice(),
                 scope,
                 levels - 1,
                 left - 1,
             )?;
             let value = apply(arena, *prim, given.first, given.second)?;
-            Some(Found {
+            Ok(Found {
                 value,
                 left: given.left,
             })
         }
-        _ => None,
+        _ => Err(Stop::Beyond),
     }
 }
 
-/// What a call of a small definition gives at once; none for any other term.
+/// What a call of a small definition gives at once; nothing for any other term.
 #[cycle(at_once)]
 #[inline(never)]
 fn opened(
     world: &World,
     functions: &[u64],
-    arena: &HonsArena,
+    arena: &mut HonsArena,
+    alists: &mut FastAlists,
     term: &Term,
     scope: Scope,
     levels: u64,
     left: u64,
-) -> Option<Found>
-    requires whole { IsWhole arena.now }
-    requires scope { IsLiveScope arena.now.objects scope }
+) -> Result<Found, Stop>
+    requires whole { IsWhole arena.old }
+    requires scope { IsLiveScope arena.old.objects scope }
+    requires agree { Agree arena.old.objects alists.old }
     requires levels { 0 < levels }
     requires left { 0 < left }
-    ensures { IfSome result (IsFound world.now.definitions functions.now arena.now.objects (scope_env arena.now.objects scope.entry) (term_of term.now) left) }
+    ensures { Tells world.now.definitions functions.now (scope_env arena.old.objects scope.entry) (term_of term.now) left arena.old arena.new alists.new result }
 {
     match term {
         Term::Call(f, terms) => {
+            if is_answered(world, *f) {
+                return answered(
+                    world,
+                    functions,
+                    arena,
+                    alists,
+                    *f,
+                    terms.as_slice(),
+                    scope,
+                    levels - 1,
+                    left - 1,
+                );
+            }
             if !opens_at_once(world, functions, *f) {
-                return None;
+                return Err(Stop::Beyond);
             }
             let given = arguments(
                 world,
                 functions,
                 arena,
+                alists,
                 terms.as_slice(),
                 scope,
                 levels - 1,
@@ -275,6 +330,7 @@ fn opened(
                     world,
                     functions,
                     arena,
+                    alists,
                     &def.body,
                     Scope::Inner(&locals),
                     levels - 1,
@@ -289,54 +345,139 @@ fn opened(
                     world,
                     functions,
                     arena,
+                    alists,
                     &def.body,
                     Scope::Inner(&locals),
                     levels - 1,
                     given.left,
                 )
             } else {
-                None
+                Err(Stop::Beyond)
             }
         }
-        _ => None,
+        _ => Err(Stop::Beyond),
     }
 }
 
-/// The values of one or two arguments.
+/// What a call of a function that tables answer gives at once, behind the visit of the call itself.
+#[cycle(at_once)]
+#[inline(never)]
+fn answered(
+    world: &World,
+    functions: &[u64],
+    arena: &mut HonsArena,
+    alists: &mut FastAlists,
+    f: FnId,
+    terms: &[Term],
+    scope: Scope,
+    levels: u64,
+    left: u64,
+) -> Result<Found, Stop>
+    requires whole { IsWhole arena.old }
+    requires scope { IsLiveScope arena.old.objects scope }
+    requires agree { Agree arena.old.objects alists.old }
+    requires answered { IsTrue (is_among (answered_in world.now.definitions) f.number) }
+    ensures { Tells world.now.definitions functions.now (scope_env arena.old.objects scope.entry) (Call f.number (terms_of terms.now)) (left + 1) arena.old arena.new alists.new result }
+{
+    let _count = world.count();
+    let given = arguments(world, functions, arena, alists, terms, scope, levels, left)?;
+    match ids_of(arena, given) {
+        Ok(ids) => match answer(arena, alists, f, &[ids.first, ids.second, ids.third]) {
+            Ok(id) => Ok(Found {
+                value: Value::Held(id),
+                left: given.left,
+            }),
+            Err(AlistFault::Full) => Err(Stop::Beyond),
+            Err(AlistFault::Memory) => Err(Stop::Memory),
+        },
+        Err(_) => Err(Stop::Beyond),
+    }
+}
+
+/// The ids of the values of arguments.
+fn ids_of(arena: &mut HonsArena, given: Given) -> Result<Ids, Full>
+    requires whole { IsWhole arena.old }
+    requires first { IsLiveValue arena.old.objects given.first }
+    requires second { IsLiveValue arena.old.objects given.second }
+    requires third { IsLiveValue arena.old.objects given.third }
+    ensures { EntersThree given arena.old arena.new result }
+{
+    let first = given.first.enter(arena)?;
+    let second = given.second.enter(arena)?;
+    let third = given.third.enter(arena)?;
+    Ok(Ids {
+        first,
+        second,
+        third,
+    })
+}
+
+/// The values of one to three arguments.
 #[cycle(at_once)]
 #[inline(never)]
 fn arguments(
     world: &World,
     functions: &[u64],
-    arena: &HonsArena,
+    arena: &mut HonsArena,
+    alists: &mut FastAlists,
     terms: &[Term],
     scope: Scope,
     levels: u64,
     left: u64,
-) -> Option<Given>
-    requires whole { IsWhole arena.now }
-    requires scope { IsLiveScope arena.now.objects scope }
-    ensures { IfSome result (AreGiven world.now.definitions functions.now arena.now.objects (scope_env arena.now.objects scope.entry) (terms_of terms.now) left) }
+) -> Result<Given, Stop>
+    requires whole { IsWhole arena.old }
+    requires scope { IsLiveScope arena.old.objects scope }
+    requires agree { Agree arena.old.objects alists.old }
+    ensures { TellsAll world.now.definitions functions.now (scope_env arena.old.objects scope.entry) (terms_of terms.now) left arena.old arena.new alists.new result }
 {
     if terms.len() == 1 {
-        let first = at_once(world, functions, arena, &terms[0], scope, levels, left)?;
-        Some(Given {
+        let first = at_once(
+            world, functions, arena, alists, &terms[0], scope, levels, left,
+        )?;
+        Ok(Given {
             first: first.value,
             second: NOTHING,
+            third: NOTHING,
             left: first.left,
         })
     } else if terms.len() == 2 {
-        let first = at_once(world, functions, arena, &terms[0], scope, levels, left)?;
-        let second = at_once(
-            world, functions, arena, &terms[1], scope, levels, first.left,
+        let first = at_once(
+            world, functions, arena, alists, &terms[0], scope, levels, left,
         )?;
-        Some(Given {
+        let second = at_once(
+            world, functions, arena, alists, &terms[1], scope, levels, first.left,
+        )?;
+        Ok(Given {
             first: first.value,
             second: second.value,
+            third: NOTHING,
             left: second.left,
         })
+    } else if terms.len() == 3 {
+        let first = at_once(
+            world, functions, arena, alists, &terms[0], scope, levels, left,
+        )?;
+        let second = at_once(
+            world, functions, arena, alists, &terms[1], scope, levels, first.left,
+        )?;
+        let third = at_once(
+            world,
+            functions,
+            arena,
+            alists,
+            &terms[2],
+            scope,
+            levels,
+            second.left,
+        )?;
+        Ok(Given {
+            first: first.value,
+            second: second.value,
+            third: third.value,
+            left: third.left,
+        })
     } else {
-        None
+        Err(Stop::Beyond)
     }
 }
 
@@ -353,16 +494,17 @@ fn local(formals: &Names, i: u64, value: Value) -> Local
 }
 
 /// What a constant that needs no cell gives.
-fn constant_found(arena: &HonsArena, tree: &Tree, left: u64) -> Option<Found>
+fn constant_found(arena: &HonsArena, tree: &Tree, left: u64) -> Result<Found, Stop>
     requires { 0 < left }
-    ensures { IfSome result (λ f. IsLiveValue arena.now.objects f.value × (value_object arena.now.objects f.value ≡ tree.now) × (f.left ≡ left - 1)) }
+    ensures found { IfOk result (λ f. IsLiveValue arena.now.objects f.value × (value_object arena.now.objects f.value ≡ tree.now) × (f.left ≡ left - 1)) }
+    ensures beyond { ¬ IsErrOf result stop.Full }
 {
     match constant(arena, tree) {
-        Some(value) => Some(Found {
+        Some(value) => Ok(Found {
             value,
             left: left - 1,
         }),
-        None => None,
+        None => Err(Stop::Beyond),
     }
 }
 
@@ -379,32 +521,41 @@ fn constant(arena: &HonsArena, tree: &Tree) -> Option<Value>
     }
 }
 
-/// Whether a primitive's value may need a cell of its own.
-fn makes_cell(prim: Prim) -> bool {
-    matches!(prim, Prim::Cons | Prim::CodeChar)
+/// The value of a primitive. That of `code-char` is beyond this.
+fn apply(arena: &mut HonsArena, prim: Prim, x: Value, y: Value) -> Result<Value, Stop>
+    requires whole { IsWhole arena.old }
+    requires x { IsLiveValue arena.old.objects x }
+    requires y { IsLiveValue arena.old.objects y }
+    ensures { Applies (prim_of prim (value_object arena.old.objects x) (value_object arena.old.objects y)) arena.old arena.new result }
+{
+    match prim {
+        Prim::Cons => Ok(Value::Held(cons(arena, x, y)?)),
+        _ => value_of(arena, prim, x, y),
+    }
 }
 
 /// The value of a primitive that needs no cell.
-fn apply(arena: &HonsArena, prim: Prim, x: Value, y: Value) -> Option<Value>
+fn value_of(arena: &HonsArena, prim: Prim, x: Value, y: Value) -> Result<Value, Stop>
     requires x { IsLiveValue arena.now.objects x }
     requires y { IsLiveValue arena.now.objects y }
-    ensures { IfSome result (λ v. IsLiveValue arena.now.objects v × (value_object arena.now.objects v ≡ prim_of prim (value_object arena.now.objects x) (value_object arena.now.objects y))) }
+    ensures value { IfOk result (λ v. IsLiveValue arena.now.objects v × (value_object arena.now.objects v ≡ prim_of prim (value_object arena.now.objects x) (value_object arena.now.objects y))) }
+    ensures beyond { ¬ IsErrOf result stop.Full }
 {
     if is_predicate(prim) {
         let holds = predicate(arena, prim, x, y);
-        return Some(Value::Held(boolean(arena, holds)));
+        return Ok(Value::Held(boolean(arena, holds)));
     }
     if is_operation(prim) {
         return match apply_int(prim, x.integer(arena), y.integer(arena)) {
-            Ok(i) => Some(Value::Int(i)),
-            Err(_) => None,
+            Ok(i) => Ok(Value::Int(i)),
+            Err(_) => Err(Stop::Beyond),
         };
     }
     match prim {
-        Prim::Car => Some(Value::Held(arena.car(x.with_parts()))),
-        Prim::Cdr => Some(Value::Held(arena.cdr(x.with_parts()))),
-        Prim::CharCode => Some(Value::Int(i128::from(code(arena, x)))),
-        _ => None,
+        Prim::Car => Ok(Value::Held(arena.car(x.with_parts()))),
+        Prim::Cdr => Ok(Value::Held(arena.cdr(x.with_parts()))),
+        Prim::CharCode => Ok(Value::Int(i128::from(code(arena, x)))),
+        _ => Err(Stop::Beyond),
     }
 }
 
@@ -419,8 +570,8 @@ fn opens_at_once(world: &World, functions: &[u64], f: FnId) -> bool
     plain_within(&world.def(f).body, SUBTERMS).is_some()
 }
 
-/// How many of so many subterms are left behind those of a term that has no calls, binds nothing and makes no cell. None
-/// for any other term, and where it has more.
+/// How many of so many subterms are left behind those of a term that has no calls and binds nothing. None for any other term,
+/// and where it has more.
 #[cycle(plain_within)]
 fn plain_within(term: &Term, subterms: u64) -> Option<u64>
     ensures { IfSome result (λ left. left < subterms) }
@@ -436,10 +587,7 @@ fn plain_within(term: &Term, subterms: u64) -> Option<u64>
             let behind_then = plain_within(then, behind_test)?;
             plain_within(otherwise, behind_then)
         }
-        Term::Prim(prim, terms) => {
-            if makes_cell(*prim) {
-                return None;
-            }
+        Term::Prim(_, terms) => {
             let mut left = subterms - 1;
             for part in terms.as_slice() {
                 left = plain_within(part, left)?;

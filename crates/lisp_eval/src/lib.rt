@@ -2,15 +2,17 @@
 //!
 //! A [`Machine`] begins with a world and the functions whose finished calls it keeps, takes inputs, and evaluates terms. It
 //! runs on a stack of frames of its own, so that no depth of definitions is too great for it. Each value is the id of an
-//! object in its arena. A primitive, or a call of a small definition, whose parts need no cell is evaluated at once, with no
-//! frame and no memory, and the integers on its way take no cells. It counts a visit to a subterm when it makes it, and opens a
-//! call of a memoized function once for the same arguments. Its refusals tell the truth: Steps only where the memoized cost exceeds the limit, Cells only where
-//! the cells that were held and those of the values computed are more different objects than the arena has cells, Width
-//! only where some value leaves 128 bits.
+//! object in its arena. What needs no frame takes none: small terms are evaluated at once, and an evaluation goes on past
+//! each test, and into the body of each call, whose parts are found so; the integers on the way take no cells. It counts a
+//! visit to a subterm when it makes it, and opens a call of a memoized function once for the same arguments. Its refusals
+//! tell the truth: Steps only where the memoized cost exceeds the limit, Cells only where the cells that were held and
+//! those of the values computed are more different objects than the arena has cells, Width only where some value leaves
+//! 128 bits.
 //!
 //! What it takes is counted in `docs/BENCHMARKS.md`: the last rows of the theorems, and the evaluator's own.
 #![tactic(auto)]
 
+mod ahead;
 mod bindings;
 mod calls;
 mod constants;
@@ -32,6 +34,3 @@ pub use fault::EvalFault;
 pub use frame::Binding;
 pub use machine::Machine;
 pub use primitives::{PrimFault, primitive};
-
-#[cfg(test)]
-mod tests;

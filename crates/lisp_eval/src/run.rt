@@ -10,14 +10,14 @@ ghost use Rattle.lisp_eval.specs.MachineCalls.{HoldsSeen};
 ghost use Rattle.lisp_eval.specs.Nexts.{Answered, Stand};
 ghost use Rattle.lisp_eval.specs.States.{env_of};
 
+use crate::ahead::{Ahead, advance};
 use crate::bindings::{id_at, look};
 use crate::calls::{Known, bound, is_answered, look_up, open};
-use crate::direct::call_at_once;
+use crate::direct::Stop;
 use crate::frame::{Binding, Focus, Work};
 use crate::primitives::{PrimFault, primitive};
 use crate::steps::{hand, visit};
 use crate::tables::answer;
-use crate::value::Value;
 use fast_alists::{AlistFault, FastAlists};
 use gl_logic::{NoMemory, Term, World};
 use hons_arena::{HonsArena, Id};
@@ -82,28 +82,23 @@ pub fn run<'a>(
                             Err(_) => return Ok(Err(Cause::Cells)),
                         }
                     }
-                    _ => match call_at_once(
-                        world,
-                        functions,
-                        arena,
-                        t,
-                        inner.as_ref().as_slice(),
-                        left,
-                    ) {
-                        Some(found) => {
-                            left = found.left;
-                            match found.value {
-                                Value::Held(id) => focus = Focus::Give(id),
-                                Value::Int(i) => match arena.int(i) {
-                                    Ok(id) => focus = Focus::Give(id),
-                                    Err(_) => return Ok(Err(Cause::Cells)),
-                                },
+                    _ => match advance(world, functions, alloc, arena, alists, t, &inner, left) {
+                        Ok(ahead) => match ahead {
+                            Ahead::Value(id, rest) => {
+                                left = rest;
+                                focus = Focus::Give(id);
                             }
-                        }
-                        None => {
+                            Ahead::Term(next, env, rest) => {
+                                left = rest;
+                                focus = Focus::Visit(next, env);
+                            }
+                        },
+                        Err(Stop::Beyond) => {
                             left -= 1;
                             focus = visit(t, inner, alloc, &mut frames)?;
                         }
+                        Err(Stop::Full) => return Ok(Err(Cause::Cells)),
+                        Err(Stop::Memory) => return Err(NoMemory),
                     },
                 }
             }

@@ -1,15 +1,16 @@
 //! Values that may stand outside the arena.
 
 ghost use Rattle.std.specs.Prelude.{◌≡◌, List};
-ghost use Rattle.gl_logic.specs.Object.{Object, Int, car, cdr};
+ghost use Rattle.gl_logic.specs.Object.{Object, Int, Cons, car, cdr};
 ghost use Rattle.gl_logic.specs.ObjectEq.{object_eq, is_nil};
 ghost use Rattle.gl_logic.specs.PrimValue.{integer_in};
+ghost use Rattle.hons_arena.specs.Held.{IsWhole, Places};
 ghost use Rattle.hons_arena.specs.Ids.{object_at, kind_of, IsLive};
 ghost use Rattle.lisp_eval.specs.Outside.{value_object, IsLiveValue};
 
 use crate::bindings::NIL;
 use gl_logic::TextId;
-use hons_arena::{HonsArena, Id, Kind};
+use hons_arena::{Full, HonsArena, Id, Kind};
 
 /// A value: an integer that needs no cell, or the id of an object.
 #[derive(Clone, Copy)]
@@ -75,6 +76,19 @@ impl Value {
         }
     }
 
+    /// The id of a value. An integer takes a cell where it has none; Full only where there is none left.
+    pub fn enter(self, arena: &mut HonsArena) -> Result<Id, Full>
+        requires whole { IsWhole arena.old }
+        requires live { IsLiveValue arena.old.objects self }
+        ensures places { Places arena.old arena.new (value_object arena.old.objects self) result }
+        ensures whole { IsWhole arena.new }
+    {
+        match self {
+            Value::Int(i) => arena.int(i),
+            Value::Held(id) => Ok(id),
+        }
+    }
+
     /// Whether two values are equal.
     pub fn same(self, other: Value, arena: &HonsArena) -> bool
         requires x { IsLiveValue arena.now.objects self }
@@ -87,6 +101,20 @@ impl Value {
             (_, Value::Int(b)) => is_integer(arena, self, b),
         }
     }
+}
+
+/// The id of the cons of two values. Each integer of them takes a cell where it has none, and so does the cons; Full only
+/// where there is none left.
+pub fn cons(arena: &mut HonsArena, first: Value, rest: Value) -> Result<Id, Full>
+    requires whole { IsWhole arena.old }
+    requires first { IsLiveValue arena.old.objects first }
+    requires rest { IsLiveValue arena.old.objects rest }
+    ensures places { Places arena.old arena.new (Cons (value_object arena.old.objects first) (value_object arena.old.objects rest)) result }
+    ensures whole { IsWhole arena.new }
+{
+    let a = first.enter(arena)?;
+    let d = rest.enter(arena)?;
+    arena.cons(a, d)
 }
 
 /// Whether two ids are of equal objects.

@@ -2,16 +2,19 @@ use Rattle.std.proofs.Common.{◌+◌, ◌*◌}
 use Rattle.lisp_eval.proofs.direct.+at_once.Given as goal
 
 abbrev pub decreases-at_once : goal.decreases-at_once
-decreases-at_once l = 3 * l.levels + 1
+decreases-at_once l = 4 * l.levels + 1
 
 abbrev pub decreases-branch : goal.decreases-branch
-decreases-branch l = 3 * l.levels
+decreases-branch l = 4 * l.levels
 
 abbrev pub decreases-operation : goal.decreases-operation
-decreases-operation l = 3 * l.levels
+decreases-operation l = 4 * l.levels
 
 abbrev pub decreases-opened : goal.decreases-opened
-decreases-opened l = 3 * l.levels
+decreases-opened l = 4 * l.levels
 
 abbrev pub decreases-arguments : goal.decreases-arguments
-decreases-arguments l = 3 * l.levels + 2
+decreases-arguments l = 4 * l.levels + 2
+
+abbrev pub decreases-answered : goal.decreases-answered
+decreases-answered l = 4 * l.levels + 3

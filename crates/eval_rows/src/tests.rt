@@ -12,10 +12,10 @@ ghost use Rattle.gl_logic.specs.WorkedDefinitions.{atom_definition};
 ghost use Rattle.lisp_eval.specs.Machines.{AreFunctionsOf, Fits};
 ghost use Rattle.gl_logic.specs.declared.prim.Primitive.TheVariants as prim;
 
-use super::*;
 use gl_base::limits::Limits;
 use gl_logic::{Def, FnId, Names, NoMemory, Prim, Term, TextId, Tree, World};
 use hons_arena::{HonsArena, Kind};
+use lisp_eval::{Env, EvalFault, Machine};
 use shape_spec::FnSet;
 use std::alloc::Global;
 use std::process::Abort;

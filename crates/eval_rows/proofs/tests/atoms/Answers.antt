@@ -3,7 +3,7 @@ use Rattle.gl_logic.specs.Definition.{Definition}
 use Rattle.gl_logic.specs.Ground.{ground}
 use Rattle.gl_logic.specs.IsGround.{IsGround}
 use Rattle.gl_logic.specs.WorkedDefinitions.{atom_definition}
-use Rattle.lisp_eval.proofs.tests.atoms.Goals as goal
+use Rattle.eval_rows.proofs.tests.atoms.Goals as goal
 
 first_ground : (n : ℕ) (d : Definition) → n ≡ 0 → d ≡ atom_definition → IsGround n d
 unfolding ground

@@ -1,0 +1,265 @@
+-- What attempts at parts of a term tell of the term.
+use Rattle.std.proofs.Common.{◌≡◌, ◌∙◌, ap, sym, refl, subst, ℕ, zero, suc, ◌+◌, ◌-◌, arith, Bool, true, cond, List, [], ◌∷◌, get_or, slice_get, Some, Result, Ok, Err, IsErr, ◌⊎◌, inl, inr}
+use Rattle.std.specs.Prelude.{IfOk, IsErrOf}
+use Rattle.gl_logic.specs.Counts.{is_among}
+use Rattle.gl_logic.specs.Definition.{Definition}
+use Rattle.gl_logic.specs.Environment.{extended}
+use Rattle.gl_logic.specs.Exp.{Exp, Exps, If, Prim, Call, Last, More}
+use Rattle.gl_logic.specs.IsGround.{AreGround}
+use Rattle.gl_logic.specs.Object.{Object, nil}
+use Rattle.gl_logic.specs.ObjectEq.{is_nil}
+use Rattle.gl_logic.specs.PrimValue.{prim_of}
+use Rattle.fast_alists.specs.Tables.{Agree}
+use Rattle.hons_arena.specs.Held.{Held, AddsCellsOf, IsWhole}
+use Rattle.hons_arena.specs.declared.id.Id.{Id}
+use Rattle.hons_arena.specs.Ids.{IsIdOf}
+use Rattle.lisp_eval.specs.Answers.{HasGrown}
+use Rattle.lisp_eval.specs.Attempts.{Alists, Tells, TellsAll, Applies, IsSeenOrNil, SeesThree}
+use Rattle.lisp_eval.specs.CallValue.{IsCallValue}
+use Rattle.lisp_eval.specs.Directs.{GivesAtOnce, IsFound, AreGiven, OpensAtOnce}
+use Rattle.lisp_eval.specs.Narrow.{IsNarrow}
+use Rattle.lisp_eval.specs.Outside.{value_object, IsLiveValue}
+use Rattle.lisp_eval.specs.Sights.{Sees, SeeAll, Adds, Lacks}
+use Rattle.lisp_eval.specs.Tables.{answered_in, table_value}
+use Rattle.lisp_eval.specs.Within.{IsIn}
+use Rattle.lisp_eval.specs.declared.direct.Found.{Found}
+use Rattle.lisp_eval.specs.declared.direct.Given.{Given}
+use Rattle.lisp_eval.specs.declared.direct.Stop.{Stop}
+use Rattle.lisp_eval.specs.declared.direct.Stop.TheVariants as stop
+use Rattle.lisp_eval.specs.declared.value.Value.{Value}
+use Rattle.lisp_eval.specs.declared.value.Value.TheVariants as value
+use Rattle.lisp_eval.proofs.DirectFound.{found_if, one_given, two_given, three_given, found_prim, found_call}
+use Rattle.lisp_eval.proofs.Directly.{shut_gives, shut_seen}
+use Rattle.lisp_eval.proofs.Entering.{value_grown}
+use Rattle.lisp_eval.proofs.Sights.{Covers, SeesWithin, adds_cells, adds_on, adds_by, lacks_by, lacks_cell, if_sees_test, if_sees_branch, prim_sees_parts, prim_value_seen, call_sees_parts, call_sees_body, first_seen, rest_seen, arguments_seen, in_behind}
+use Rattle.lisp_eval.proofs.TableValues.{tables_are_right}
+use Rattle.lisp_eval.proofs.WholeNarrow.{whole_narrow}
+
+get_or_in : (xs : List Object) (k : ℕ) → IsIn xs (get_or xs k nil) ⊎ (get_or xs k nil ≡ nil)
+get_or_in [] k = inr refl
+get_or_in (x ∷ xs) zero = inl (0, refl)
+get_or_in (x ∷ xs) (suc k) = elim (get_or_in xs k) [
+  | inl h ↦ inl (suc h.0, h.1)
+  | inr e ↦ inr e
+]
+
+pub ok_map : {A E : Type 0} (P Q : A → Type 0) (r : Result A E) → ((x : A) → P x → Q x) → IfOk r P → IfOk r Q
+ok_map P Q (Ok x) g h = g x h
+ok_map P Q (Err e) g h = tt
+
+module _ (ds : List Definition) (functions : List ℕ) where
+  pub found_grown : (old new : List Object) → HasGrown old new → (env : List (ℕ × Object)) (t : Exp) (left : ℕ) (f : Found) → IsFound ds functions old env t left f → IsFound ds functions new env t left f
+  found_grown old new g env t left f h =
+      let v = value_grown old new g f.value h.live in
+      record { live = v.0; fewer = h.fewer; gives = subst (λ (y : Object). GivesAtOnce ds functions env t y (left - f.left)) (sym v.1) h.gives }
+
+  pub given_grown : (old new : List Object) → HasGrown old new → (env : List (ℕ × Object)) (ts : Exps) (left : ℕ) (g : Given) → AreGiven ds functions old env ts left g → AreGiven ds functions new env ts left g
+  given_grown old new h env ts left g a =
+      let v = value_grown old new h g.first a.first_live in
+      let u = value_grown old new h g.second a.second_live in
+      let w = value_grown old new h g.third a.third_live in
+      record { values = a.values; first_live = v.0; second_live = u.0; third_live = w.0; first = a.first ∙ sym v.1; second = a.second ∙ sym u.1; third = a.third ∙ sym w.1; fewer = a.fewer; give = a.give }
+
+  module _ (env : List (ℕ × Object)) where
+    abbrev S : Exp → List Object → Type 0
+    S = Sees ds functions env
+
+    abbrev All : Exps → List Object → Type 0
+    All = SeeAll ds functions env
+
+    abbrev Tell : Exp → ℕ → Held → Held → Alists → Result Found Stop → Type 0
+    Tell = Tells ds functions env
+
+    abbrev TellOf : Exps → ℕ → Held → Held → Alists → Result Given Stop → Type 0
+    TellOf = TellsAll ds functions env
+
+    pub tells_found : (t : Exp) (left : ℕ) (old new : Held) (tables : Alists) (f : Found) → Adds (S t) old new → Agree new.objects tables → IsFound ds functions new.objects env t left f → Tell t left old new tables (Ok f)
+    tells_found t left old new tables f a agree h = record { adds = a; agree = agree; found = h; lacks = λ e. absurd cc }
+
+    tells_refused : (t : Exp) (left : ℕ) (old new : Held) (tables : Alists) (answer : Result Found Stop) → IsErr answer → Adds (S t) old new → Agree new.objects tables → (IsErrOf answer stop.Full → Lacks (S t) new) → Tell t left old new tables answer
+    tells_refused t left old new tables (Ok f) h a agree l = absurd cc
+    tells_refused t left old new tables (Err s) h a agree l = record { adds = a; agree = agree; found = tt; lacks = l }
+
+    -- a last part, in an environment of its own, whose value is the whole's
+    tells_on : (t : Exp) (inner : List (ℕ × Object)) (u : Exp) (left rest : ℕ) (old mid new : Held) (tables : Alists) (answer : Result Found Stop) → Adds (S t) old mid → Covers (S t) (Sees ds functions inner u) → Tells ds functions inner u rest mid new tables answer
+        → ((f : Found) → IsFound ds functions new.objects inner u rest f → IsFound ds functions new.objects env t left f) → Tell t left old new tables answer
+    tells_on t inner u left rest old mid new tables answer a c h f = record {
+      agree = h.agree;
+      adds = adds_on (S t) old mid new a (adds_by (S t) (Sees ds functions inner u) mid new c h.adds);
+      found = ok_map (IsFound ds functions new.objects inner u rest) (IsFound ds functions new.objects env t left) answer f h.found;
+      lacks = λ e. lacks_by (S t) (Sees ds functions inner u) new c (h.lacks e);
+    }
+
+    -- ---- an `if`
+    covers_test : (t test a b : Exp) → t ≡ If test a b → Covers (S t) (S test)
+    covers_test t test a b e = subst (λ (u : Exp). Covers (S u) (S test)) (sym e) (if_sees_test ds functions env test a b)
+
+    pub test_refused : (t test a b : Exp) (left : ℕ) (old new : Held) (tables : Alists) (answer : Result Found Stop) → t ≡ If test a b → IsErr answer → Adds (S test) old new → Agree new.objects tables → (IsErrOf answer stop.Full → Lacks (S test) new) → Tell t left old new tables answer
+    test_refused t test a b left old new tables answer e h g agree l = tells_refused t left old new tables answer h (adds_by (S t) (S test) old new (covers_test t test a b e) g) agree (λ q. lacks_by (S t) (S test) new (covers_test t test a b e) (l q))
+
+    pub branch_tells : (t test a b : Exp) (left : ℕ) (old mid new : Held) (tables : Alists) (f : Found) (q : Bool) (answer : Result Found Stop) → (left ≡ 0 → ⊥) → t ≡ If test a b → Adds (S test) old mid → IsFound ds functions mid.objects env test (left - 1) f
+        → is_nil (value_object mid.objects f.value) ≡ q → Tell (cond q b a) f.left mid new tables answer → Tell t left old new tables answer
+    branch_tells t test a b left old mid new tables f q answer some e g first n h =
+        let x = value_object mid.objects f.value in
+        let covers : Covers (S (If test a b)) (S (cond q b a)) = λ seen s. subst (λ (r : Bool). SeesWithin ds functions env (cond r b a) seen) n (if_sees_branch ds functions env test a b x (left - 1 - f.left) first.gives seen s) in
+        let later = found_grown mid.objects new.objects h.adds.grown env test (left - 1) f first in
+        let same = ap is_nil (value_grown mid.objects new.objects h.adds.grown f.value first.live).1 ∙ n in
+        tells_on t env (cond q b a) left f.left old mid new tables answer (adds_by (S t) (S test) old mid (covers_test t test a b e) g) (subst (λ (u : Exp). Covers (S u) (S (cond q b a))) (sym e) covers) h
+        (λ y z. found_if ds functions new h.adds.whole env t test a b left f y q some e later same z)
+
+    -- ---- arguments
+    covers_first : (ts : Exps) (t : Exp) (us : Exps) → ts ≡ More t us → Covers (All ts) (S t)
+    covers_first ts t us e = subst (λ (vs : Exps). Covers (All vs) (S t)) (sym e) (first_seen ds functions env t us)
+
+    covers_second : (ts : Exps) (t u : Exp) (us : Exps) → ts ≡ More t (More u us) → Covers (All ts) (S u)
+    covers_second ts t u us e = subst (λ (vs : Exps). Covers (All vs) (S u)) (sym e) (λ seen s.
+        let p = rest_seen ds functions env t (More u us) seen s in
+        let q = first_seen ds functions env u us p.0 p.1.0 in (q.0, (q.1.0, λ x h. p.1.1 x (q.1.1 x h))))
+
+    given_refused : (ts : Exps) (left : ℕ) (old new : Held) (tables : Alists) (answer : Result Given Stop) → IsErr answer → Adds (All ts) old new → Agree new.objects tables → (IsErrOf answer stop.Full → Lacks (All ts) new) → TellOf ts left old new tables answer
+    given_refused ts left old new tables (Ok g) h a agree l = absurd cc
+    given_refused ts left old new tables (Err s) h a agree l = record { adds = a; agree = agree; given = tt; lacks = l }
+
+    covers_third : (ts : Exps) (t u v : Exp) (us : Exps) → ts ≡ More t (More u (More v us)) → Covers (All ts) (S v)
+    covers_third ts t u v us e = subst (λ (vs : Exps). Covers (All vs) (S v)) (sym e) (λ seen s.
+        let p = rest_seen ds functions env t (More u (More v us)) seen s in
+        let q = rest_seen ds functions env u (More v us) p.0 p.1.0 in
+        let r = first_seen ds functions env v us q.0 q.1.0 in (r.0, (r.1.0, λ x h. p.1.1 x (q.1.1 x (r.1.1 x h)))))
+
+    pub first_refused : (ts : Exps) (t : Exp) (us : Exps) (left : ℕ) (old new : Held) (tables : Alists) (answer : Result Given Stop) → ts ≡ More t us → IsErr answer → Adds (S t) old new → Agree new.objects tables → (IsErrOf answer stop.Full → Lacks (S t) new) → TellOf ts left old new tables answer
+    first_refused ts t us left old new tables answer e h g agree l = given_refused ts left old new tables answer h (adds_by (All ts) (S t) old new (covers_first ts t us e) g) agree (λ q. lacks_by (All ts) (S t) new (covers_first ts t us e) (l q))
+
+    both_add : (ts : Exps) (t u : Exp) (us : Exps) (old mid new : Held) → ts ≡ More t (More u us) → Adds (S t) old mid → Adds (S u) mid new → Adds (All ts) old new
+    both_add ts t u us old mid new e g h = adds_on (All ts) old mid new (adds_by (All ts) (S t) old mid (covers_first ts t (More u us) e) g) (adds_by (All ts) (S u) mid new (covers_second ts t u us e) h)
+
+    three_add : (ts : Exps) (t u v : Exp) (us : Exps) (old mid late new : Held) → ts ≡ More t (More u (More v us)) → Adds (S t) old mid → Adds (S u) mid late → Adds (S v) late new → Adds (All ts) old new
+    three_add ts t u v us old mid late new e g h k = adds_on (All ts) old late new (both_add ts t u (More v us) old mid late e g h) (adds_by (All ts) (S v) late new (covers_third ts t u v us e) k)
+
+    pub second_refused : (ts : Exps) (t u : Exp) (us : Exps) (left : ℕ) (old mid new : Held) (tables : Alists) (answer : Result Given Stop) → ts ≡ More t (More u us) → IsErr answer → Adds (S t) old mid → Adds (S u) mid new → Agree new.objects tables → (IsErrOf answer stop.Full → Lacks (S u) new) → TellOf ts left old new tables answer
+    second_refused ts t u us left old mid new tables answer e h g k agree l = given_refused ts left old new tables answer h (both_add ts t u us old mid new e g k) agree (λ q. lacks_by (All ts) (S u) new (covers_second ts t u us e) (l q))
+
+    pub third_refused : (ts : Exps) (t u v : Exp) (us : Exps) (left : ℕ) (old mid late new : Held) (tables : Alists) (answer : Result Given Stop) → ts ≡ More t (More u (More v us)) → IsErr answer → Adds (S t) old mid → Adds (S u) mid late → Adds (S v) late new → Agree new.objects tables
+        → (IsErrOf answer stop.Full → Lacks (S v) new) → TellOf ts left old new tables answer
+    third_refused ts t u v us left old mid late new tables answer e h g k m agree l = given_refused ts left old new tables answer h (three_add ts t u v us old mid late new e g k m) agree (λ q. lacks_by (All ts) (S v) new (covers_third ts t u v us e) (l q))
+
+    pub one_tells : (ts : Exps) (t : Exp) (left : ℕ) (old new : Held) (tables : Alists) (f : Found) (nothing : Value) → ts ≡ More t Last → value_object new.objects nothing ≡ nil → IsLiveValue new.objects nothing → Adds (S t) old new → Agree new.objects tables → IsFound ds functions new.objects env t left f
+        → TellOf ts left old new tables (Ok (record { first = f.value; second = nothing; third = nothing; left = f.left }))
+    one_tells ts t left old new tables f nothing e is live g agree h = record {
+      adds = adds_by (All ts) (S t) old new (covers_first ts t Last e) g;
+      agree = agree;
+      given = one_given ds functions new g.whole env ts t left f nothing e is live h;
+      lacks = λ q. absurd cc;
+    }
+
+    pub two_tell : (ts : Exps) (t u : Exp) (left : ℕ) (old mid new : Held) (tables : Alists) (f y : Found) (nothing : Value) → ts ≡ More t (More u Last) → value_object new.objects nothing ≡ nil → IsLiveValue new.objects nothing → Adds (S t) old mid → IsFound ds functions mid.objects env t left f → Adds (S u) mid new
+        → Agree new.objects tables → IsFound ds functions new.objects env u f.left y → TellOf ts left old new tables (Ok (record { first = f.value; second = y.value; third = nothing; left = y.left }))
+    two_tell ts t u left old mid new tables f y nothing e is live g h k agree z = record {
+      adds = both_add ts t u Last old mid new e g k;
+      agree = agree;
+      given = two_given ds functions new k.whole env ts t u left f y nothing e is live (found_grown mid.objects new.objects k.grown env t left f h) z;
+      lacks = λ q. absurd cc;
+    }
+
+    pub three_tell : (ts : Exps) (t u v : Exp) (left : ℕ) (old mid late new : Held) (tables : Alists) (f y z : Found) → ts ≡ More t (More u (More v Last)) → Adds (S t) old mid → IsFound ds functions mid.objects env t left f → Adds (S u) mid late → IsFound ds functions late.objects env u f.left y → Adds (S v) late new
+        → Agree new.objects tables → IsFound ds functions new.objects env v y.left z → TellOf ts left old new tables (Ok (record { first = f.value; second = y.value; third = z.value; left = z.left }))
+    three_tell ts t u v left old mid late new tables f y z e g h k m n agree o = record {
+      adds = three_add ts t u v Last old mid late new e g k n;
+      agree = agree;
+      given = three_given ds functions new n.whole env ts t u v left f y z e (found_grown late.objects new.objects n.grown env t left f (found_grown mid.objects late.objects k.grown env t left f h)) (found_grown late.objects new.objects n.grown env u f.left y m) o;
+      lacks = λ q. absurd cc;
+    }
+
+    -- ---- a primitive
+    covers_parts : (t : Exp) (p : _) (ts : Exps) → t ≡ Prim p ts → Covers (S t) (All ts)
+    covers_parts t p ts e = subst (λ (u : Exp). Covers (S u) (All ts)) (sym e) (prim_sees_parts ds functions env p ts)
+
+    pub parts_refused : (t : Exp) (p : _) (ts : Exps) (left : ℕ) (old new : Held) (tables : Alists) (answer : Result Found Stop) → t ≡ Prim p ts → IsErr answer → Adds (All ts) old new → Agree new.objects tables → (IsErrOf answer stop.Full → Lacks (All ts) new) → Tell t left old new tables answer
+    parts_refused t p ts left old new tables answer e h g agree l = tells_refused t left old new tables answer h (adds_by (S t) (All ts) old new (covers_parts t p ts e) g) agree (λ q. lacks_by (S t) (All ts) new (covers_parts t p ts e) (l q))
+
+    module _ (t : Exp) (p : _) (ts : Exps) (left : ℕ) (old mid new : Held) (tables : Alists) (agree : Agree new.objects tables) (g : Given) (value : Result Value Stop) (e : t ≡ Prim p ts) (adds : Adds (All ts) old mid) (given : AreGiven ds functions mid.objects env ts (left - 1) g)
+        (applies : Applies (prim_of p (value_object mid.objects g.first) (value_object mid.objects g.second)) mid new value) where
+      abbrev the_value : Object
+      the_value = prim_of p (value_object mid.objects g.first) (value_object mid.objects g.second)
+
+      seen_value : (seen : List Object) → S t seen → IsIn seen the_value
+      seen_value = subst (λ (u : Exp). (seen : List Object) → S u seen → IsIn seen the_value) (sym e) (λ seen s.
+          subst (IsIn seen) (λ i. prim_of p (given.first i) (given.second i)) (prim_value_seen ds functions env p ts given.values (left - 1 - g.left) given.give seen s))
+
+      value_adds : Adds (S t) old new
+      value_adds = adds_on (S t) old mid new (adds_by (S t) (All ts) old mid (covers_parts t p ts e) adds) (adds_cells (S t) the_value mid new seen_value applies.objects applies.limit applies.whole)
+
+      pub value_refused : (answer : Result Found Stop) → IsErr answer → (IsErrOf answer stop.Full → IsErrOf value stop.Full) → Tell t left old new tables answer
+      value_refused answer h l = tells_refused t left old new tables answer h value_adds agree (λ q. lacks_cell (S t) the_value new seen_value (applies.lacks (l q)))
+
+      pub value_tells : (v : Value) → value ≡ Ok v → (left ≡ 0 → ⊥) → Tell t left old new tables (Ok (record { value = v; left = g.left }))
+      value_tells v q some =
+          let is = subst (λ (r : Result Value Stop). IfOk r (λ u. IsLiveValue new.objects u × (value_object new.objects u ≡ the_value))) q applies.value in
+          let later = given_grown mid.objects new.objects (applies.objects.made, applies.objects.is) env ts (left - 1) g given in
+          let first = (value_grown mid.objects new.objects (applies.objects.made, applies.objects.is) g.first given.first_live).1 in
+          let second = (value_grown mid.objects new.objects (applies.objects.made, applies.objects.is) g.second given.second_live).1 in
+          tells_found t left old new tables (record { value = v; left = g.left }) value_adds agree
+          (found_prim ds functions new applies.whole env t p ts left g v some e later is.0 (is.1 ∙ (λ i. prim_of p (sym first i) (sym second i))))
+
+    -- ---- a call
+    covers_arguments : (t : Exp) (f : ℕ) (ts : Exps) → t ≡ Call f ts → Covers (S t) (All ts)
+    covers_arguments t f ts e = subst (λ (u : Exp). Covers (S u) (All ts)) (sym e) (call_sees_parts ds functions env f ts)
+
+    pub call_refused : (t : Exp) (f : ℕ) (ts : Exps) (left : ℕ) (old new : Held) (tables : Alists) (answer : Result Found Stop) → t ≡ Call f ts → IsErr answer → Adds (All ts) old new → Agree new.objects tables → (IsErrOf answer stop.Full → Lacks (All ts) new) → Tell t left old new tables answer
+    call_refused t f ts left old new tables answer e h g agree l = tells_refused t left old new tables answer h (adds_by (S t) (All ts) old new (covers_arguments t f ts e) g) agree (λ q. lacks_by (S t) (All ts) new (covers_arguments t f ts e) (l q))
+
+    pub call_tells : (t : Exp) (f : ℕ) (ts : Exps) (d : Definition) (left : ℕ) (old mid new : Held) (tables : Alists) (g : Given) (inner : List (ℕ × Object)) (answer : Result Found Stop) → (left ≡ 0 → ⊥) → t ≡ Call f ts → OpensAtOnce ds functions f → slice_get ds f ≡ Some d → Adds (All ts) old mid
+        → (given : AreGiven ds functions mid.objects env ts (left - 1) g) → inner ≡ extended d.formals given.values [] → Tells ds functions inner d.body g.left mid new tables answer → Tell t left old new tables answer
+    unfolding given_grown
+    call_tells t f ts d left old mid new tables g inner answer some e o s a given n h =
+        let covers : Covers (S (Call f ts)) (Sees ds functions inner d.body) = λ seen z. subst (λ (i : List (ℕ × Object)). SeesWithin ds functions i d.body seen) (sym n) (call_sees_body ds functions env f ts d given.values (left - 1 - g.left) given.give o s seen z) in
+        let later = given_grown mid.objects new.objects h.adds.grown env ts (left - 1) g given in
+        tells_on t inner d.body left g.left old mid new tables answer (adds_by (S t) (All ts) old mid (covers_arguments t f ts e) a) (subst (λ (u : Exp). Covers (S u) (Sees ds functions inner d.body)) (sym e) covers) h
+        (λ y z. found_call ds functions new h.adds.whole env t f ts d left g inner y some e o s later n z)
+
+    -- ---- a call that tables answer
+    module _ (ground : AreGround ds) (f : ℕ) (ts : Exps) (left : ℕ) (old mid : Held) (g : Given) (table : is_among (answered_in ds) f ≡ true) (adds : Adds (All ts) old mid) (given : AreGiven ds functions mid.objects env ts left g) where
+      abbrev pub the_answer : Object
+      the_answer = table_value f (value_object mid.objects g.first) (value_object mid.objects g.second) (value_object mid.objects g.third)
+
+      is_call_value : IsCallValue ds f given.values the_answer
+      is_call_value = subst (IsCallValue ds f given.values) (λ i. table_value f (given.first i) (given.second i) (given.third i)) (tables_are_right ds ground f table given.values)
+
+      answer_seen : (seen : List Object) → S (Call f ts) seen → IsIn seen the_answer
+      answer_seen seen s =
+          let k = shut_seen ds functions env f ts given.values the_answer (left - g.left) s.depth s.kept s.walk table given.give is_call_value s.walks in
+          subst (λ (zs : List Object). IsIn zs the_answer) (sym k.1 ∙ s.sight) (in_behind k.0 (the_answer ∷ []) the_answer (0, refl))
+
+      seen_or_nil : (seen : List Object) → S (Call f ts) seen → (k : ℕ) → IsSeenOrNil seen (get_or given.values k nil)
+      seen_or_nil seen s k = elim (get_or_in given.values k) [
+        | inl i ↦
+            let p = call_sees_parts ds functions env f ts seen s in
+            inl (p.1.1 (get_or given.values k nil) (arguments_seen ds functions env ts given.values (left - g.left) given.give p.0 p.1.0 (get_or given.values k nil) i))
+        | inr e ↦ inr e
+      ]
+
+      covers_three : Covers (S (Call f ts)) (SeesThree mid.objects g)
+      covers_three seen s = (seen, ((subst (IsSeenOrNil seen) given.first (seen_or_nil seen s 0), (subst (IsSeenOrNil seen) given.second (seen_or_nil seen s 1), subst (IsSeenOrNil seen) given.third (seen_or_nil seen s 2))), λ x h. h))
+
+      module _ (late : Held) (entered : Adds (SeesThree mid.objects g) mid late) where
+        entered_adds : Adds (S (Call f ts)) old late
+        entered_adds = adds_on (S (Call f ts)) old mid late (adds_by (S (Call f ts)) (All ts) old mid (covers_arguments (Call f ts) f ts refl) adds) (adds_by (S (Call f ts)) (SeesThree mid.objects g) mid late covers_three entered)
+
+        pub entering_refused : (tables : Alists) → Agree late.objects tables → Tell (Call f ts) (left + 1) old late tables (Err stop.Beyond)
+        entering_refused tables agree = record { adds = entered_adds; agree = agree; found = tt; lacks = λ e. absurd cc }
+
+        module _ (new : Held) (made : AddsCellsOf the_answer late.objects new.objects) (limit : new.limit ≡ late.limit) (whole : IsWhole new) (tables : Alists) (agree : Agree new.objects tables) where
+          answered_adds : Adds (S (Call f ts)) old new
+          answered_adds = adds_on (S (Call f ts)) old late new entered_adds (adds_cells (S (Call f ts)) the_answer late new answer_seen made limit whole)
+
+          pub answering_refused : (s : Stop) → (s ≡ stop.Full → ⊥) → Tell (Call f ts) (left + 1) old new tables (Err s)
+          answering_refused s h = record { adds = answered_adds; agree = agree; found = tt; lacks = λ e. absurd (h (err_is s e)) } where
+            err_is : (s : Stop) → IsErrOf {T = Found} (Err s) stop.Full → s ≡ stop.Full
+            err_is s e = cc
+
+          pub answered_tells : (id : Id) → IsIdOf new.objects the_answer id → Tell (Call f ts) (left + 1) old new tables (Ok (record { value = value.Held id; left = g.left }))
+          answered_tells id is = tells_found (Call f ts) (left + 1) old new tables (record { value = value.Held id; left = g.left }) answered_adds agree (record {
+            live = is.0;
+            fewer = omega (arith, given.fewer);
+            gives = subst (λ (z : Object). GivesAtOnce ds functions env (Call f ts) z (left + 1 - g.left)) (sym is.1) (subst (GivesAtOnce ds functions env (Call f ts) the_answer) (omega (arith, given.fewer))
+                (shut_gives ds functions env f ts given.values the_answer (left - g.left) table given.give is_call_value (subst IsNarrow is.1 (whole_narrow new whole id is.0))));
+          })

@@ -1,0 +1,60 @@
+-- What an attempt at evaluating a term at once tells.
+use Rattle.std.specs.Prelude.{◌≡◌, ℕ, List, Result, IfOk, IsErrOf, ◌⊎◌}
+use Rattle.gl_logic.specs.Definition.{Definition}
+use Rattle.gl_logic.specs.Exp.{Exp, Exps}
+use Rattle.gl_logic.specs.Object.{Object, nil}
+use Rattle.fast_alists.specs.Tables.{Agree}
+use Rattle.hons_arena.specs.declared.id.Full.{Full}
+use Rattle.hons_arena.specs.declared.id.Id.{Id}
+use Rattle.hons_arena.specs.Held.{Held, AddsCellsOf, IsWhole, LacksCell}
+use Rattle.hons_arena.specs.Ids.{IsIdOf}
+use Rattle.lisp_eval.specs.Directs.{IsFound, AreGiven}
+use Rattle.lisp_eval.specs.Outside.{value_object, IsLiveValue}
+use Rattle.lisp_eval.specs.Sights.{Sees, SeeAll, Adds, Lacks}
+use Rattle.lisp_eval.specs.declared.direct.Found.{Found}
+use Rattle.lisp_eval.specs.declared.direct.Given.{Given}
+use Rattle.lisp_eval.specs.Within.{IsIn}
+use Rattle.lisp_eval.specs.declared.direct.Ids.{Ids}
+use Rattle.lisp_eval.specs.declared.direct.Stop.{Stop}
+use Rattle.lisp_eval.specs.declared.direct.Stop.TheVariants as stop
+use Rattle.lisp_eval.specs.declared.value.Value.{Value}
+
+-- lists with their tables
+abbrev pub Alists : Type 0
+Alists = List (Id × List (Id × Id))
+
+module _ (definitions : List Definition) (functions : List ℕ) where
+  -- what is found of the term is so in the arena that has grown, with which the tables agree; Full only where some value
+  -- that it sees lacks a cell
+  pub record Tells (env : List (ℕ × Object)) (t : Exp) (left : ℕ) (old new : Held) (tables : Alists) (answer : Result Found Stop) : Type 0 where
+    pub adds : Adds (Sees definitions functions env t) old new
+    pub agree : Agree new.objects tables
+    pub found : IfOk answer (IsFound definitions functions new.objects env t left)
+    pub lacks : IsErrOf answer stop.Full → Lacks (Sees definitions functions env t) new
+
+  -- the same of one to three terms
+  pub record TellsAll (env : List (ℕ × Object)) (ts : Exps) (left : ℕ) (old new : Held) (tables : Alists) (answer : Result Given Stop) : Type 0 where
+    pub adds : Adds (SeeAll definitions functions env ts) old new
+    pub agree : Agree new.objects tables
+    pub given : IfOk answer (AreGiven definitions functions new.objects env ts left)
+    pub lacks : IsErrOf answer stop.Full → Lacks (SeeAll definitions functions env ts) new
+
+-- the answer is a value of this object, of which cells alone were added; Full only where one of them is lacking
+pub record Applies (object : Object) (old new : Held) (answer : Result Value Stop) : Type 0 where
+  pub value : IfOk answer (λ v. IsLiveValue new.objects v × (value_object new.objects v ≡ object))
+  pub objects : AddsCellsOf object old.objects new.objects
+  pub limit : new.limit ≡ old.limit
+  pub whole : IsWhole new
+  pub lacks : IsErrOf answer stop.Full → LacksCell new object
+
+-- ---- of a call that tables answer
+abbrev pub IsSeenOrNil : List Object → Object → Type 0
+IsSeenOrNil seen x = IsIn seen x ⊎ (x ≡ nil)
+
+abbrev pub SeesThree : List Object → Given → List Object → Type 0
+SeesThree objects g seen = IsSeenOrNil seen (value_object objects g.first) × (IsSeenOrNil seen (value_object objects g.second) × IsSeenOrNil seen (value_object objects g.third))
+
+-- the ids of the three, of which cells alone were added
+pub record EntersThree (g : Given) (old new : Held) (answer : Result Ids Full) : Type 0 where
+  pub adds : Adds (SeesThree old.objects g) old new
+  pub ids : IfOk answer (λ i. IsIdOf new.objects (value_object old.objects g.first) i.first × (IsIdOf new.objects (value_object old.objects g.second) i.second × IsIdOf new.objects (value_object old.objects g.third) i.third))
