@@ -54,6 +54,18 @@ sum_of_more p unit none [] h = absurd (omega (arith, h))
 sum_of_more p unit none (a ∷ []) h = absurd (omega (arith, h))
 sum_of_more p unit none (a ∷ b ∷ ms) h = refl
 
+-- ---- one or two alone
+pub means_one : (s : Setting) (xs : List Object) (a : Object) → 1 ≤ length xs → length xs ≤ 1 → a ≡ get_or xs 0 a → means_of s xs ≡ meaning s a ∷ []
+means_one s [] a l m e = absurd (omega (arith, l))
+means_one s (x ∷ []) a l m e = ap (λ (z : Object). meaning s z ∷ []) (sym e)
+means_one s (x ∷ y ∷ xs) a l m e = absurd (omega (arith, m))
+
+pub means_two : (s : Setting) (xs : List Object) (b a : Object) → 2 ≤ length xs → length xs ≤ 2 → b ≡ get_or xs 0 b → a ≡ get_or xs 1 a → means_of s xs ≡ meaning s a ∷ meaning s b ∷ []
+means_two s [] b a l m e f = absurd (omega (arith, l))
+means_two s (x ∷ []) b a l m e f = absurd (omega (arith, l))
+means_two s (x ∷ y ∷ []) b a l m e f = ap (λ (z : Object). meaning s z ∷ meaning s x ∷ []) (sym f) ∙ ap (λ (z : Object). meaning s a ∷ meaning s z ∷ []) (sym e)
+means_two s (x ∷ y ∷ z ∷ xs) b a l m e f = absurd (omega (arith, m))
+
 pub takes_at : {m n : Meaning} (s : Setting) (r : Result Step TermFault) → m ≡ n → Takes s m r → Takes s n r
 takes_at s r e h = subst (λ (x : Meaning). Takes s x r) e h
 

@@ -8,7 +8,7 @@ ghost use Rattle.gl_translate.specs.Steps.{Takes, IsBelow, means_of};
 
 use super::fault::TermFault;
 use super::form::{Form, Step};
-use super::steps::{one, two};
+use super::steps::{binary, unary};
 use gl_logic::{Prim, Tree};
 use std::alloc::Global;
 
@@ -18,10 +18,10 @@ pub(crate) fn minus_step(alloc: Global, forms: &[Tree]) -> Result<Step<'_>, Term
     ensures below { (n : ℕ) → IfOk result (IsBelow n) }
 {
     match forms {
-        [a] => Ok(Step::Prim(Prim::UnaryMinus, one(alloc, Form::Book(a))?)),
+        [a] => unary(alloc, Prim::UnaryMinus, Form::Book(a)),
         [b, a] => {
             let less = Form::Unary(Prim::UnaryMinus, b);
-            Ok(Step::Prim(Prim::BinaryPlus, two(alloc, Form::Book(a), less)?))
+            binary(alloc, Prim::BinaryPlus, Form::Book(a), less)
         }
         _ => Err(TermFault::WrongCount),
     }
@@ -33,10 +33,7 @@ pub(crate) fn one_more_step(alloc: Global, forms: &[Tree]) -> Result<Step<'_>, T
     ensures below { (n : ℕ) → IfOk result (IsBelow n) }
 {
     match forms {
-        [a] => {
-            let both = two(alloc, Form::Number(1), Form::Book(a))?;
-            Ok(Step::Prim(Prim::BinaryPlus, both))
-        }
+        [a] => binary(alloc, Prim::BinaryPlus, Form::Number(1), Form::Book(a)),
         _ => Err(TermFault::WrongCount),
     }
 }
@@ -47,10 +44,7 @@ pub(crate) fn one_less_step(alloc: Global, forms: &[Tree]) -> Result<Step<'_>, T
     ensures below { (n : ℕ) → IfOk result (IsBelow n) }
 {
     match forms {
-        [a] => {
-            let both = two(alloc, Form::Book(a), Form::LessOne)?;
-            Ok(Step::Prim(Prim::BinaryPlus, both))
-        }
+        [a] => binary(alloc, Prim::BinaryPlus, Form::Book(a), Form::LessOne),
         _ => Err(TermFault::WrongCount),
     }
 }
@@ -61,10 +55,7 @@ pub(crate) fn at_most_step(alloc: Global, forms: &[Tree]) -> Result<Step<'_>, Te
     ensures below { (n : ℕ) → IfOk result (IsBelow n) }
 {
     match forms {
-        [b, a] => {
-            let test = Form::Binary(Prim::Less, b, a);
-            Ok(Step::Prim(Prim::Not, one(alloc, test)?))
-        }
+        [b, a] => unary(alloc, Prim::Not, Form::Binary(Prim::Less, b, a)),
         _ => Err(TermFault::WrongCount),
     }
 }
@@ -75,10 +66,7 @@ pub(crate) fn above_step(alloc: Global, forms: &[Tree]) -> Result<Step<'_>, Term
     ensures below { (n : ℕ) → IfOk result (IsBelow n) }
 {
     match forms {
-        [b, a] => {
-            let both = two(alloc, Form::Book(b), Form::Book(a))?;
-            Ok(Step::Prim(Prim::Less, both))
-        }
+        [b, a] => binary(alloc, Prim::Less, Form::Book(b), Form::Book(a)),
         _ => Err(TermFault::WrongCount),
     }
 }
@@ -89,10 +77,7 @@ pub(crate) fn at_least_step(alloc: Global, forms: &[Tree]) -> Result<Step<'_>, T
     ensures below { (n : ℕ) → IfOk result (IsBelow n) }
 {
     match forms {
-        [b, a] => {
-            let test = Form::Binary(Prim::Less, a, b);
-            Ok(Step::Prim(Prim::Not, one(alloc, test)?))
-        }
+        [b, a] => unary(alloc, Prim::Not, Form::Binary(Prim::Less, a, b)),
         _ => Err(TermFault::WrongCount),
     }
 }
@@ -103,10 +88,7 @@ pub(crate) fn unequal_step(alloc: Global, forms: &[Tree]) -> Result<Step<'_>, Te
     ensures below { (n : ℕ) → IfOk result (IsBelow n) }
 {
     match forms {
-        [b, a] => {
-            let test = Form::Binary(Prim::Equal, a, b);
-            Ok(Step::Prim(Prim::Not, one(alloc, test)?))
-        }
+        [b, a] => unary(alloc, Prim::Not, Form::Binary(Prim::Equal, a, b)),
         _ => Err(TermFault::WrongCount),
     }
 }

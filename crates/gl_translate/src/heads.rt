@@ -247,14 +247,11 @@ impl Context<'_> {
             Form::Test(key) => self.test_step(key),
             Form::Bindings(bindings, body) => self.bindings_step(bindings, body),
             Form::Path(letters, form) => steps::path_step(self.alloc, letters, form),
-            Form::Unary(prim, a) => { Ok(Step::Prim(prim, steps::one(self.alloc, Form::Book(a))?)) }
+            Form::Unary(prim, a) => steps::unary(self.alloc, prim, Form::Book(a)),
             Form::Binary(prim, a, b) => {
-                let both = steps::two(self.alloc, Form::Book(a), Form::Book(b))?;
-                Ok(Step::Prim(prim, both))
+                steps::binary(self.alloc, prim, Form::Book(a), Form::Book(b))
             }
-            Form::LessOne => {
-                Ok(Step::Prim(Prim::UnaryMinus, steps::one(self.alloc, Form::Number(1))?))
-            }
+            Form::LessOne => steps::unary(self.alloc, Prim::UnaryMinus, Form::Number(1)),
         }
     }
 }

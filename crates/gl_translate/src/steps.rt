@@ -8,7 +8,7 @@ ghost use Rattle.gl_logic.specs.declared.prim.Primitive.TheVariants as prim;
 ghost use Rattle.gl_translate.specs.declared.fault.TermFault.TheVariants as term_fault;
 ghost use Rattle.gl_translate.specs.Setting.{Setting};
 ghost use Rattle.gl_translate.specs.Meaning.{prim_call, literal, fault};
-ghost use Rattle.gl_translate.specs.Macros.{and_form, or_form, list_form, path_form, of_one, the_form, sum_form, nested_or, prim2, elements as elements_in};
+ghost use Rattle.gl_translate.specs.Macros.{and_form, or_form, list_form, path_form, of_one, the_form, sum_form, nested_or, prim1, prim2, elements as elements_in};
 ghost use Rattle.gl_translate.specs.Translation.{meaning, meanings, bindings, parts, if_call, quote_call};
 ghost use Rattle.gl_translate.specs.Steps.{Takes, IsBelow, means_of, parts_of as parts_in, bindings_of, weight, form_means};
 
@@ -48,6 +48,27 @@ pub(crate) fn two<'f>(
     forms.push(first)?;
     forms.push(second)?;
     Ok(forms)
+}
+
+/// A primitive of one part.
+pub(crate) fn unary<'f>(alloc: Global, prim: Prim, part: Form<'f>) -> Result<Step<'f>, TermFault>
+    ensures takes { (s : Setting) → Takes s (prim1 prim (form_means s part.entry)) result }
+    ensures below { (n : ℕ) → IfOk result (IsBelow n) }
+{
+    Ok(Step::Prim(prim, one(alloc, part)?))
+}
+
+/// A primitive of two parts.
+pub(crate) fn binary<'f>(
+    alloc: Global,
+    prim: Prim,
+    first: Form<'f>,
+    second: Form<'f>,
+) -> Result<Step<'f>, TermFault>
+    ensures takes { (s : Setting) → Takes s (prim2 prim (form_means s first.entry) (form_means s second.entry)) result }
+    ensures below { (n : ℕ) → IfOk result (IsBelow n) }
+{
+    Ok(Step::Prim(prim, two(alloc, first, second)?))
 }
 
 /// Forms of the book, which stand from the last to the first, from the first to the last.

@@ -1,7 +1,7 @@
-use Rattle.std.proofs.Common.{◌≡◌, ◌∙◌, ap, sym, subst, rules, arith, ◌+◌, ◌++◌, ◌∷◌, [], List, map, drop, length}
+use Rattle.std.proofs.Common.{◌≡◌, ◌∙◌, ap, sym, refl, subst, rules, arith, ◌+◌, ◌++◌, ◌∷◌, [], List, map, drop, length}
 use Rattle.std.specs.Prelude.{Ok}
 use Rattle.std.proofs.lemmas.List.{map-append}
-use Rattle.gl_logic.specs.Exp.{Exp, Let}
+use Rattle.gl_logic.specs.Exp.{Exp, If, Let}
 use Rattle.gl_logic.specs.TermOf.{term_of, terms_of, exps_of}
 use Rattle.gl_translate.specs.Meaning.{every_part}
 use Rattle.gl_translate.specs.Translation.{are_in}
@@ -9,9 +9,26 @@ use Rattle.gl_translate.specs.Steps.{form_means, step_inside}
 use Rattle.gl_translate.specs.Answers.{subterms_of}
 use Rattle.gl_translate.specs.Contexts.{setting_in}
 use Rattle.gl_translate.proofs.Deep.{form_deep}
-use Rattle.gl_translate.proofs.Outcomes.{gives_at, at_step, to_come, part_done, let_second, also_in}
+use Rattle.gl_translate.proofs.Outcomes.{gives_at, at_step, to_come, part_done, if_third, let_second, also_in}
 use Rattle.gl_translate.proofs.Counts.{subterms_push}
 use Rattle.gl_translate.proofs.context.Context.+translate.Goals as goal
+
+pub conditional-returns-clause-meant : goal.conditional-returns-clause-meant
+conditional-returns-clause-meant t c =
+    let s = setting_in c.args.self.now in
+    if_third (form_means s c.args.a) (form_means s c.args.b) (form_means s c.args.c) c.args.walk.now.bound _ _ c.args.around
+    (term_of c.in_ok-test.test) (term_of c.in_ok-then.then) (Ok (term_of c.in_ok-otherwise.otherwise))
+    c.in_ok-test.ensures.meant c.in_ok-test.ensures.bound c.in_ok-then.ensures.meant c.in_ok-then.ensures.bound c.in_ok-otherwise.ensures.meant
+    ∙ ap Ok (sym c.in_ok-if_term.ensures)
+
+pub either-returns-clause-meant : goal.either-returns-clause-meant
+either-returns-clause-meant t c =
+    let s = setting_in c.args.self.now in
+    let x = term_of c.in_ok-test.test in
+    let z = term_of c.in_ok-otherwise.otherwise in
+    if_third (form_means s c.args.a) (form_means s c.args.a) (form_means s c.args.b) c.args.walk.now.bound c.args.walk.now.bound c.count.new.self.bound c.args.around
+    x x (Ok z) c.in_ok-test.ensures.meant refl c.in_ok-test.ensures.meant (c.count.ensures.bound ∙ c.in_ok-test.ensures.bound) c.in_ok-otherwise.ensures.meant
+    ∙ ap Ok (ap (λ (y : Exp). If x y z) (sym c.in_ok-then.ensures) ∙ sym c.in_ok-if_term.ensures)
 
 pub binding-returns-clause-meant : goal.binding-returns-clause-meant
 binding-returns-clause-meant t c =
