@@ -1,5 +1,5 @@
 -- What stands from the last to the first, one more at a time.
-use Rattle.std.proofs.Common.{◌≡◌, ◌∙◌, ap, sym, subst, refl, ℕ, zero, suc, ◌+◌, ◌-◌, ◌<◌, ◌≤◌, max, arith, take, get_or, ℤ, List, [], ◌∷◌, ◌++◌, map, reverse, Option, Some, None, length}
+use Rattle.std.proofs.Common.{◌≡◌, ◌∙◌, ap, sym, subst, refl, ℕ, zero, suc, ◌+◌, ◌-◌, ◌<◌, ◌≤◌, max, arith, take, get_or, ℤ, List, [], ◌∷◌, ◌++◌, map, reverse, Option, Some, None, length, append_assoc}
 use Rattle.std.specs.Option.{option_map}
 use Rattle.std.specs.Prelude.{Result, Ok, Err, ◌≢◌}
 use Rattle.std.proofs.lemmas.List.{reverse-append, take_all, take_more, length-map, length-reverse}
@@ -12,7 +12,7 @@ use Rattle.gl_translate.specs.declared.form.Step.{Step}
 use Rattle.gl_translate.specs.Setting.{Setting}
 use Rattle.gl_translate.specs.Meaning.{Meaning}
 use Rattle.gl_translate.specs.Parts.{Part, Binding, all_means}
-use Rattle.gl_translate.specs.Macros.{elements, nested_or, sum_form, prim2}
+use Rattle.gl_translate.specs.Macros.{elements, nested_or, sum_form, prim2, joined, bound_by, all_bound}
 use Rattle.gl_translate.specs.Translation.{meaning, meanings, bindings, parts}
 use Rattle.gl_translate.specs.Steps.{part_of, parts_of, means_of, binding_of, bindings_of, Takes, weight}
 
@@ -53,6 +53,29 @@ pub sum_of_more : (p : Primitive) (unit : ℤ) (none : Meaning) (ms : List Meani
 sum_of_more p unit none [] h = absurd (omega (arith, h))
 sum_of_more p unit none (a ∷ []) h = absurd (omega (arith, h))
 sum_of_more p unit none (a ∷ b ∷ ms) h = refl
+
+-- ---- what is taken from bindings, one more at a time
+pushed_on : {A B : Type 0} (g : B → A) (done : List A) (e : B) (o : Option (List B)) → option_map (λ bs. done ++ map g bs) (joined (λ p ps. Some (p ∷ ps)) (Some e) o) ≡ option_map (λ bs. (done ++ g e ∷ []) ++ map g bs) o
+pushed_on g done e None = refl
+pushed_on g done e (Some bs) = ap Some (sym (append_assoc done (g e ∷ []) (map g bs)))
+
+module _ (s : Setting) (xs : List Object) (x : Object) (left : ℕ) (e : ℕ × Meaning) (inside : left - 1 < length xs) (some : 0 < left) (at : x ≡ get_or xs (left - 1) x) (bound : Some e ≡ bound_by s x (meanings s x)) where
+  abbrev before : Option (List (ℕ × Meaning))
+  before = all_bound s (bindings_of s (take (left - 1) xs))
+
+  bound_next : all_bound s (bindings_of s (take left xs)) ≡ joined (λ p ps. Some (p ∷ ps)) (Some e) before
+  bound_next =
+      let k : left - 1 + 1 ≡ left = omega (arith, some) in
+      ap (λ (n : ℕ). all_bound s (bindings_of s (take n xs))) (sym k)
+      ∙ (ap (λ (ys : List Object). all_bound s (bindings_of s ys)) (take_more xs (left - 1) x inside ∙ ap (λ (y : Object). take (left - 1) xs ++ y ∷ []) (sym at))
+      ∙ (ap (all_bound s) (bindings_push s (take (left - 1) xs) x)
+      ∙ ap (λ o. joined (λ p ps. Some (p ∷ ps)) o before) (sym bound)))
+
+  pub taken_next : {A : Type 0} (g : ℕ × Meaning → A) (done new : List A) (whole : Option (List A)) → new ≡ done ++ g e ∷ [] → option_map (λ bs. done ++ map g bs) (all_bound s (bindings_of s (take left xs))) ≡ whole → option_map (λ bs. new ++ map g bs) before ≡ whole
+  taken_next g done new whole n h =
+      ap (λ ys. option_map (λ bs. ys ++ map g bs) before) n
+      ∙ (sym (pushed_on g done e before)
+      ∙ (ap (option_map (λ bs. done ++ map g bs)) (sym bound_next) ∙ h))
 
 -- ---- one or two alone
 pub means_one : (s : Setting) (xs : List Object) (a : Object) → 1 ≤ length xs → length xs ≤ 1 → a ≡ get_or xs 0 a → means_of s xs ≡ meaning s a ∷ []
