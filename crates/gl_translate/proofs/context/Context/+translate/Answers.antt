@@ -6,10 +6,10 @@ use Rattle.gl_logic.specs.TermOf.{term_of, terms_of, exps_of}
 use Rattle.gl_translate.specs.Meaning.{every_part}
 use Rattle.gl_translate.specs.Translation.{are_in}
 use Rattle.gl_translate.specs.Steps.{form_means, step_inside}
-use Rattle.gl_translate.specs.Answers.{subterms_of}
+use Rattle.gl_translate.specs.Answers.{subterms, subterms_of}
 use Rattle.gl_translate.specs.Contexts.{setting_in}
 use Rattle.gl_translate.proofs.Deep.{form_deep}
-use Rattle.gl_translate.proofs.Outcomes.{gives_at, at_step, to_come, part_done, if_third, let_second, also_in}
+use Rattle.gl_translate.proofs.Outcomes.{gives_at, at_step, to_come, part_done, all_done, if_third, let_second, also_in}
 use Rattle.gl_translate.proofs.Counts.{subterms_push}
 use Rattle.gl_translate.proofs.context.Context.+translate.Goals as goal
 
@@ -65,3 +65,22 @@ terms-loop-form-preserved t c =
           ∙ (sym (part_done s fs i c.form-item.result (are_in v) c.args.around done c.loop-form-test.true c.form-item.is (term_of x) (ap (λ (w : List _). form_means s c.form-item.result (are_in w) c.args.around) (sym c.loop-form.invariant.bound) ∙ c.in_ok-term.ensures.meant))
           ∙ c.loop-form.invariant.comes);
     }
+
+pub terms-returns-clause-meant : goal.terms-returns-clause-meant
+terms-returns-clause-meant t c =
+    let s = setting_in c.args.self.now in
+    let v = c.args.walk.now.bound in
+    let same : c.args.forms.items ≡ c.deref-form-items.result.now = search (rules, c.deref-form-items.ensures.value) in
+    ap (λ (fs : List _). every_part (map (form_means s) fs) (are_in v) c.args.around) same
+    ∙ (sym c.loop-form.invariant.comes
+    ∙ all_done s c.deref-form-items.result.now c.loop-form.form-index (are_in v) c.args.around (map term_of c.loop-form.terms.items) (omega (arith, c.loop-form-test.false)))
+
+-- ---- how many subterms more there may be
+pub conditional-returns-clause-left : goal.conditional-returns-clause-left
+conditional-returns-clause-left t c = omega (arith, c.in_ok-test.ensures.left, c.in_ok-then.ensures.left, c.in_ok-otherwise.ensures.left, ap subterms c.in_ok-if_term.ensures)
+
+pub either-returns-clause-left : goal.either-returns-clause-left
+either-returns-clause-left t c = omega (arith, c.in_ok-test.ensures.left, c.in_ok-count.ensures.left, ap subterms c.in_ok-then.ensures, c.in_ok-otherwise.ensures.left, ap subterms c.in_ok-if_term.ensures)
+
+pub binding-returns-clause-left : goal.binding-returns-clause-left
+binding-returns-clause-left t c = omega (arith, c.in_ok-terms.ensures.left, c.bind.ensures.left, c.in_ok-body.ensures.left, ap subterms c.in_ok-let_term.ensures)
