@@ -9,7 +9,7 @@ const WORDS: &str = "--steps 50000 --cells 1000 --nodes 3000 --clauses 10 b";
 
 const BOOK: &str = "(in-package \"ACL2\")\n\
 (include-book \"centaur/gl/gl\" :dir :system)\n\
-(defun down (n) (if (zp n) 0 (down (- n 1))))\n\
+(defun down (n) (if (zp n) 0 (car (cons (down (- n 1)) n))))\n\
 (mutual-recursion (defun ev (n) (if (zp n) t (od (- n 1)))) (defun od (n) (if (zp n) nil (ev (- n 1)))))\n\
 (defun fib (n) (declare (xargs :measure (nfix n))) (if (zp n) 0 (if (equal n 1) 1 (+ (fib (- n 1)) (fib (- n 2))))))\n\
 (defconst *c* (+ 2 3))\n\
@@ -20,7 +20,7 @@ const BOOK: &str = "(in-package \"ACL2\")\n\
 (memoize 'fib)\n\
 (value-triple (fib 40))\n\
 (unmemoize 'fib)\n\
-(defun down (n) (if (zp n) 0 (down (- n 1))))\n\
+(defun down (n) (if (zp n) 0 (car (cons (down (- n 1)) n))))\n\
 (def-gl-thm proved :hyp (unsigned-byte-p 13 x) :concl (< x 8192) :g-bindings (auto-bindings (:nat x 13)))\n\
 (def-gl-thm vacuous :hyp (and (unsigned-byte-p 4 x) (< x 0)) :concl (equal x 77) :g-bindings (auto-bindings (:nat x 4)))\n\
 (def-gl-thm refuted :hyp (unsigned-byte-p 4 x) :concl (< x 15) :g-bindings (auto-bindings (:nat x 4)))\n\
