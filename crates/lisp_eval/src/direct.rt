@@ -1,4 +1,4 @@
-//! Terms that are evaluated at once: with no frame and no memory, and no cell but for a cons.
+//! Terms that are evaluated at once, with no frame; cells and memory go to conses and to what tables answer.
 
 ghost use Rattle.std.specs.Prelude.{◌≡◌, ◌+◌, ◌-◌, ◌<◌, List, IfOk, IfSome, IsErrOf, IsTrue, Some, length, slice_get};
 ghost use Rattle.fast_alists.specs.Tables.{Agree};
@@ -136,9 +136,9 @@ fn local_value(locals: &[Local], name: TextId) -> Value
 }
 
 /// The value of a term on the variables of a scope, and the visits that are left of so many; for a term of few levels that
-/// binds nothing, and opens no definitions but those that bind nothing and call nothing. Full only where a
-/// cons lacks a cell. Cells that were made stay, after a refusal too: each is of a value that the evaluation of the term
-/// speaks of.
+/// binds nothing, and opens no definitions but those that bind nothing and call nothing. Full only where a cons lacks a
+/// cell, Memory only where a table is refused it; where a table's answer lacks a cell, it is Beyond. Cells that were made
+/// stay, after a refusal too: each is of a value that the evaluation of the term speaks of.
 ///
 /// Each kind of compound term has a function of its own, so that a visit has a small frame.
 #[cycle(at_once)]
