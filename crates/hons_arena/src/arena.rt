@@ -20,7 +20,7 @@ use std::marker::Model;
 ///
 /// Contracts see the limit and the objects of the cells, in the order of their making. The cells lie in one
 /// vector beside a slot table, whose room is reserved at making: no later call takes memory. The table is small at
-/// first and doubles within its room when it is half full, so that making an arena takes no longer for a high limit.
+/// first and grows fourfold within its room when it is half full, so that making an arena takes no longer for a high limit.
 #[derive(Drop)]
 pub struct HonsArena {
     limit: u32,

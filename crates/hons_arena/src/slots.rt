@@ -1,4 +1,4 @@
-//! The slot table: small at first, it doubles within the room that was reserved for it.
+//! The slot table: small at first, it grows fourfold within the room that was reserved for it.
 
 ghost use Rattle.std.specs.Prelude.{◌≡◌, ◌+◌, ◌*◌, ◌<◌, ◌≤◌, length, replicate, vec_capacity};
 ghost use Rattle.hons_arena.specs.Table.{empty, most_slots, IsTable};
@@ -68,7 +68,7 @@ pub fn refill(cells: &[Cell], slots: &mut Vec<u32>, size: usize)
     }
 }
 
-/// Doubles a table that is half full, within so many slots.
+/// Makes a table that is half full four times as large, within so many slots.
 #[inline(always)]
 pub fn make_room(cells: &[Cell], slots: &mut Vec<u32>, most: usize)
     requires table { IsTable cells.now slots.old.items }
@@ -85,5 +85,5 @@ pub fn make_room(cells: &[Cell], slots: &mut Vec<u32>, most: usize)
     if cells.len() < slots.len() / 2 {
         return;
     }
-    refill(cells, slots, slots.len().saturating_mul(2).min(most));
+    refill(cells, slots, slots.len().saturating_mul(4).min(most));
 }

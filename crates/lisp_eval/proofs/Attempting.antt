@@ -11,8 +11,6 @@ use Rattle.gl_logic.specs.ObjectEq.{is_nil}
 use Rattle.gl_logic.specs.PrimValue.{prim_of}
 use Rattle.fast_alists.specs.Tables.{Agree}
 use Rattle.hons_arena.specs.Held.{Held, AddsCellsOf, IsWhole}
-use Rattle.hons_arena.specs.declared.id.Id.{Id}
-use Rattle.hons_arena.specs.Ids.{IsIdOf}
 use Rattle.lisp_eval.specs.Answers.{HasGrown}
 use Rattle.lisp_eval.specs.Attempts.{Alists, Tells, TellsAll, Applies, IsSeenOrNil, SeesThree}
 use Rattle.lisp_eval.specs.CallValue.{IsCallValue}
@@ -27,13 +25,11 @@ use Rattle.lisp_eval.specs.declared.direct.Given.{Given}
 use Rattle.lisp_eval.specs.declared.direct.Stop.{Stop}
 use Rattle.lisp_eval.specs.declared.direct.Stop.TheVariants as stop
 use Rattle.lisp_eval.specs.declared.value.Value.{Value}
-use Rattle.lisp_eval.specs.declared.value.Value.TheVariants as value
-use Rattle.lisp_eval.proofs.DirectFound.{found_if, one_given, two_given, three_given, found_prim, found_call}
+use Rattle.lisp_eval.proofs.DirectFound.{value_narrow, found_if, one_given, two_given, three_given, found_prim, found_call}
 use Rattle.lisp_eval.proofs.Directly.{shut_gives, shut_seen}
 use Rattle.lisp_eval.proofs.Entering.{value_grown}
 use Rattle.lisp_eval.proofs.Sights.{Covers, SeesWithin, adds_cells, adds_on, adds_by, lacks_by, lacks_cell, if_sees_test, if_sees_branch, prim_sees_parts, prim_value_seen, call_sees_parts, call_sees_body, first_seen, rest_seen, arguments_seen, in_behind}
 use Rattle.lisp_eval.proofs.TableValues.{tables_are_right}
-use Rattle.lisp_eval.proofs.WholeNarrow.{whole_narrow}
 
 get_or_in : (xs : List Object) (k : ℕ) → IsIn xs (get_or xs k nil) ⊎ (get_or xs k nil ≡ nil)
 get_or_in [] k = inr refl
@@ -256,10 +252,10 @@ module _ (ds : List Definition) (functions : List ℕ) where
             err_is : (s : Stop) → IsErrOf {T = Found} (Err s) stop.Full → s ≡ stop.Full
             err_is s e = cc
 
-          pub answered_tells : (id : Id) → IsIdOf new.objects the_answer id → Tell (Call f ts) (left + 1) old new tables (Ok (record { value = value.Held id; left = g.left }))
-          answered_tells id is = tells_found (Call f ts) (left + 1) old new tables (record { value = value.Held id; left = g.left }) answered_adds agree (record {
-            live = is.0;
+          pub answered_tells : (v : Value) → IsLiveValue new.objects v → value_object new.objects v ≡ the_answer → Tell (Call f ts) (left + 1) old new tables (Ok (record { value = v; left = g.left }))
+          answered_tells v live is = tells_found (Call f ts) (left + 1) old new tables (record { value = v; left = g.left }) answered_adds agree (record {
+            live = live;
             fewer = omega (arith, given.fewer);
-            gives = subst (λ (z : Object). GivesAtOnce ds functions env (Call f ts) z (left + 1 - g.left)) (sym is.1) (subst (GivesAtOnce ds functions env (Call f ts) the_answer) (omega (arith, given.fewer))
-                (shut_gives ds functions env f ts given.values the_answer (left - g.left) table given.give is_call_value (subst IsNarrow is.1 (whole_narrow new whole id is.0))));
+            gives = subst (λ (z : Object). GivesAtOnce ds functions env (Call f ts) z (left + 1 - g.left)) (sym is) (subst (GivesAtOnce ds functions env (Call f ts) the_answer) (omega (arith, given.fewer))
+                (shut_gives ds functions env f ts given.values the_answer (left - g.left) table given.give is_call_value (subst IsNarrow is (value_narrow new whole v live))));
           })

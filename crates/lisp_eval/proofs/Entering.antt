@@ -48,7 +48,9 @@ id_grown old new g id live = subst (λ (zs : List Object). Stays old zs id) (sym
 
 pub value_grown : (old new : List Object) → HasGrown old new → (v : Value) → IsLiveValue old v → IsLiveValue new v × (value_object new v ≡ value_object old v)
 value_grown old new g (value.Int i) live = (live, refl)
-value_grown old new g (value.Held id) live = id_grown old new g id live
+value_grown old new g (value.Cell n) live = id_grown old new g (record { kind = kind.Cell; number = n }) live
+value_grown old new g (value.Symbol t) live = (tt, refl)
+value_grown old new g (value.Text t) live = (tt, refl)
 
 pub locals_grown : (old new : List Object) → HasGrown old new → (locals : List Local) → Every (λ l. IsLiveValue old l.value) locals → Every (λ l. IsLiveValue new l.value) locals × (locals_of new locals ≡ locals_of old locals)
 locals_grown old new g [] live = (tt, refl)

@@ -5,7 +5,7 @@ ghost use Rattle.fast_alists.specs.Tables.{Agree};
 ghost use Rattle.gl_logic.specs.Counts.{is_among};
 ghost use Rattle.gl_logic.specs.Environment.{look};
 ghost use Rattle.gl_logic.specs.Exp.{Call};
-ghost use Rattle.gl_logic.specs.Object.{Object};
+ghost use Rattle.gl_logic.specs.Object.{Object, Int};
 ghost use Rattle.gl_logic.specs.PrimValue.{prim_of};
 ghost use Rattle.gl_logic.specs.TermOf.{term_of, terms_of};
 ghost use Rattle.hons_arena.specs.Held.{IsWhole};
@@ -15,10 +15,10 @@ ghost use Rattle.lisp_eval.specs.Outside.{value_object, local_in, IsLiveValue};
 ghost use Rattle.lisp_eval.specs.Tables.{answered_in};
 ghost use Rattle.lisp_eval.specs.declared.direct.Stop.TheVariants as stop;
 
-use crate::bindings::{NIL, look};
+use crate::bindings::look;
 use crate::calls::{is_answered, is_memoized};
 use crate::frame::Binding;
-use crate::primitives::{boolean, code, is_predicate, predicate};
+use crate::primitives::{code, is_predicate, predicate};
 use crate::tables::answer;
 use crate::value::{Local, Value, cons};
 use fast_alists::{AlistFault, FastAlists};
@@ -75,7 +75,7 @@ struct Ids {
 /// Why a term gives nothing at once.
 #[derive(Clone, Copy, Debug, PartialEq, Eq)]
 pub enum Stop {
-    /// It is not of those that are evaluated at once, or its value is an integer outside 128 bits, or too few visits are left.
+    /// It is not of those that are evaluated at once, or some integer is outside 64 bits, or too few visits are left.
     Beyond,
     /// There is no cell left.
     Full,
@@ -108,7 +108,7 @@ impl<T: Drop> From<AllocFailed<T>> for Stop {
 }
 
 /// NIL, which an argument that is not there is.
-const NOTHING: Value = Value::Held(NIL);
+const NOTHING: Value = Value::Symbol(TextId { number: 0 });
 
 impl<'a> Scope<'a> {
     /// The value of a variable, NIL where it has none.
@@ -117,7 +117,7 @@ impl<'a> Scope<'a> {
         ensures live { (objects : List Object) → IsLiveScope objects self.entry → IsLiveValue objects result }
     {
         match self {
-            Scope::Outer(env) => Value::Held(look(env, name)),
+            Scope::Outer(env) => Value::of(look(env, name)),
             Scope::Inner(locals) => local_value(locals, name),
         }
     }
@@ -142,6 +142,7 @@ fn local_value(locals: &[Local], name: TextId) -> Value
 ///
 /// Each kind of compound term has a function of its own, so that a visit has a small frame.
 #[cycle(at_once)]
+#[inline(always)]
 pub fn at_once(
     world: &World,
     functions: &[u64],
@@ -384,7 +385,7 @@ fn answered(
     match ids_of(arena, given) {
         Ok(ids) => match answer(arena, alists, f, &[ids.first, ids.second, ids.third]) {
             Ok(id) => Ok(Found {
-                value: Value::Held(id),
+                value: Value::of(id),
                 left: given.left,
             }),
             Err(AlistFault::Full) => Err(Stop::Beyond),
@@ -513,9 +514,9 @@ fn constant(arena: &HonsArena, tree: &Tree) -> Option<Value>
     ensures { IfSome result (λ v. IsLiveValue arena.now.objects v × (value_object arena.now.objects v ≡ tree.now)) }
 {
     match tree.kind() {
-        TreeKind::Int(i) => Some(Value::Int(i)),
-        TreeKind::Symbol(t) => Some(Value::Held(arena.symbol(t))),
-        TreeKind::Text(t) => Some(Value::Held(arena.string(t))),
+        TreeKind::Int(i) => Value::small(i),
+        TreeKind::Symbol(t) => Some(Value::Symbol(t)),
+        TreeKind::Text(t) => Some(Value::Text(t)),
         TreeKind::Character(_) => None,
         TreeKind::List => None,
     }
@@ -529,8 +530,19 @@ fn apply(arena: &mut HonsArena, prim: Prim, x: Value, y: Value) -> Result<Value,
     ensures { Applies (prim_of prim (value_object arena.old.objects x) (value_object arena.old.objects y)) arena.old arena.new result }
 {
     match prim {
-        Prim::Cons => Ok(Value::Held(cons(arena, x, y)?)),
+        Prim::Cons => Ok(Value::of(cons(arena, x, y)?)),
         _ => value_of(arena, prim, x, y),
+    }
+}
+
+/// An integer as a value; beyond this where it is of more than 64 bits.
+fn fitting(i: i128) -> Result<Value, Stop>
+    ensures value { IfOk result (λ v. (objects : List Object) → IsLiveValue objects v × (value_object objects v ≡ Int i)) }
+    ensures beyond { ¬ IsErrOf result stop.Full }
+{
+    match Value::small(i) {
+        Some(value) => Ok(value),
+        None => Err(Stop::Beyond),
     }
 }
 
@@ -542,19 +554,18 @@ fn value_of(arena: &HonsArena, prim: Prim, x: Value, y: Value) -> Result<Value, 
     ensures beyond { ¬ IsErrOf result stop.Full }
 {
     if is_predicate(prim) {
-        let holds = predicate(arena, prim, x, y);
-        return Ok(Value::Held(boolean(arena, holds)));
+        return Ok(Value::truth(predicate(arena, prim, x, y)));
     }
     if is_operation(prim) {
         return match apply_int(prim, x.integer(arena), y.integer(arena)) {
-            Ok(i) => Ok(Value::Int(i)),
+            Ok(i) => fitting(i),
             Err(_) => Err(Stop::Beyond),
         };
     }
     match prim {
-        Prim::Car => Ok(Value::Held(arena.car(x.with_parts()))),
-        Prim::Cdr => Ok(Value::Held(arena.cdr(x.with_parts()))),
-        Prim::CharCode => Ok(Value::Int(i128::from(code(arena, x)))),
+        Prim::Car => Ok(Value::of(arena.car(x.with_parts()))),
+        Prim::Cdr => Ok(Value::of(arena.cdr(x.with_parts()))),
+        Prim::CharCode => Ok(Value::Int(i64::from(code(arena, x)))),
         _ => Err(Stop::Beyond),
     }
 }

@@ -2,7 +2,7 @@
 
 ghost use Rattle.std.specs.Prelude.{◌≡◌, IsTrue};
 ghost use Rattle.gl_logic.specs.Object.{Character, boolean_object};
-ghost use Rattle.gl_logic.specs.PrimValue.{prim_of, natural_in, code_in, character_of};
+ghost use Rattle.gl_logic.specs.PrimValue.{prim_of, integer_in, natural_in, code_in, character_of};
 ghost use Rattle.hons_arena.specs.Ids.{object_at, IsLive, IsIdOf};
 ghost use Rattle.lisp_eval.specs.declared.primitives.PrimFault.TheVariants as fault;
 ghost use Rattle.lisp_eval.specs.Gives.{is_predicate, IsByteTest, Gives};
@@ -38,12 +38,12 @@ pub fn primitive(arena: &mut HonsArena, prim: Prim, x: Id, y: Id) -> Result<Id, 
     ensures { Gives arena.old arena.new (prim_of prim (object_at arena.old.objects x) (object_at arena.old.objects y)) result }
 {
     if is_predicate(prim) {
-        let holds = predicate(arena, prim, Value::Held(x), Value::Held(y));
+        let holds = predicate(arena, prim, Value::of(x), Value::of(y));
         return Ok(boolean(arena, holds));
     }
     if is_operation(prim) {
-        let a = Value::Held(x).integer(arena);
-        let b = Value::Held(y).integer(arena);
+        let a = integer_at(arena, x);
+        let b = integer_at(arena, y);
         return match apply_int(prim, a, b) {
             Ok(i) => Ok(arena.int(i)?),
             Err(_) => Err(PrimFault::Wide),
@@ -54,7 +54,7 @@ pub fn primitive(arena: &mut HonsArena, prim: Prim, x: Id, y: Id) -> Result<Id, 
         Prim::Car => Ok(arena.car(x)),
         Prim::Cdr => Ok(arena.cdr(x)),
         Prim::CharCode => {
-            let code = code(arena, Value::Held(x));
+            let code = code(arena, Value::of(x));
             Ok(arena.int(i128::from(code))?)
         }
         Prim::CodeChar => {
@@ -63,6 +63,14 @@ pub fn primitive(arena: &mut HonsArena, prim: Prim, x: Id, y: Id) -> Result<Id, 
         }
         _ => unreachable!(),
     }
+}
+
+/// The integer that an object counts as: 0 where it is none.
+fn integer_at(arena: &HonsArena, id: Id) -> i128
+    requires { IsLive arena.now.objects id }
+    ensures { result ≡ integer_in (object_at arena.now.objects id) }
+{
+    Value::of(id).integer(arena)
 }
 
 /// T or NIL.

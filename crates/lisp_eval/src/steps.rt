@@ -92,7 +92,7 @@ pub fn hand<'a>(
 {
     match frame {
         Frame::Branch(then, otherwise, env) => {
-            if Value::Held(value).is_nil(arena) {
+            if Value::of(value).is_nil(arena) {
                 Ok(Focus::Visit(otherwise, env))
             } else {
                 Ok(Focus::Visit(then, env))

@@ -1,7 +1,7 @@
 //! Values that may stand outside the arena.
 
-ghost use Rattle.std.specs.Prelude.{◌≡◌, List};
-ghost use Rattle.gl_logic.specs.Object.{Object, Int, Cons, car, cdr};
+ghost use Rattle.std.specs.Prelude.{◌≡◌, ◌<◌, List, IfSome, length};
+ghost use Rattle.gl_logic.specs.Object.{Object, Int, Cons, boolean_object, car, cdr};
 ghost use Rattle.gl_logic.specs.ObjectEq.{object_eq, is_nil};
 ghost use Rattle.gl_logic.specs.PrimValue.{integer_in};
 ghost use Rattle.hons_arena.specs.Held.{IsWhole, Places};
@@ -10,15 +10,20 @@ ghost use Rattle.lisp_eval.specs.Outside.{value_object, IsLiveValue};
 
 use crate::bindings::NIL;
 use gl_logic::TextId;
-use hons_arena::{Full, HonsArena, Id, Kind};
+use hons_arena::{Full, HonsArena, Id, IdKind, Kind};
 
-/// A value: an integer that needs no cell, or the id of an object.
+/// A value: an integer that needs no cell, or what the id of an object tells. Each kind has one word, so that values are
+/// copied as words.
 #[derive(Clone, Copy)]
 pub enum Value {
     /// This integer.
-    Int(i128),
-    /// The object of this id.
-    Held(Id),
+    Int(i64),
+    /// The object of the cell of this number.
+    Cell(u64),
+    /// This symbol.
+    Symbol(TextId),
+    /// This string.
+    Text(TextId),
 }
 
 /// A variable with its value.
@@ -31,14 +36,49 @@ pub struct Local {
 }
 
 impl Value {
+    /// The object of an id.
+    pub fn of(id: Id) -> Value
+        ensures value { (objects : List Object) → value_object objects result ≡ object_at objects id }
+        ensures live { (objects : List Object) → IsLive objects id → IsLiveValue objects result }
+    {
+        match id.kind {
+            IdKind::Cell => Value::Cell(id.number),
+            IdKind::Symbol => Value::Symbol(TextId { number: id.number }),
+            IdKind::Text => Value::Text(TextId { number: id.number }),
+        }
+    }
+
+    /// An integer, where it is of 64 bits.
+    pub fn small(i: i128) -> Option<Value>
+        ensures value { IfSome result (λ v. (objects : List Object) → value_object objects v ≡ Int i) }
+        ensures live { IfSome result (λ v. (objects : List Object) → IsLiveValue objects v) }
+    {
+        match i64::try_from(i) {
+            Ok(small) => Some(Value::Int(small)),
+            Err(_) => None,
+        }
+    }
+
+    /// T or NIL.
+    pub fn truth(holds: bool) -> Value
+        ensures value { (objects : List Object) → value_object objects result ≡ boolean_object holds }
+        ensures live { (objects : List Object) → IsLiveValue objects result }
+    {
+        Value::Symbol(TextId {
+            number: if holds { 1 } else { 0 },
+        })
+    }
+
     /// What a value is.
     pub fn kind(self, arena: &HonsArena) -> Kind
         requires { IsLiveValue arena.now.objects self }
         ensures { result ≡ kind_of (value_object arena.now.objects self) }
     {
         match self {
-            Value::Int(i) => Kind::Int(i),
-            Value::Held(id) => arena.kind(id),
+            Value::Int(i) => Kind::Int(i128::from(i)),
+            Value::Cell(number) => arena.kind(cell_id(number)),
+            Value::Symbol(t) => Kind::Symbol(t),
+            Value::Text(t) => Kind::Text(t),
         }
     }
 
@@ -47,9 +87,11 @@ impl Value {
         requires { IsLiveValue arena.now.objects self }
         ensures { result ≡ integer_in (value_object arena.now.objects self) }
     {
-        match self.kind(arena) {
-            Kind::Int(i) => i,
-            _ => 0,
+        match self {
+            Value::Int(i) => i128::from(i),
+            Value::Cell(number) => integer_of(arena, number),
+            Value::Symbol(_) => 0,
+            Value::Text(_) => 0,
         }
     }
 
@@ -58,9 +100,11 @@ impl Value {
         requires { IsLiveValue arena.now.objects self }
         ensures { result ≡ is_nil (value_object arena.now.objects self) }
     {
-        match self.kind(arena) {
-            Kind::Symbol(name) => name.number == 0,
-            _ => false,
+        match self {
+            Value::Int(_) => false,
+            Value::Cell(number) => is_nil_cell(arena, number),
+            Value::Symbol(t) => t.number == 0,
+            Value::Text(_) => false,
         }
     }
 
@@ -72,7 +116,9 @@ impl Value {
     {
         match self {
             Value::Int(_) => NIL,
-            Value::Held(id) => id,
+            Value::Cell(number) => cell_id(number),
+            Value::Symbol(t) => symbol_id(t),
+            Value::Text(t) => text_id(t),
         }
     }
 
@@ -84,8 +130,10 @@ impl Value {
         ensures whole { IsWhole arena.new }
     {
         match self {
-            Value::Int(i) => arena.int(i),
-            Value::Held(id) => Ok(id),
+            Value::Int(i) => integer_id(arena, i128::from(i)),
+            Value::Cell(number) => Ok(cell_id(number)),
+            Value::Symbol(t) => Ok(symbol_id(t)),
+            Value::Text(t) => Ok(text_id(t)),
         }
     }
 
@@ -95,10 +143,11 @@ impl Value {
         requires y { IsLiveValue arena.now.objects other }
         ensures { result ≡ object_eq (value_object arena.now.objects self) (value_object arena.now.objects other) }
     {
-        match (self, other) {
-            (Value::Held(a), Value::Held(b)) => same_ids(arena, a, b),
-            (Value::Int(a), _) => is_integer(arena, other, a),
-            (_, Value::Int(b)) => is_integer(arena, self, b),
+        match self {
+            Value::Int(i) => is_integer(arena, other, i128::from(i)),
+            Value::Cell(number) => is_held(arena, other, cell_id(number)),
+            Value::Symbol(t) => is_held(arena, other, symbol_id(t)),
+            Value::Text(t) => is_held(arena, other, text_id(t)),
         }
     }
 }
@@ -126,14 +175,102 @@ fn same_ids(arena: &HonsArena, a: Id, b: Id) -> bool
     arena.same(a, b)
 }
 
+/// Whether a value is the object of this id.
+fn is_held(arena: &HonsArena, value: Value, id: Id) -> bool
+    requires value { IsLiveValue arena.now.objects value }
+    requires id { IsLive arena.now.objects id }
+    ensures { result ≡ object_eq (object_at arena.now.objects id) (value_object arena.now.objects value) }
+{
+    match value {
+        Value::Int(i) => is_integer_at(arena, id, i128::from(i)),
+        Value::Cell(number) => same_ids(arena, id, cell_id(number)),
+        Value::Symbol(t) => same_ids(arena, id, symbol_id(t)),
+        Value::Text(t) => same_ids(arena, id, text_id(t)),
+    }
+}
+
 /// Whether a value is this integer.
 fn is_integer(arena: &HonsArena, value: Value, i: i128) -> bool
     requires { IsLiveValue arena.now.objects value }
-    ensures first { result ≡ object_eq (Int i) (value_object arena.now.objects value) }
-    ensures second { result ≡ object_eq (value_object arena.now.objects value) (Int i) }
+    ensures { result ≡ object_eq (Int i) (value_object arena.now.objects value) }
 {
-    match value.kind(arena) {
+    match value {
+        Value::Int(j) => i == i128::from(j),
+        Value::Cell(number) => is_integer_at(arena, cell_id(number), i),
+        Value::Symbol(_) => false,
+        Value::Text(_) => false,
+    }
+}
+
+/// Whether the object of an id is this integer.
+fn is_integer_at(arena: &HonsArena, id: Id, i: i128) -> bool
+    requires { IsLive arena.now.objects id }
+    ensures first { result ≡ object_eq (Int i) (object_at arena.now.objects id) }
+    ensures second { result ≡ object_eq (object_at arena.now.objects id) (Int i) }
+{
+    match arena.kind(id) {
         Kind::Int(j) => i == j,
         _ => false,
+    }
+}
+
+/// Whether a cell's object is NIL.
+fn is_nil_cell(arena: &HonsArena, number: u64) -> bool
+    requires { number < length arena.now.objects }
+    ensures { result ≡ is_nil (object_at arena.now.objects (record { kind = IdKind.Cell; number = number })) }
+{
+    match arena.kind(cell_id(number)) {
+        Kind::Symbol(t) => t.number == 0,
+        _ => false,
+    }
+}
+
+/// The integer that a cell's object counts as: 0 where it is none.
+fn integer_of(arena: &HonsArena, number: u64) -> i128
+    requires { number < length arena.now.objects }
+    ensures { result ≡ integer_in (object_at arena.now.objects (record { kind = IdKind.Cell; number = number })) }
+{
+    match arena.kind(cell_id(number)) {
+        Kind::Int(i) => i,
+        _ => 0,
+    }
+}
+
+/// The id of an integer, which takes a cell where it has none; Full only where there is none left.
+fn integer_id(arena: &mut HonsArena, i: i128) -> Result<Id, Full>
+    requires { IsWhole arena.old }
+    ensures places { Places arena.old arena.new (Int i) result }
+    ensures whole { IsWhole arena.new }
+{
+    arena.int(i)
+}
+
+/// The id of a cell.
+fn cell_id(number: u64) -> Id
+    ensures { result ≡ record { kind = IdKind.Cell; number = number } }
+{
+    Id {
+        kind: IdKind::Cell,
+        number,
+    }
+}
+
+/// The id of a symbol.
+fn symbol_id(t: TextId) -> Id
+    ensures { result ≡ record { kind = IdKind.Symbol; number = t.number } }
+{
+    Id {
+        kind: IdKind::Symbol,
+        number: t.number,
+    }
+}
+
+/// The id of a string.
+fn text_id(t: TextId) -> Id
+    ensures { result ≡ record { kind = IdKind.Text; number = t.number } }
+{
+    Id {
+        kind: IdKind::Text,
+        number: t.number,
     }
 }

@@ -326,7 +326,7 @@ answered-returns-in-Ok-answer t c =
     let made = subst (λ (x : Object). AddsCellsOf x late.objects new.objects) same c.answer.ensures.makes.objects in
     let is = subst (λ (x : Object). IsIdOf new.objects x c.in-Ok-answer.id) same c.in-Ok-answer.ensures.makes.id in
     answered_tells c.args.world.now.definitions c.args.functions.now (scope_env c.args.arena.now.objects c.args.scope) (world_ground c.args.world.now.definitions c.args.world.now.cliques c.count-count.ensures.world) f (terms_of c.args.terms.now) c.args.left c.args.arena.now c.arguments.new.arena
-    g c.requires.answered parts.adds parts.given late c.ids_of.ensures.adds new made c.answer.ensures.makes.limit c.answer.ensures.whole c.answer.new.alists c.answer.ensures.agree c.in-Ok-answer.id is
+    g c.requires.answered parts.adds parts.given late c.ids_of.ensures.adds new made c.answer.ensures.makes.limit c.answer.ensures.whole c.answer.new.alists c.answer.ensures.agree c.of.result (c.of.ensures.live new.objects is.0) (c.of.ensures.value new.objects ∙ is.1)
 
 pub arguments-at_once-requires-then-terms-eq3-3 : goal.arguments-at_once-requires-then-terms-eq3-3
 arguments-at_once-requires-then-terms-eq3-3 t c =

@@ -12,11 +12,11 @@ use Rattle.lisp_eval.proofs.direct.Scope.value.Goals as goal
 
 pub returns-in-Outer-clause-value : goal.returns-in-Outer-clause-value
 returns-in-Outer-clause-value c objects =
-    ap (object_at objects) c.look.ensures ∙ (look_is objects c.in-Outer.env.now c.args.name.number ∙ ap (λ (s : Scope). look (scope_env objects s) c.args.name.number) (sym c.in-Outer.is))
+    c.of.ensures.value objects ∙ (ap (object_at objects) c.look.ensures ∙ (look_is objects c.in-Outer.env.now c.args.name.number ∙ ap (λ (s : Scope). look (scope_env objects s) c.args.name.number) (sym c.in-Outer.is)))
 
 pub returns-in-Outer-clause-live : goal.returns-in-Outer-clause-live
 returns-in-Outer-clause-live c objects live =
-    subst (λ (i : Id). IsLive objects i) (sym c.look.ensures) (binding_live objects c.in-Outer.env.now c.args.name.number (subst (IsLiveScope objects) c.in-Outer.is live))
+    c.of.ensures.live objects (subst (λ (i : Id). IsLive objects i) (sym c.look.ensures) (binding_live objects c.in-Outer.env.now c.args.name.number (subst (IsLiveScope objects) c.in-Outer.is live)))
 
 pub returns-in-Inner-clause-value : goal.returns-in-Inner-clause-value
 returns-in-Inner-clause-value c objects =
