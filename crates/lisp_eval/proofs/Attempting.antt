@@ -9,10 +9,11 @@ use Rattle.gl_logic.specs.IsGround.{AreGround}
 use Rattle.gl_logic.specs.Object.{Object, nil}
 use Rattle.gl_logic.specs.ObjectEq.{is_nil}
 use Rattle.gl_logic.specs.PrimValue.{prim_of}
+use Rattle.gl_logic.specs.declared.prim.Primitive.{Primitive}
 use Rattle.fast_alists.specs.Tables.{Agree}
 use Rattle.hons_arena.specs.Held.{Held, AddsCellsOf, IsWhole}
 use Rattle.lisp_eval.specs.Answers.{HasGrown}
-use Rattle.lisp_eval.specs.Attempts.{Alists, Tells, TellsAll, Applies, IsSeenOrNil, SeesThree}
+use Rattle.lisp_eval.specs.Attempts.{Alists, Tells, TellsAll, Applies, IsSeenOrNil, SeesThree, unary_term, binary_term}
 use Rattle.lisp_eval.specs.CallValue.{IsCallValue}
 use Rattle.lisp_eval.specs.Directs.{GivesAtOnce, IsFound, AreGiven, OpensAtOnce}
 use Rattle.lisp_eval.specs.Narrow.{IsNarrow}
@@ -195,6 +196,54 @@ module _ (ds : List Definition) (functions : List ℕ) where
           let second = (value_grown mid.objects new.objects (applies.objects.made, applies.objects.is) g.second given.second_live).1 in
           tells_found t left old new tables (record { value = v; left = g.left }) value_adds agree
           (found_prim ds functions new applies.whole env t p ts left g v some e later is.0 (is.1 ∙ (λ i. prim_of p (sym first i) (sym second i))))
+
+    -- ---- a primitive of one argument
+    pub operand_refused : (p : Primitive) (t : Exp) (us : Exps) (left : ℕ) (old new : Held) (tables : Alists) (answer : Result Found Stop) → IsErr answer → Adds (S t) old new → Agree new.objects tables → (IsErrOf answer stop.Full → Lacks (S t) new) → Tell (Prim p (More t us)) left old new tables answer
+    operand_refused p t us left old new tables answer h g agree l =
+        let ts = More t us in
+        let covers = covers_first ts t us refl in
+        parts_refused (Prim p ts) p ts left old new tables answer refl h (adds_by (All ts) (S t) old new covers g) agree (λ q. lacks_by (All ts) (S t) new covers (l q))
+
+    module _ (p : Primitive) (t : Exp) (left : ℕ) (old mid new : Held) (tables : Alists) (agree : Agree new.objects tables) (f : Found) (nothing : Value) (is : value_object mid.objects nothing ≡ nil) (live : IsLiveValue mid.objects nothing) (value : Result Value Stop)
+        (adds : Adds (S t) old mid) (found : IsFound ds functions mid.objects env t (left - 1) f) (applies : Applies (prim_of p (value_object mid.objects f.value) (value_object mid.objects nothing)) mid new value) where
+      abbrev one_value : Given
+      one_value = record { first = f.value; second = nothing; third = nothing; left = f.left }
+
+      one_adds : Adds (All (More t Last)) old mid
+      one_adds = adds_by (All (More t Last)) (S t) old mid (covers_first (More t Last) t Last refl) adds
+
+      one_is_given : AreGiven ds functions mid.objects env (More t Last) (left - 1) one_value
+      one_is_given = one_given ds functions mid adds.whole env (More t Last) t (left - 1) f nothing refl is live found
+
+      pub unary_refused : (answer : Result Found Stop) → IsErr answer → (IsErrOf answer stop.Full → IsErrOf value stop.Full) → Tell (unary_term p t) left old new tables answer
+      unary_refused = value_refused (unary_term p t) p (More t Last) left old mid new tables agree one_value value refl one_adds one_is_given applies
+
+      pub unary_tells : (v : Value) → value ≡ Ok v → (left ≡ 0 → ⊥) → Tell (unary_term p t) left old new tables (Ok (record { value = v; left = f.left }))
+      unary_tells = value_tells (unary_term p t) p (More t Last) left old mid new tables agree one_value value refl one_adds one_is_given applies
+
+    -- ---- a primitive of two arguments
+    pub second_operand_refused : (p : Primitive) (t u : Exp) (left : ℕ) (old mid new : Held) (tables : Alists) (answer : Result Found Stop) → IsErr answer → Adds (S t) old mid → Adds (S u) mid new → Agree new.objects tables → (IsErrOf answer stop.Full → Lacks (S u) new) → Tell (binary_term p t u) left old new tables answer
+    second_operand_refused p t u left old mid new tables answer h g k agree l =
+        let ts = More t (More u Last) in
+        parts_refused (binary_term p t u) p ts left old new tables answer refl h (both_add ts t u Last old mid new refl g k) agree (λ q. lacks_by (All ts) (S u) new (covers_second ts t u Last refl) (l q))
+
+    module _ (p : Primitive) (t u : Exp) (left : ℕ) (old mid late new : Held) (tables : Alists) (agree : Agree new.objects tables) (f y : Found) (nothing : Value) (is : value_object late.objects nothing ≡ nil) (live : IsLiveValue late.objects nothing) (value : Result Value Stop)
+        (adds : Adds (S t) old mid) (found : IsFound ds functions mid.objects env t (left - 1) f) (more : Adds (S u) mid late) (later : IsFound ds functions late.objects env u f.left y)
+        (applies : Applies (prim_of p (value_object late.objects f.value) (value_object late.objects y.value)) late new value) where
+      abbrev two_values : Given
+      two_values = record { first = f.value; second = y.value; third = nothing; left = y.left }
+
+      two_add : Adds (All (More t (More u Last))) old late
+      two_add = both_add (More t (More u Last)) t u Last old mid late refl adds more
+
+      two_are_given : AreGiven ds functions late.objects env (More t (More u Last)) (left - 1) two_values
+      two_are_given = two_given ds functions late more.whole env (More t (More u Last)) t u (left - 1) f y nothing refl is live (found_grown mid.objects late.objects more.grown env t (left - 1) f found) later
+
+      pub binary_refused : (answer : Result Found Stop) → IsErr answer → (IsErrOf answer stop.Full → IsErrOf value stop.Full) → Tell (binary_term p t u) left old new tables answer
+      binary_refused = value_refused (binary_term p t u) p (More t (More u Last)) left old late new tables agree two_values value refl two_add two_are_given applies
+
+      pub binary_tells : (v : Value) → value ≡ Ok v → (left ≡ 0 → ⊥) → Tell (binary_term p t u) left old new tables (Ok (record { value = v; left = y.left }))
+      binary_tells = value_tells (binary_term p t u) p (More t (More u Last)) left old late new tables agree two_values value refl two_add two_are_given applies
 
     -- ---- a call
     covers_arguments : (t : Exp) (f : ℕ) (ts : Exps) → t ≡ Call f ts → Covers (S t) (All ts)

@@ -1,7 +1,8 @@
 -- What an attempt at evaluating a term at once tells.
 use Rattle.std.specs.Prelude.{◌≡◌, ℕ, List, Result, IfOk, IsErrOf, ◌⊎◌}
 use Rattle.gl_logic.specs.Definition.{Definition}
-use Rattle.gl_logic.specs.Exp.{Exp, Exps}
+use Rattle.gl_logic.specs.Exp.{Exp, Exps, Prim, Last, More}
+use Rattle.gl_logic.specs.declared.prim.Primitive.{Primitive}
 use Rattle.gl_logic.specs.Object.{Object, nil}
 use Rattle.fast_alists.specs.Tables.{Agree}
 use Rattle.hons_arena.specs.declared.id.Full.{Full}
@@ -22,6 +23,13 @@ use Rattle.lisp_eval.specs.declared.value.Value.{Value}
 -- lists with their tables
 abbrev pub Alists : Type 0
 Alists = List (Id × List (Id × Id))
+
+-- a primitive of one argument, and of two
+abbrev pub unary_term : Primitive → Exp → Exp
+unary_term p t = Prim p (More t Last)
+
+abbrev pub binary_term : Primitive → Exp → Exp → Exp
+binary_term p t u = Prim p (More t (More u Last))
 
 module _ (definitions : List Definition) (functions : List ℕ) where
   -- what is found of the term is so in the arena that has grown, with which the tables agree; Full only where some value

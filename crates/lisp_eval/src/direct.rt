@@ -9,7 +9,7 @@ ghost use Rattle.gl_logic.specs.Object.{Object, Int};
 ghost use Rattle.gl_logic.specs.PrimValue.{prim_of};
 ghost use Rattle.gl_logic.specs.TermOf.{term_of, terms_of};
 ghost use Rattle.hons_arena.specs.Held.{IsWhole};
-ghost use Rattle.lisp_eval.specs.Attempts.{Tells, TellsAll, Applies, EntersThree};
+ghost use Rattle.lisp_eval.specs.Attempts.{Tells, TellsAll, Applies, EntersThree, unary_term, binary_term};
 ghost use Rattle.lisp_eval.specs.Directs.{OpensAtOnce, scope_env, IsLiveScope};
 ghost use Rattle.lisp_eval.specs.Outside.{value_object, local_in, IsLiveValue};
 ghost use Rattle.lisp_eval.specs.Tables.{answered_in};
@@ -256,24 +256,107 @@ fn operation(
 {
     match term {
         Term::Prim(prim, terms) => {
-            let given = arguments(
-                world,
-                functions,
-                arena,
-                alists,
-                terms.as_slice(),
-                scope,
-                levels - 1,
-                left - 1,
-            )?;
-            let value = apply(arena, *prim, given.first, given.second)?;
-            Ok(Found {
-                value,
-                left: given.left,
-            })
+            let terms = terms.as_slice();
+            if terms.len() == 1 {
+                unary(
+                    world, functions, arena, alists, *prim, &terms[0], scope, levels, left,
+                )
+            } else if terms.len() == 2 {
+                binary(
+                    world, functions, arena, alists, *prim, &terms[0], &terms[1], scope, levels,
+                    left,
+                )
+            } else {
+                Err(Stop::Beyond)
+            }
         }
         _ => Err(Stop::Beyond),
     }
+}
+
+/// What a primitive of one argument gives at once.
+#[cycle(at_once)]
+fn unary(
+    world: &World,
+    functions: &[u64],
+    arena: &mut HonsArena,
+    alists: &mut FastAlists,
+    prim: Prim,
+    term: &Term,
+    scope: Scope,
+    levels: u64,
+    left: u64,
+) -> Result<Found, Stop>
+    requires whole { IsWhole arena.old }
+    requires scope { IsLiveScope arena.old.objects scope }
+    requires agree { Agree arena.old.objects alists.old }
+    requires levels { 0 < levels }
+    requires left { 0 < left }
+    ensures { Tells world.now.definitions functions.now (scope_env arena.old.objects scope.entry) (unary_term prim (term_of term.now)) left arena.old arena.new alists.new result }
+{
+    let x = at_once(
+        world,
+        functions,
+        arena,
+        alists,
+        term,
+        scope,
+        levels - 1,
+        left - 1,
+    )?;
+    let value = apply(arena, prim, x.value, NOTHING)?;
+    Ok(Found {
+        value,
+        left: x.left,
+    })
+}
+
+/// What a primitive of two arguments gives at once.
+#[cycle(at_once)]
+fn binary(
+    world: &World,
+    functions: &[u64],
+    arena: &mut HonsArena,
+    alists: &mut FastAlists,
+    prim: Prim,
+    first: &Term,
+    second: &Term,
+    scope: Scope,
+    levels: u64,
+    left: u64,
+) -> Result<Found, Stop>
+    requires whole { IsWhole arena.old }
+    requires scope { IsLiveScope arena.old.objects scope }
+    requires agree { Agree arena.old.objects alists.old }
+    requires levels { 0 < levels }
+    requires left { 0 < left }
+    ensures { Tells world.now.definitions functions.now (scope_env arena.old.objects scope.entry) (binary_term prim (term_of first.now) (term_of second.now)) left arena.old arena.new alists.new result }
+{
+    let x = at_once(
+        world,
+        functions,
+        arena,
+        alists,
+        first,
+        scope,
+        levels - 1,
+        left - 1,
+    )?;
+    let y = at_once(
+        world,
+        functions,
+        arena,
+        alists,
+        second,
+        scope,
+        levels - 1,
+        x.left,
+    )?;
+    let value = apply(arena, prim, x.value, y.value)?;
+    Ok(Found {
+        value,
+        left: y.left,
+    })
 }
 
 /// What a call of a small definition gives at once; nothing for any other term.

@@ -15,13 +15,19 @@ use Rattle.lisp_eval.specs.Outside.{value_object}
 use Rattle.lisp_eval.specs.Sights.{Sees}
 use Rattle.lisp_eval.specs.Tables.{answered_in, table_value}
 use Rattle.lisp_eval.specs.declared.direct.Stop.TheVariants as stop
-use Rattle.lisp_eval.proofs.Attempting.{ok_map, tells_found, test_refused, branch_tells, first_refused, second_refused, third_refused, one_tells, two_tell, three_tell, parts_refused, value_refused, value_tells, call_refused, call_tells, entering_refused, answering_refused, answered_tells}
+use Rattle.lisp_eval.specs.declared.value.Value.{Value}
+use Rattle.lisp_eval.specs.declared.value.Value.TheVariants as value
+use Rattle.lisp_eval.proofs.Attempting.{ok_map, tells_found, test_refused, branch_tells, first_refused, second_refused, third_refused, one_tells, two_tell, three_tell, operand_refused, unary_refused, unary_tells, second_operand_refused, binary_refused, binary_tells, call_refused, call_tells, entering_refused, answering_refused, answered_tells}
 use Rattle.lisp_eval.proofs.DirectFound.{found_var, found_const, first_term, second_term, one_term, two_terms, three_terms, one_local, two_locals}
 use Rattle.lisp_eval.proofs.Entering.{scope_grown, tables_on}
 use Rattle.lisp_eval.proofs.PlacedConstants.{at_index}
 use Rattle.lisp_eval.proofs.Sights.{adds_none}
-use Rattle.lisp_eval.proofs.TermForms.{var_term, const_term, if_term, prim_term, call_term}
+use Rattle.lisp_eval.proofs.TermForms.{var_term, const_term, if_term, call_term}
 use Rattle.lisp_eval.proofs.direct.+at_once.Goals as goal
+
+-- NIL, where there is no argument
+abbrev nothing : Value
+nothing = value.Symbol (record { number = 0 })
 
 pub branch-returns-in_err-found-in-If : goal.branch-returns-in_err-found-in-If
 branch-returns-in_err-found-in-If t c =
@@ -104,35 +110,95 @@ at_once-returns-in-Const t c =
       lacks = λ e. absurd (c.constant_found.ensures.beyond e);
     }
 
-pub operation-returns-in_err-given-in-Prim : goal.operation-returns-in_err-given-in-Prim
-operation-returns-in_err-given-in-Prim t c =
+pub unary-returns-in_err-x : goal.unary-returns-in_err-x
+unary-returns-in_err-x t c =
     let env = scope_env c.args.arena.now.objects c.args.scope in
-    let refused : IsErr c.from_residual.result = search rules in
-    let full : IsErrOf c.from_residual.result stop.Full → IsErrOf c.arguments.result stop.Full = λ e. search rules in
-    let parts = subst (λ (us : List Term). TellsAll c.args.world.now.definitions c.args.functions.now env (terms_of us) (c.args.left - 1) c.args.arena.now c.arguments.new.arena c.arguments.new.alists c.arguments.result) c.as_slice.ensures.value c.arguments.ensures in
-    parts_refused c.args.world.now.definitions c.args.functions.now env (term_of c.args.term.now) c.in-Prim.prim (terms_of c.in-Prim.terms.items) c.args.left c.args.arena.now c.arguments.new.arena c.arguments.new.alists c.from_residual.result
-    (ap term_of c.in-Prim.is ∙ prim_term c.in-Prim.prim c.in-Prim.terms) refused parts.adds parts.agree (λ e. parts.lacks (full e))
+    let answer = c.from_residual.result in
+    let refused : IsErr answer = search rules in
+    let full : IsErrOf answer stop.Full → IsErrOf c.at_once.result stop.Full = λ e. search rules in
+    operand_refused c.args.world.now.definitions c.args.functions.now env c.args.prim (term_of c.args.term.now) _ c.args.left c.args.arena.now c.at_once.new.arena c.at_once.new.alists answer refused c.at_once.ensures.adds c.at_once.ensures.agree (λ e. c.at_once.ensures.lacks (full e))
 
-pub operation-returns-in_err-value-in-Prim : goal.operation-returns-in_err-value-in-Prim
-operation-returns-in_err-value-in-Prim t c =
+pub unary-returns-in_err-value : goal.unary-returns-in_err-value
+unary-returns-in_err-value t c =
     let env = scope_env c.args.arena.now.objects c.args.scope in
-    let g = c.in_ok-given-in-Prim.given in
-    let refused : IsErr c.from_residual-in_err-value-in-Prim.result = search rules in
-    let full : IsErrOf c.from_residual-in_err-value-in-Prim.result stop.Full → IsErrOf c.apply.result stop.Full = λ e. search rules in
-    let parts = subst (λ (us : List Term). TellsAll c.args.world.now.definitions c.args.functions.now env (terms_of us) (c.args.left - 1) c.args.arena.now c.arguments.new.arena c.arguments.new.alists (Ok g)) c.as_slice.ensures.value c.in_ok-given-in-Prim.ensures in
-    let agree = tables_on c.arguments.new.arena.objects c.apply.new.arena.objects (c.apply.ensures.objects.made, c.apply.ensures.objects.is) c.arguments.new.alists parts.agree in
-    value_refused c.args.world.now.definitions c.args.functions.now env (term_of c.args.term.now) c.in-Prim.prim (terms_of c.in-Prim.terms.items) c.args.left c.args.arena.now c.arguments.new.arena c.apply.new.arena c.arguments.new.alists agree g c.apply.result
-    (ap term_of c.in-Prim.is ∙ prim_term c.in-Prim.prim c.in-Prim.terms) parts.adds parts.given c.apply.ensures c.from_residual-in_err-value-in-Prim.result refused full
+    let answer = c.from_residual-in_err-value.result in
+    let refused : IsErr answer = search rules in
+    let full : IsErrOf answer stop.Full → IsErrOf c.apply.result stop.Full = λ e. search rules in
+    let first = c.in_ok-x.ensures in
+    let agree = tables_on c.at_once.new.arena.objects c.apply.new.arena.objects (c.apply.ensures.objects.made, c.apply.ensures.objects.is) c.at_once.new.alists first.agree in
+    unary_refused c.args.world.now.definitions c.args.functions.now env c.args.prim (term_of c.args.term.now) c.args.left c.args.arena.now c.at_once.new.arena c.apply.new.arena c.at_once.new.alists agree c.in_ok-x.x nothing refl tt c.apply.result first.adds first.found c.apply.ensures answer refused full
 
-pub operation-returns-in_ok-value-in-Prim : goal.operation-returns-in_ok-value-in-Prim
-operation-returns-in_ok-value-in-Prim t c =
+pub unary-returns : goal.unary-returns
+unary-returns t c =
     let env = scope_env c.args.arena.now.objects c.args.scope in
-    let g = c.in_ok-given-in-Prim.given in
-    let value : c.apply.result ≡ Ok c.in_ok-value-in-Prim.value = search rules in
-    let parts = subst (λ (us : List Term). TellsAll c.args.world.now.definitions c.args.functions.now env (terms_of us) (c.args.left - 1) c.args.arena.now c.arguments.new.arena c.arguments.new.alists (Ok g)) c.as_slice.ensures.value c.in_ok-given-in-Prim.ensures in
-    let agree = tables_on c.arguments.new.arena.objects c.apply.new.arena.objects (c.apply.ensures.objects.made, c.apply.ensures.objects.is) c.arguments.new.alists parts.agree in
-    value_tells c.args.world.now.definitions c.args.functions.now env (term_of c.args.term.now) c.in-Prim.prim (terms_of c.in-Prim.terms.items) c.args.left c.args.arena.now c.arguments.new.arena c.apply.new.arena c.arguments.new.alists agree g c.apply.result
-    (ap term_of c.in-Prim.is ∙ prim_term c.in-Prim.prim c.in-Prim.terms) parts.adds parts.given c.apply.ensures c.in_ok-value-in-Prim.value value (λ z. omega (arith, z, c.requires.left))
+    let value : c.apply.result ≡ Ok c.in_ok-value.value = search rules in
+    let first = c.in_ok-x.ensures in
+    let agree = tables_on c.at_once.new.arena.objects c.apply.new.arena.objects (c.apply.ensures.objects.made, c.apply.ensures.objects.is) c.at_once.new.alists first.agree in
+    unary_tells c.args.world.now.definitions c.args.functions.now env c.args.prim (term_of c.args.term.now) c.args.left c.args.arena.now c.at_once.new.arena c.apply.new.arena c.at_once.new.alists agree c.in_ok-x.x nothing refl tt c.apply.result first.adds first.found c.apply.ensures c.in_ok-value.value value (λ z. omega (arith, z, c.requires.left))
+
+pub binary-returns-in_err-x : goal.binary-returns-in_err-x
+binary-returns-in_err-x t c =
+    let env = scope_env c.args.arena.now.objects c.args.scope in
+    let answer = c.from_residual.result in
+    let refused : IsErr answer = search rules in
+    let full : IsErrOf answer stop.Full → IsErrOf c.at_once.result stop.Full = λ e. search rules in
+    operand_refused c.args.world.now.definitions c.args.functions.now env c.args.prim (term_of c.args.first.now) _ c.args.left c.args.arena.now c.at_once.new.arena c.at_once.new.alists answer refused c.at_once.ensures.adds c.at_once.ensures.agree (λ e. c.at_once.ensures.lacks (full e))
+
+pub binary-at_once-requires-2 : goal.binary-at_once-requires-2
+binary-at_once-requires-2 t c =
+    let old = c.args.arena.now in
+    let mid = c.at_once.new.arena in
+    (search rules, (c.at_once.ensures.adds.whole, ((scope_grown old.objects mid.objects c.at_once.ensures.adds.grown c.args.scope c.requires.scope).0, c.at_once.ensures.agree)))
+
+pub binary-returns-in_err-y : goal.binary-returns-in_err-y
+binary-returns-in_err-y t c =
+    let ds = c.args.world.now.definitions in
+    let fs = c.args.functions.now in
+    let old = c.args.arena.now in
+    let mid = c.at_once.new.arena in
+    let late = c.at_once-2.new.arena in
+    let env = scope_env old.objects c.args.scope in
+    let answer = c.from_residual-in_err-y.result in
+    let refused : IsErr answer = search rules in
+    let full : IsErrOf answer stop.Full → IsErrOf c.at_once-2.result stop.Full = λ e. search rules in
+    let first = c.in_ok-x.ensures in
+    let same = (scope_grown old.objects mid.objects first.adds.grown c.args.scope c.requires.scope).1 in
+    let second = subst (λ (e : List (ℕ × _)). Tells ds fs e (term_of c.args.second.now) c.in_ok-x.x.left mid late c.at_once-2.new.alists c.at_once-2.result) same c.at_once-2.ensures in
+    second_operand_refused ds fs env c.args.prim (term_of c.args.first.now) (term_of c.args.second.now) c.args.left old mid late c.at_once-2.new.alists answer refused first.adds second.adds second.agree (λ e. second.lacks (full e))
+
+pub binary-returns-in_err-value : goal.binary-returns-in_err-value
+binary-returns-in_err-value t c =
+    let ds = c.args.world.now.definitions in
+    let fs = c.args.functions.now in
+    let old = c.args.arena.now in
+    let mid = c.at_once.new.arena in
+    let late = c.at_once-2.new.arena in
+    let new = c.apply.new.arena in
+    let env = scope_env old.objects c.args.scope in
+    let answer = c.from_residual-in_err-value.result in
+    let refused : IsErr answer = search rules in
+    let full : IsErrOf answer stop.Full → IsErrOf c.apply.result stop.Full = λ e. search rules in
+    let first = c.in_ok-x.ensures in
+    let same = (scope_grown old.objects mid.objects first.adds.grown c.args.scope c.requires.scope).1 in
+    let second = subst (λ (e : List (ℕ × _)). Tells ds fs e (term_of c.args.second.now) c.in_ok-x.x.left mid late c.at_once-2.new.alists (Ok c.in_ok-y.y)) same c.in_ok-y.ensures in
+    let agree = tables_on late.objects new.objects (c.apply.ensures.objects.made, c.apply.ensures.objects.is) c.at_once-2.new.alists second.agree in
+    binary_refused ds fs env c.args.prim (term_of c.args.first.now) (term_of c.args.second.now) c.args.left old mid late new c.at_once-2.new.alists agree c.in_ok-x.x c.in_ok-y.y nothing refl tt c.apply.result first.adds first.found second.adds second.found c.apply.ensures answer refused full
+
+pub binary-returns : goal.binary-returns
+binary-returns t c =
+    let ds = c.args.world.now.definitions in
+    let fs = c.args.functions.now in
+    let old = c.args.arena.now in
+    let mid = c.at_once.new.arena in
+    let late = c.at_once-2.new.arena in
+    let new = c.apply.new.arena in
+    let env = scope_env old.objects c.args.scope in
+    let value : c.apply.result ≡ Ok c.in_ok-value.value = search rules in
+    let first = c.in_ok-x.ensures in
+    let same = (scope_grown old.objects mid.objects first.adds.grown c.args.scope c.requires.scope).1 in
+    let second = subst (λ (e : List (ℕ × _)). Tells ds fs e (term_of c.args.second.now) c.in_ok-x.x.left mid late c.at_once-2.new.alists (Ok c.in_ok-y.y)) same c.in_ok-y.ensures in
+    let agree = tables_on late.objects new.objects (c.apply.ensures.objects.made, c.apply.ensures.objects.is) c.at_once-2.new.alists second.agree in
+    binary_tells ds fs env c.args.prim (term_of c.args.first.now) (term_of c.args.second.now) c.args.left old mid late new c.at_once-2.new.alists agree c.in_ok-x.x c.in_ok-y.y nothing refl tt c.apply.result first.adds first.found second.adds second.found c.apply.ensures c.in_ok-value.value value (λ z. omega (arith, z, c.requires.left))
 
 pub opened-returns-in_err-given-in-Call : goal.opened-returns-in_err-given-in-Call
 opened-returns-in_err-given-in-Call t c =

@@ -1,4 +1,4 @@
-use Rattle.std.proofs.Common.{◌+◌, ◌*◌}
+use Rattle.std.proofs.Common.{◌+◌, ◌-◌, ◌*◌}
 use Rattle.lisp_eval.proofs.direct.+at_once.Given as goal
 
 abbrev pub decreases-at_once : goal.decreases-at_once
@@ -18,3 +18,9 @@ decreases-arguments l = 4 * l.levels + 2
 
 abbrev pub decreases-answered : goal.decreases-answered
 decreases-answered l = 4 * l.levels + 3
+
+abbrev pub decreases-unary : goal.decreases-unary
+decreases-unary l = 4 * l.levels - 1
+
+abbrev pub decreases-binary : goal.decreases-binary
+decreases-binary l = 4 * l.levels - 1
