@@ -1,6 +1,7 @@
 //! Values that may stand outside the arena.
 
-ghost use Rattle.std.specs.Prelude.{◌≡◌, ◌<◌, List, IfSome, length};
+ghost use Rattle.std.specs.Prelude.{◌≡◌, ◌<◌, ◌↔◌, FitsSigned, List, IfSome, IsSome, length};
+ghost use Rattle.std.specs.Int.{w64};
 ghost use Rattle.gl_logic.specs.Object.{Object, Int, Cons, boolean_object, car, cdr};
 ghost use Rattle.gl_logic.specs.ObjectEq.{object_eq, is_nil};
 ghost use Rattle.gl_logic.specs.PrimValue.{integer_in};
@@ -48,8 +49,9 @@ impl Value {
         }
     }
 
-    /// An integer, where it is of 64 bits.
+    /// An integer, exactly where it is of 64 bits.
     pub fn small(i: i128) -> Option<Value>
+        ensures some { IsSome result ↔ FitsSigned w64 i }
         ensures value { IfSome result (λ v. (objects : List Object) → value_object objects v ≡ Int i) }
         ensures live { IfSome result (λ v. (objects : List Object) → IsLiveValue objects v) }
     {
