@@ -1,13 +1,14 @@
 //! Bindings of forms.
 
-ghost use Rattle.std.specs.Prelude.{◌≡◌, ◌≤◌, ◌-◌, true, length, reverse, Some, OnOk};
+ghost use Rattle.std.specs.Prelude.{◌≡◌, ◌≤◌, ◌-◌, ◌&&◌, ◌++◌, [], ◌∷◌, true, not, eqb, if◌then◌else◌, length, reverse, Some, None, OnOk};
+ghost use Rattle.std.specs.List.{list_any};
 ghost use Rattle.std.specs.Option.{option_and_then};
 ghost use Rattle.gl_logic.specs.Object.{nil};
 ghost use Rattle.gl_logic.specs.Lists.{conses};
 ghost use Rattle.shape_spec.specs.ShapeOf.{shape_of};
 ghost use Rattle.shape_spec.specs.Indices.{variables_of, width_of, IsBindings};
 ghost use Rattle.shape_spec.specs.ItemsMeant.{shape_at, placed as placed_meant, in_sequence, item_meant};
-ghost use Rattle.shape_spec.specs.Wording.{all_meant};
+ghost use Rattle.shape_spec.specs.Wording.{all_meant, is_legal as legal_is};
 ghost use Rattle.shape_spec.specs.BindingsMeant.{checked, bound, entry_of, entry_meant, quoted as quoted_meant, is_backquote as backquote_is, bindings_meant};
 ghost use Rattle.shape_spec.specs.Gives.{Gives, fits, taken, shape_left, Adds, entry_within, entry_left, slotted_of};
 
@@ -87,22 +88,30 @@ fn listed(setting: &Setting<'_>, entries: &[Tree]) -> Result<Bindings, BindFault
 {
     let mut all = Bindings::new(setting.alloc);
     let mut seen = NameSet::new(setting.alloc);
+    add_entries(setting, entries, &mut all, &mut seen)?;
+    Ok(all)
+}
+
+/// Binds the variables of entries where none is bound yet.
+fn add_entries(
+    setting: &Setting<'_>,
+    entries: &[Tree],
+    all: &mut Bindings,
+    seen: &mut NameSet,
+) -> Result<(), BindFault>
+    requires none { all.old ≡ [] }
+    requires none_seen { seen.old ≡ [] }
+    ensures { Gives (λ _. all.new) result (checked setting.now.texts.now (all_meant (entry_meant setting.now.texts.now setting.now.quasi) (reverse entries.now))) }
+{
     let mut left = 1024;
     let mut place = entries.len();
     while place > 0 {
         place -= 1;
         let (variable, shape) = entry(setting, &entries[place], left)?;
-        add(
-            setting.alloc,
-            setting.texts,
-            &mut all,
-            &mut seen,
-            variable,
-            shape,
-        )?;
-        left = 1024 - bit_count(&all);
+        add(setting.alloc, setting.texts, all, seen, variable, shape)?;
+        left = 1024 - bit_count(all);
     }
-    Ok(all)
+    Ok(())
 }
 
 /// `(variable shape)`, where so many indices may be used.
@@ -149,14 +158,31 @@ fn placed(alloc: Global, texts: &Texts, whole: &Items) -> Result<Bindings, BindF
 {
     let mut all = Bindings::new(alloc);
     let mut seen = NameSet::new(alloc);
+    add_places(alloc, texts, whole, &mut all, &mut seen)?;
+    Ok(all)
+}
+
+/// Binds the variables of slots where none is bound yet.
+fn add_places(
+    alloc: Global,
+    texts: &Texts,
+    whole: &Items,
+    all: &mut Bindings,
+    seen: &mut NameSet,
+) -> Result<(), BindFault>
+    requires few { length whole.now.slots.items ≤ 1024 }
+    requires none { all.old ≡ [] }
+    requires none_seen { seen.old ≡ [] }
+    ensures { Gives (λ _. all.new) result (checked texts.now (Some (placed_meant (slotted_of whole.now)))) }
+{
     let mut left = 1024;
     for variable in &whole.variables {
         let places = places_of(alloc, whole.slots.as_slice(), variable.name)?;
         let (shape, _) = shape_of_places(variable.is_boolean, places, left)?;
-        add(alloc, texts, &mut all, &mut seen, variable.name, shape)?;
-        left = 1024 - bit_count(&all);
+        add(alloc, texts, all, seen, variable.name, shape)?;
+        left = 1024 - bit_count(all);
     }
-    Ok(all)
+    Ok(())
 }
 
 /// The shape of a variable's places.
@@ -187,14 +213,26 @@ fn add(
     ensures adds { Adds texts.now all.old (variable.number, shape_of shape) all.new result }
     ensures seen { OnOk result (seen.new ≡ variables_of all.new) }
 {
-    if !is_legal(texts, variable) {
-        return Err(BindFault::Bad);
-    }
-    if !seen.insert(variable)? {
-        return Err(BindFault::Bad);
+    match note(texts, seen, variable) {
+        Ok(()) => {}
+        Err(fault) => {
+            drop(shape);
+            return Err(fault);
+        }
     }
     if !all.try_push(alloc, variable, shape)? {
         return Err(BindFault::Bad);
     }
     Ok(())
+}
+
+/// Notes a variable that is legal and new, else Bad.
+fn note(texts: &Texts, seen: &mut NameSet, variable: TextId) -> Result<(), BindFault>
+    ensures { Gives (λ _. seen.new) result (if legal_is texts.now variable.number && not (list_any (eqb variable.number) seen.old) then Some (seen.old ++ variable.number ∷ []) else None) }
+{
+    if is_legal(texts, variable) && seen.insert(variable)? {
+        Ok(())
+    } else {
+        Err(BindFault::Bad)
+    }
 }

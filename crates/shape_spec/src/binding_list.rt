@@ -1,9 +1,11 @@
 //! Bindings of variables to shapes.
 
-ghost use Rattle.std.specs.Prelude.{◌≡◌, ◌<◌, ◌≤◌, ◌+◌, [], ◌∷◌, ◌++◌, cond, length, slice_get, Some, OnOk, OnErr, IfOk};
+ghost use Rattle.std.specs.Prelude.{◌≡◌, ◌<◌, ◌≤◌, ◌+◌, [], ◌∷◌, ◌++◌, true, cond, length, slice_get, Some, OnOk, OnErr, IfOk, MatchOption};
+ghost use Rattle.std.specs.List.Sorted.{IsNonDecreasing};
 ghost use Rattle.shape_spec.specs.ShapeOf.{shape_of};
 ghost use Rattle.shape_spec.specs.Indices.{variables_of, shapes_of, indices_in, indices_of as indices_bound, width_of, rank_in, IsNotIn, AreApart, AllBelow, IsShape, IsBindings};
 ghost use Rattle.shape_spec.specs.BindingOf.{Pushes};
+ghost use Rattle.shape_spec.specs.Order.{Joins};
 ghost use Rattle.shape_spec.specs.InputMeant.{input_meant};
 ghost use Rattle.gl_logic.specs.Assignments.{value_at};
 
@@ -88,12 +90,17 @@ impl Bindings {
         ensures ok { IfOk result (λ new. Pushes new self.old (variable.number, shape_of shape) self.new) }
         ensures err { OnErr result (self.new ≡ self.old) }
     {
-        let mut more = Vec::new(alloc);
-        shape.add_indices(&mut more)?;
-        let mut sorted = Vec::from_slice(alloc, self.sorted.as_slice())?;
-        if !insert_all(&mut sorted, more.as_slice())? {
-            return Ok(false);
-        }
+        let sorted = match joined(alloc, self.sorted.as_slice(), &shape) {
+            Ok(Some(sorted)) => sorted,
+            Ok(None) => {
+                drop(shape);
+                return Ok(false);
+            }
+            Err(fault) => {
+                drop(shape);
+                return Err(fault);
+            }
+        };
         self.items.push(Binding { variable, shape })?;
         self.sorted = sorted;
         Ok(true)
@@ -129,6 +136,21 @@ impl Bindings {
         ensures { result ≡ rank_in (indices_bound self.now) index }
     {
         rank(self.sorted.as_slice(), index) as u32
+    }
+}
+
+/// Indices in order with those of a shape. None where one stands twice then.
+fn joined(alloc: Global, sorted: &[u32], shape: &Shape) -> Result<Option<Vec<u32>>, NoMemory>
+    requires { IsNonDecreasing sorted.now }
+    ensures { IfOk result (λ all. MatchOption all (AreApart (sorted.now ++ indices_in (shape_of shape.now)) → ⊥) (λ new. Joins true sorted.now (indices_in (shape_of shape.now)) new.items)) }
+{
+    let mut more = Vec::new(alloc);
+    shape.add_indices(&mut more)?;
+    let mut all = Vec::from_slice(alloc, sorted)?;
+    if insert_all(&mut all, more.as_slice())? {
+        Ok(Some(all))
+    } else {
+        Ok(None)
     }
 }
 

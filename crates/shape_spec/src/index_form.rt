@@ -1,6 +1,7 @@
 //! Indices of forms.
 
-ghost use Rattle.std.specs.Prelude.{◌≡◌, ◌<◌, ◌^◌, reverse, Some, IfSome};
+ghost use Rattle.std.specs.Prelude.{◌≡◌, ◌<◌, ◌^◌, [], ◌∷◌, ◌++◌, reverse, Some, IfSome};
+ghost use Rattle.std.specs.Option.{option_map};
 ghost use Rattle.shape_spec.specs.ShapeSeen.{Integer, Boolean};
 ghost use Rattle.shape_spec.specs.Wording.{all_meant};
 ghost use Rattle.shape_spec.specs.ShapeMeant.{index_meant, stepped as stepped_from, progression as progression_meant};
@@ -52,9 +53,17 @@ pub(crate) fn indices_of(alloc: Global, forms: &[Tree]) -> Result<Vec<u32>, Bind
     let mut left = forms.len();
     while left > 0 {
         left -= 1;
-        indices.push(index_of(&forms[left])?)?;
+        push_index(&mut indices, &forms[left])?;
     }
     Ok(indices)
+}
+
+/// Puts the index of a form last.
+fn push_index(indices: &mut Vec<u32>, form: &Tree) -> Result<(), BindFault>
+    ensures { Gives (λ _. indices.new.items) result (option_map (λ i. indices.old.items ++ i ∷ []) (small_index form.now)) }
+{
+    indices.push(index_of(form)?)?;
+    Ok(())
 }
 
 /// So many numbers from the first on, each one step further.

@@ -57,21 +57,19 @@ impl Shape {
         alloc: Global,
         index: u32,
         first: Shape,
-        second: Shape,
+        second: Box<Shape>,
     ) -> Result<Shape, NoMemory>
-        ensures { IfOk result (λ s. shape_of s ≡ Choice index (shape_of first) (shape_of second)) }
+        ensures { IfOk result (λ s. shape_of s ≡ Choice index (shape_of first) (shape_of second.value)) }
     {
         let first = Box::new(alloc, first)?;
-        let second = Box::new(alloc, second)?;
         Ok(Shape::Choice(index, first, second))
     }
 
-    /// The conses of shapes, from the last to the first, onto a shape. All are lost where memory runs out.
-    pub(crate) fn list(alloc: Global, elements: Vec<Shape>, tail: Shape) -> Result<Shape, NoMemory>
-        ensures { IfOk result (λ s. shape_of s ≡ pairs (map shape_of elements.items) (shape_of tail)) }
+    /// The conses of shapes, from the last to the first, onto a shape.
+    pub(crate) fn list(elements: Vec<Shape>, tail: Box<Shape>) -> Shape
+        ensures { shape_of result ≡ pairs (map shape_of elements.items) (shape_of tail.value) }
     {
-        let tail = Box::new(alloc, tail)?;
-        Ok(Shape::List(elements, tail))
+        Shape::List(elements, tail)
     }
 
     /// Puts the indices of the shape last, in the order in which they stand in it.

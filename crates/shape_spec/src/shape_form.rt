@@ -49,7 +49,11 @@ impl Setting<'_> {
     {
         let place = self.plain_from(elements);
         let (base, left) = self.base(&elements[..place], tail, left)?;
-        self.before(&elements[place..], base, left)
+        if place == elements.len() {
+            return Ok((base, left));
+        }
+        let boxed = Box::new(self.alloc, base)?;
+        self.before(&elements[place..], boxed, left)
     }
 
     /// How many elements are left at the end of a list from the first one on that is not plain.
@@ -141,8 +145,9 @@ impl Setting<'_> {
             return Err(BindFault::Bad);
         }
         let (second, left) = self.listed(others, tail, left - 1)?;
+        let boxed = Box::new(self.alloc, second)?;
         let (first, left) = self.shape(first, left)?;
-        Ok((Shape::choice(self.alloc, index, first, second)?, left))
+        Ok((Shape::choice(self.alloc, index, first, boxed)?, left))
     }
 
     /// The index of `(:g-boolean . i)`.
@@ -243,13 +248,15 @@ impl Setting<'_> {
 
     /// The conses of elements, from the last to the first, onto a shape.
     #[cycle(shape)]
-    fn before(&self, elements: &[Tree], base: Shape, left: u32) -> Result<(Shape, u32), BindFault>
-        requires { fits (left + length (indices_in (shape_of base))) (shape_of base) ≡ true }
-        ensures { Gives shape_left result (taken (left + length (indices_in (shape_of base))) (before_meant self.now.texts.now self.now.quasi elements.now (shape_of base))) }
+    fn before(
+        &self,
+        elements: &[Tree],
+        base: Box<Shape>,
+        left: u32,
+    ) -> Result<(Shape, u32), BindFault>
+        requires { fits (left + length (indices_in (shape_of base.value))) (shape_of base.value) ≡ true }
+        ensures { Gives shape_left result (taken (left + length (indices_in (shape_of base.value))) (before_meant self.now.texts.now self.now.quasi elements.now (shape_of base.value))) }
     {
-        if elements.is_empty() {
-            return Ok((base, left));
-        }
         let mut shapes = Vec::new(self.alloc);
         let mut left = left;
         for element in elements {
@@ -257,6 +264,6 @@ impl Setting<'_> {
             shapes.push(shape)?;
             left = less;
         }
-        Ok((Shape::list(self.alloc, shapes, base)?, left))
+        Ok((Shape::list(shapes, base), left))
     }
 }

@@ -7,7 +7,7 @@ use denote.Param.Weighed.{most}
 use Rattle.gl_logic.specs.Object.{Object, nil}
 use Rattle.gl_logic.specs.Lists.{conses, size_of, IsAtom}
 use Rattle.gl_logic.proofs.Parts.{conses-whole, tail_is_atom}
-use Rattle.shape_spec.specs.ShapeSeen.{ShapeSeen, Pair}
+use Rattle.shape_spec.specs.ShapeSeen.{ShapeSeen, Pair, Choice}
 use Rattle.shape_spec.specs.ShapeOf.{shape_of, pairs}
 use Rattle.shape_spec.specs.Indices.{indices_in}
 use Rattle.shape_spec.specs.Wording.{has_mark}
@@ -16,7 +16,7 @@ use Rattle.shape_spec.specs.declared.shape.Shape.{Shape}
 use Rattle.shape_spec.specs.declared.words.Head.{Head}
 use Rattle.shape_spec.specs.declared.words.Head.TheVariants as head
 use Rattle.shape_spec.specs.ShapeMeant.{shape_meant, choice_meant, headed, test_meant, choice_of}
-use Rattle.shape_spec.specs.Gives.{taken, small, shape_left, before_meant}
+use Rattle.shape_spec.specs.Gives.{fits, taken, small, shape_left, before_meant}
 use Rattle.shape_spec.proofs.Proper.{conses-last, conses-cut, front_size, back_size, most_at}
 use Rattle.shape_spec.proofs.Conses.{pairs_push}
 use Rattle.shape_spec.proofs.Fits.{gives_at, gives_err, constant_taken, true_false, refuses_none, IsFit, fit_to, fit_from, taken_some, taken_is, pair_fit, choice_no_test, choice_no_index, choice_no_second, choice_no_first, choice_taken}
@@ -173,7 +173,7 @@ choice-returns t c =
     parted c.args.left names quasi es c.args.tail.now c.first-item.result c.test-item.result c.in-len2-up.len_at_least c.test-item.is c.first-item.is
     ∙ (choice_taken c.args.left (test_meant names c.test-item.result) (shape_meant names quasi c.first-item.result) (shape_meant names quasi others) (shape_of c.in_ok-second.second) c.in_ok-second.left c.in_ok-second.ensures
     c.in_ok-index.index (shape_of c.in_ok-first.first) c.in_ok-first.left c.in_ok-index.ensures some c.in_ok-first.ensures
-    ∙ ap (some_shape c.in_ok-first.left) (sym c.in_ok-choice.ensures))
+    ∙ ap (some_shape c.in_ok-first.left) (sym (c.in_ok-choice.ensures ∙ ap (λ (s : Shape). Choice c.in_ok-index.index (shape_of c.in_ok-first.first) (shape_of s)) c.in_ok-boxed.ensures.ok)))
 
 -- ---- listed
 pub listed-base-requires : goal.listed-base-requires
@@ -209,7 +209,8 @@ listed-before-requires t c =
     let s = back_size es c.args.tail.now p in
     let base = taken_some c.args.left (shape_meant c.args.self.now.texts.now c.args.self.now.quasi (conses (take p es) c.args.tail.now)) (shape_of c.in_ok-base.base) c.in_ok-base.left c.in_ok-base.ensures in
     let same = ap (most (λ y. size_of y + 1)) (take_rest es p) in
-    (omega (arith, s, same, c.decreases), fit_to _ (shape_of c.in_ok-base.base) (subst (λ (k : ℕ). IsFit k (shape_of c.in_ok-base.base)) (sym base.behind) base.fit))
+    let fit = fit_to (c.in_ok-base.left + length (indices_in (shape_of c.in_ok-base.base))) (shape_of c.in_ok-base.base) (subst (λ (k : ℕ). IsFit k (shape_of c.in_ok-base.base)) (sym base.behind) base.fit) in
+    (omega (arith, s, same, c.decreases), subst (λ (u : Shape). fits (c.in_ok-base.left + length (indices_in (shape_of u))) (shape_of u) ≡ true) (sym c.in_ok-boxed.ensures.ok) fit)
 
 pub listed-returns : goal.listed-returns
 listed-returns t c =
@@ -220,8 +221,9 @@ listed-returns t c =
     let whole = cut_meant names quasi es c.args.tail.now p c.plain_from-place.ensures.plain in
     let base = taken_some c.args.left (shape_meant names quasi (conses (take p es) c.args.tail.now)) (shape_of c.in_ok-base.base) c.in_ok-base.left c.in_ok-base.ensures in
     gives_at shape_left c.before-2.result
-    ((λ k. taken (base.behind k) (before_meant names quasi (take_rest es p k) (shape_of c.in_ok-base.base)))
-    ∙ ap (taken c.args.left) (sym (whole ∙ ap (option_and_then (before_meant names quasi (drop p es))) base.is)))
+    (ap (λ (u : Shape). taken (c.in_ok-base.left + length (indices_in (shape_of u))) (before_meant names quasi (take (length es - p) (drop p es)) (shape_of u))) c.in_ok-boxed.ensures.ok
+    ∙ ((λ k. taken (base.behind k) (before_meant names quasi (take_rest es p k) (shape_of c.in_ok-base.base)))
+    ∙ ap (taken c.args.left) (sym (whole ∙ ap (option_and_then (before_meant names quasi (drop p es))) base.is))))
     c.before-2.ensures
 
 -- ---- shape
@@ -239,11 +241,11 @@ shape-returns t c =
 -- ---- before
 pub before-loop-element-init : goal.before-loop-element-init
 before-loop-element-init t c =
-    let none : pairs (map shape_of c.new-shapes.result.items) (shape_of c.args.base) ≡ shape_of c.args.base = ap (λ (ss : List Shape). pairs (map shape_of ss) (shape_of c.args.base)) c.new-shapes.ensures.items in
-    let whole = c.args.left + length (indices_in (shape_of c.args.base)) in
+    let none : pairs (map shape_of c.new-shapes.result.items) (shape_of c.args.base.value) ≡ shape_of c.args.base.value = ap (λ (ss : List Shape). pairs (map shape_of ss) (shape_of c.args.base.value)) c.new-shapes.ensures.items in
+    let whole = c.args.left + length (indices_in (shape_of c.args.base.value)) in
     record {
       same = ap (λ (u : ShapeSeen). taken whole (before_meant c.args.self.now.texts.now c.args.self.now.quasi c.args.elements.now u)) none;
-      fit = subst (IsFit whole) (sym none) (fit_from whole (shape_of c.args.base) c.requires);
+      fit = subst (IsFit whole) (sym none) (fit_from whole (shape_of c.args.base.value) c.requires);
       kept = refl;
       behind = ap (λ (u : ShapeSeen). c.args.left + length (indices_in u)) none;
     }
@@ -255,8 +257,8 @@ before-returns-in_err-shape t c =
     let es = c.args.elements.now in
     let k = c.loop-element.element-index in
     let x = c.element-item.result in
-    let acc = pairs (map shape_of c.loop-element.shapes.items) (shape_of c.args.base) in
-    let whole = c.args.left + length (indices_in (shape_of c.args.base)) in
+    let acc = pairs (map shape_of c.loop-element.shapes.items) (shape_of c.args.base.value) in
+    let whole = c.args.left + length (indices_in (shape_of c.args.base.value)) in
     let next = drop_at_item es k x c.loop-element-test.true c.element-item.is in
     gives_err shape_left c.from_residual.result c.in_err-shape.field-0.0 _ (err_from_is_err_and c.from_residual.result c.from_residual.ensures.1)
     (refuses_none c.in_err-shape.field-0.0 (taken c.loop-element.left (shape_meant names quasi x)) _
@@ -276,13 +278,13 @@ before-loop-element-preserved t c =
     let k = c.loop-element.element-index in
     let x = c.element-item.result in
     let s = shape_of c.in_ok-shape.shape in
-    let acc = pairs (map shape_of c.loop-element.shapes.items) (shape_of c.args.base) in
-    let whole = c.args.left + length (indices_in (shape_of c.args.base)) in
+    let acc = pairs (map shape_of c.loop-element.shapes.items) (shape_of c.args.base.value) in
+    let whole = c.args.left + length (indices_in (shape_of c.args.base.value)) in
     let next = drop_at_item es k x c.loop-element-test.true c.element-item.is in
     let one = taken_some c.loop-element.left (shape_meant names quasi x) s c.in_ok-shape.less c.in_ok-shape.ensures in
-    let pushed : pairs (map shape_of c.push.new.self.items) (shape_of c.args.base) ≡ Pair s acc =
-    ap (λ (ss : List Shape). pairs (map shape_of ss) (shape_of c.args.base)) c.in_ok-push.ensures.items
-    ∙ (ap (λ (ss : List ShapeSeen). pairs ss (shape_of c.args.base)) (map-append shape_of c.loop-element.shapes.items (c.in_ok-shape.shape ∷ [])) ∙ pairs_push (map shape_of c.loop-element.shapes.items) s (shape_of c.args.base)) in
+    let pushed : pairs (map shape_of c.push.new.self.items) (shape_of c.args.base.value) ≡ Pair s acc =
+    ap (λ (ss : List Shape). pairs (map shape_of ss) (shape_of c.args.base.value)) c.in_ok-push.ensures.items
+    ∙ (ap (λ (ss : List ShapeSeen). pairs ss (shape_of c.args.base.value)) (map-append shape_of c.loop-element.shapes.items (c.in_ok-shape.shape ∷ [])) ∙ pairs_push (map shape_of c.loop-element.shapes.items) s (shape_of c.args.base.value)) in
     record {
       same = ap (λ (u : ShapeSeen). taken whole (before_meant names quasi (drop (k + 1) es) u)) pushed
           ∙ (ap (taken whole) (sym (before_more names quasi x (drop (k + 1) es) s acc one.is))
@@ -297,10 +299,10 @@ before-returns t c =
     let names = c.args.self.now.texts.now in
     let quasi = c.args.self.now.quasi in
     let es = c.args.elements.now in
-    let acc = pairs (map shape_of c.loop-element.shapes.items) (shape_of c.args.base) in
-    let whole = c.args.left + length (indices_in (shape_of c.args.base)) in
+    let acc = pairs (map shape_of c.loop-element.shapes.items) (shape_of c.args.base.value) in
+    let whole = c.args.left + length (indices_in (shape_of c.args.base.value)) in
     let none : drop c.loop-element.element-index es ≡ [] = drop_all c.loop-element.element-index es c.loop-element-test.false in
     sym c.loop-element.invariant.same
     ∙ (ap (λ (ys : List Object). taken whole (before_meant names quasi ys acc)) none
     ∙ (taken_is whole c.loop-element.left (Some acc) acc refl c.loop-element.invariant.fit c.loop-element.invariant.behind
-    ∙ ap (some_shape c.loop-element.left) (ap (pairs (map shape_of c.loop-element.shapes.items)) (sym c.loop-element.invariant.kept) ∙ sym c.in_ok-list.ensures)))
+    ∙ ap (some_shape c.loop-element.left) (ap (pairs (map shape_of c.loop-element.shapes.items)) (sym c.loop-element.invariant.kept) ∙ sym c.list.ensures)))

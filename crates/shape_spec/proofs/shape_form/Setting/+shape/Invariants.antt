@@ -24,11 +24,11 @@ decreases-before l = 4 * most (λ y. size_of y + 1) l.elements.now
 
 abbrev pub invariant-before-loop-element : goal.invariant-before-loop-element
 invariant-before-loop-element l =
-    let whole = l.fn.left + length (indices_in (shape_of l.fn.base)) in
-    let so_far = pairs (map shape_of l.shapes.items) (shape_of l.fn.base) in
+    let whole = l.fn.left + length (indices_in (shape_of l.fn.base.value)) in
+    let so_far = pairs (map shape_of l.shapes.items) (shape_of l.fn.base.value) in
     record {
-      same : taken whole (before_meant l.self.texts.now l.self.quasi (drop l.element-index l.elements) so_far) ≡ taken whole (before_meant l.self.texts.now l.self.quasi l.elements (shape_of l.fn.base));
+      same : taken whole (before_meant l.self.texts.now l.self.quasi (drop l.element-index l.elements) so_far) ≡ taken whole (before_meant l.self.texts.now l.self.quasi l.elements (shape_of l.fn.base.value));
       fit : IsFit whole so_far;
-      kept : shape_of l.base ≡ shape_of l.fn.base;
+      kept : shape_of l.base.value ≡ shape_of l.fn.base.value;
       behind : l.left + length (indices_in so_far) ≡ whole;
     }

@@ -4,7 +4,7 @@ use Rattle.shape_spec.specs.Indices.{variables_of, width_of, IsBindings}
 use Rattle.shape_spec.specs.Wording.{is_legal}
 use Rattle.shape_spec.specs.ItemsMeant.{shape_at, places_of}
 use Rattle.shape_spec.specs.Gives.{variable_of}
-use Rattle.shape_spec.proofs.binding_form.placed.Given as goal
+use Rattle.shape_spec.proofs.binding_form.add_places.Given as goal
 
 abbrev pub invariant-loop-variable : goal.invariant-loop-variable
 invariant-loop-variable l = record {

@@ -13,7 +13,7 @@ use Rattle.shape_spec.specs.declared.item_form.ItemVariable.{ItemVariable}
 use Rattle.shape_spec.proofs.Fits.{IsFit, some_same, gives_err, refuses_none, fit_to, taken_some, taken_none}
 use Rattle.shape_spec.proofs.Bound.{bindings_none}
 use Rattle.shape_spec.proofs.BindingSteps.{bindings_good, good_to, legal_push, checked_at, unfit, added_bad, slots_more, slots_bad}
-use Rattle.shape_spec.proofs.binding_form.placed.Goals as goal
+use Rattle.shape_spec.proofs.binding_form.add_places.Goals as goal
 
 abbrev bound_by : List ℕ → ℕ × Bool → ℕ × ShapeSeen
 bound_by slots v = (v.0, shape_at v.1 (places_of v.0 slots))
@@ -21,13 +21,13 @@ bound_by slots v = (v.0, shape_at v.1 (places_of v.0 slots))
 pub loop-variable-init : goal.loop-variable-init
 loop-variable-init c =
     let names = c.args.texts.now in
-    let none = c.new-all.ensures in
+    let none = c.requires.none in
     record {
       so_far = none;
       proper = subst IsBindings (sym none) bindings_none;
       left = ap (λ (d : List (ℕ × ShapeSeen)). 1024 + width_of d) none;
       legal = ap (λ (d : List (ℕ × ShapeSeen)). list_all (is_legal names) (variables_of d)) none;
-      seen = c.new-seen.ensures ∙ ap variables_of (sym none);
+      seen = c.requires.none_seen ∙ ap variables_of (sym none);
     }
 
 abbrev first : ItemVariable
@@ -53,7 +53,7 @@ returns-in_err-shape c =
     let places = c.in_ok-places.places.items in
     let same = same_shape slots c.as_slice.result.now places v c.as_slice.ensures.value c.in_ok-places.ensures in
     let whole = ap (λ (ws : List ItemVariable). checked names (Some (map (bound_by slots) (map variable_of ws)))) (sym c.deref-variable-items.ensures.value) in
-    gives_err (λ b. b) c.from_residual-in_err-shape.result c.in_err-shape.field-0.0 _ (err_from_is_err_and c.from_residual-in_err-shape.result c.from_residual-in_err-shape.ensures.1)
+    gives_err _ c.from_residual-in_err-shape.result c.in_err-shape.field-0.0 _ (err_from_is_err_and c.from_residual-in_err-shape.result c.from_residual-in_err-shape.ensures.1)
     (refuses_none c.in_err-shape.field-0.0 (taken c.loop-variable.left (Some (shape_at v.is_boolean places))) _
     (λ e. whole ∙ slots_bad names (bound_by slots) vs k first c.loop-variable-test.true
     (ap (λ (d : List (ℕ × ShapeSeen)). are_bindings names (d ++ bound_by slots (variable_of v) ∷ [])) (sym c.loop-variable.invariant.so_far)
@@ -77,7 +77,7 @@ returns-in_err-add c =
     let p : ℕ × ShapeSeen = (v.name.number, shape_of c.in_ok-shape.shape) in
     let one : p ≡ bound_by slots (variable_of v) = one_bound slots c.as_slice.result.now c.in_ok-places.places.items v c.loop-variable.left c.in_ok-shape.field-0-1 (shape_of c.in_ok-shape.shape) c.as_slice.ensures.value c.in_ok-places.ensures c.in_ok-shape.ensures in
     let whole = ap (λ (ws : List ItemVariable). checked names (Some (map (bound_by slots) (map variable_of ws)))) (sym c.deref-variable-items.ensures.value) in
-    gives_err (λ b. b) c.from_residual-in_err-add.result c.in_err-add.field-0.0 _ (err_from_is_err_and c.from_residual-in_err-add.result c.from_residual-in_err-add.ensures.1)
+    gives_err _ c.from_residual-in_err-add.result c.in_err-add.field-0.0 _ (err_from_is_err_and c.from_residual-in_err-add.result c.from_residual-in_err-add.ensures.1)
     (added_bad names c.loop-variable.all p c.add.new.all c.in_err-add.field-0.0 _
     (λ e. whole ∙ slots_bad names (bound_by slots) vs k first c.loop-variable-test.true ((λ i. are_bindings names (sym c.loop-variable.invariant.so_far i ++ sym one i ∷ [])) ∙ e)) c.in_err-add.ensures.adds)
 

@@ -4,7 +4,7 @@ use Rattle.shape_spec.specs.Indices.{variables_of, width_of, IsBindings}
 use Rattle.shape_spec.specs.Wording.{is_legal, all_meant}
 use Rattle.shape_spec.specs.BindingsMeant.{entry_meant}
 use Rattle.shape_spec.proofs.InReverse.{left_of}
-use Rattle.shape_spec.proofs.binding_form.listed.Given as goal
+use Rattle.shape_spec.proofs.binding_form.add_entries.Given as goal
 
 abbrev pub invariant-loop-place : goal.invariant-loop-place
 invariant-loop-place l =

@@ -11,20 +11,20 @@ use Rattle.shape_spec.proofs.InReverse.{started, read_more, read_all, left_of}
 use Rattle.shape_spec.proofs.Fits.{gives_err, refuses_none}
 use Rattle.shape_spec.proofs.Bound.{bindings_none}
 use Rattle.shape_spec.proofs.BindingSteps.{bindings_good, good_to, legal_push, checked_at, entry_bad, entry_none, entry_some, added_bad}
-use Rattle.shape_spec.proofs.binding_form.listed.Goals as goal
+use Rattle.shape_spec.proofs.binding_form.add_entries.Goals as goal
 
 pub loop-place-init : goal.loop-place-init
 loop-place-init c =
     let names = c.args.setting.now.texts.now in
     let f = entry_meant names c.args.setting.now.quasi in
-    let none = c.new-all.ensures in
+    let none = c.requires.none in
     record {
       within = omega arith;
       so_far = started f c.args.entries.now (length c.args.entries.now) refl ∙ ap (λ (d : List (ℕ × ShapeSeen)). left_of f c.args.entries.now d (length c.args.entries.now)) (sym none);
       proper = subst IsBindings (sym none) bindings_none;
       left = ap (λ (d : List (ℕ × ShapeSeen)). 1024 + width_of d) none;
       legal = ap (λ (d : List (ℕ × ShapeSeen)). list_all (is_legal names) (variables_of d)) none;
-      seen = c.new-seen.ensures ∙ ap variables_of (sym none);
+      seen = c.requires.none_seen ∙ ap variables_of (sym none);
     }
 
 pub returns-in_err-variable : goal.returns-in_err-variable
@@ -36,7 +36,7 @@ returns-in_err-variable c =
     let x = c.index-entries-place.result in
     let inside : place < length entries = omega (arith, c.loop-place-test.true, c.loop-place.invariant.within) in
     let next : c.loop-place.place ≡ place + 1 = omega (arith, c.loop-place-test.true) in
-    gives_err (λ b. b) c.from_residual.result c.in_err-variable.field-0.0 _ (err_from_is_err_and c.from_residual.result c.from_residual.ensures.1)
+    gives_err _ c.from_residual.result c.in_err-variable.field-0.0 _ (err_from_is_err_and c.from_residual.result c.from_residual.ensures.1)
     (refuses_none c.in_err-variable.field-0.0 (entry_within c.loop-place.left (f x)) _
     (λ e. ap (checked names) c.loop-place.invariant.so_far ∙ entry_none names f entries c.loop-place.all place c.loop-place.place x inside next c.index-entries-place.is c.loop-place.left c.loop-place.invariant.left e) c.in_err-variable.ensures)
 
@@ -58,7 +58,7 @@ returns-in_err-add c =
     let inside : place < length entries = omega (arith, c.loop-place-test.true, c.loop-place.invariant.within) in
     let next : c.loop-place.place ≡ place + 1 = omega (arith, c.loop-place-test.true) in
     let one = entry_some c.loop-place.left (f x) p c.in_ok-variable.ensures in
-    gives_err (λ b. b) c.from_residual-in_err-add.result c.in_err-add.field-0.0 _ (err_from_is_err_and c.from_residual-in_err-add.result c.from_residual-in_err-add.ensures.1)
+    gives_err _ c.from_residual-in_err-add.result c.in_err-add.field-0.0 _ (err_from_is_err_and c.from_residual-in_err-add.result c.from_residual-in_err-add.ensures.1)
     (added_bad names c.loop-place.all p c.add.new.all c.in_err-add.field-0.0 _
     (λ e. ap (checked names) c.loop-place.invariant.so_far ∙ entry_bad names f entries c.loop-place.all place c.loop-place.place x inside next c.index-entries-place.is p one.is e) c.in_err-add.ensures.adds)
 
