@@ -1,6 +1,6 @@
 //! Whether the free variables of a term are bound.
 
-ghost use Rattle.std.specs.Prelude.{◌≡◌, ◌≤◌, ℕ, ◌||◌, eqb, length, take, IfOk, OnOk};
+ghost use Rattle.std.specs.Prelude.{◌≡◌, ◌≤◌, ℕ, ◌||◌, ◌&&◌, [], eqb, length, take, IfOk, OnOk};
 ghost use Rattle.std.specs.List.{list_any};
 ghost use Rattle.gl_logic.specs.TermOf.{term_of, terms_of};
 ghost use Rattle.gl_translate.specs.Meaning.{also_bound};
@@ -84,10 +84,19 @@ fn variables(alloc: Global, bindings: &Bindings) -> Result<NameSet, NoMemory>
     ensures { IfOk result (λ ns. (v : ℕ) → list_any (eqb v) ns ≡ list_any (eqb v) (variables_of bindings.now)) }
 {
     let mut names = NameSet::new(alloc);
+    note_variables(bindings, &mut names)?;
+    Ok(names)
+}
+
+/// Puts the variables of bindings into a set that has none.
+fn note_variables(bindings: &Bindings, names: &mut NameSet) -> Result<(), NoMemory>
+    requires { names.old ≡ [] }
+    ensures { OnOk result ((v : ℕ) → list_any (eqb v) names.new ≡ list_any (eqb v) (variables_of bindings.now)) }
+{
     for i in 0..bindings.len() {
         names.insert(bindings.variable(i))?;
     }
-    Ok(names)
+    Ok(())
 }
 
 /// Whether bindings bind each free variable of a hypothesis and of a conclusion.
@@ -100,8 +109,15 @@ pub(crate) fn binds(
     ensures { IfOk result (λ b. b ≡ binds_meant bindings.now (term_of hyp.now) (term_of concl.now)) }
 {
     let mut bound = variables(alloc, bindings)?;
-    if !has_only(hyp, &mut bound)? {
+    have_both_only(hyp, concl, &mut bound)
+}
+
+/// Whether each free variable of two terms is in a set. The set is afterwards as it was.
+fn have_both_only(first: &Term, second: &Term, bound: &mut NameSet) -> Result<bool, NoMemory>
+    ensures { IfOk result (λ b. b ≡ (only_in (are_in bound.old) (term_of first.now) && only_in (are_in bound.old) (term_of second.now))) }
+{
+    if !has_only(first, bound)? {
         return Ok(false);
     }
-    has_only(concl, &mut bound)
+    has_only(second, bound)
 }

@@ -1,6 +1,6 @@
 //! Definitions that may call one another.
 
-ghost use Rattle.std.specs.Prelude.{◌≡◌, [], map, length, take, not, false, IfOk, OnOk, OnErr};
+ghost use Rattle.std.specs.Prelude.{◌≡◌, [], ◌∷◌, ◌++◌, map, length, take, not, false, IfOk, OnOk, OnErr};
 ghost use Rattle.std.specs.List.{list_any};
 ghost use Rattle.gl_logic.specs.DefinitionOf.{definition_of};
 ghost use Rattle.gl_logic.specs.Definition.{Definition};
@@ -32,15 +32,22 @@ fn owns(alloc: Global, members: &[MadeForm<'_>]) -> Result<Owns, NoMemory>
 {
     let mut own = Owns::new(alloc);
     for member in members {
-        let Ok(formals) = u32::try_from(member.formals.len()) else {
-            return Err(NoMemory);
-        };
-        if own.place(member.name).is_some() {
-            return Err(NoMemory);
-        }
-        own.push(member.name, formals)?;
+        push_own(&mut own, member)?;
     }
     Ok(own)
+}
+
+/// Puts a member last.
+fn push_own(own: &mut Owns, member: &MadeForm<'_>) -> Result<(), NoMemory>
+    ensures { OnOk result (own.new ≡ own.old ++ (member.now.name.number, length member.now.formals) ∷ []) }
+{
+    let Ok(formals) = u32::try_from(member.formals.len()) else {
+        return Err(NoMemory);
+    };
+    if own.place(member.name).is_some() {
+        return Err(NoMemory);
+    }
+    own.push(member.name, formals)
 }
 
 /// The definition of one member.
@@ -59,10 +66,11 @@ fn member(
     ensures every { scope.new.every ≡ false }
 {
     scope.vars = member.formals.copy(alloc)?;
+    let formals = member.formals.copy(alloc)?;
     let body = term_in(alloc, member.body, scope, world, texts)?;
     Ok(Def {
         name: member.name,
-        formals: member.formals.copy(alloc)?,
+        formals,
         body,
         measure: member.stated,
     })
@@ -79,17 +87,54 @@ fn all_members(
     ensures meant { Gives (λ ds. ds) (members_meant texts.old world.now (owns_of (map made_seen members.now)) (map made_seen members.now)) result }
     ensures texts { texts.new ≡ texts.old }
 {
+    let mut all = Defs::new(alloc);
+    define_all(alloc, texts, world, members, &mut all)?;
+    Ok(all)
+}
+
+/// Puts the definitions of all members, in their order, where there is none yet.
+fn define_all(
+    alloc: Global,
+    texts: &mut Texts,
+    world: &World,
+    members: &[MadeForm<'_>],
+    all: &mut Defs,
+) -> Result<(), EventFault>
+    requires name { with_name texts.old [] ≡ texts.old }
+    requires none { all.old ≡ [] }
+    ensures meant { Gives (λ _. all.new) (members_meant texts.old world.now (owns_of (map made_seen members.now)) (map made_seen members.now)) result }
+    ensures texts { texts.new ≡ texts.old }
+{
+    let own = owns(alloc, members)?;
     let mut scope = Scope {
         vars: Names::new(alloc),
         every: false,
-        own: owns(alloc, members)?,
+        own,
     };
-    let mut all = Defs::new(alloc);
+    define_in(alloc, texts, world, members, &mut scope, all)
+}
+
+/// The same in a scope that has the definitions that are being made.
+fn define_in(
+    alloc: Global,
+    texts: &mut Texts,
+    world: &World,
+    members: &[MadeForm<'_>],
+    scope: &mut Scope,
+    all: &mut Defs,
+) -> Result<(), EventFault>
+    requires name { with_name texts.old [] ≡ texts.old }
+    requires own { scope.old.own ≡ owns_of (map made_seen members.now) }
+    requires narrow { scope.old.every ≡ false }
+    requires none { all.old ≡ [] }
+    ensures meant { Gives (λ _. all.new) (members_meant texts.old world.now (owns_of (map made_seen members.now)) (map made_seen members.now)) result }
+    ensures texts { texts.new ≡ texts.old }
+{
     for form in members {
-        let def = member(alloc, texts, world, &mut scope, form)?;
+        let def = member(alloc, texts, world, scope, form)?;
         all.push(def)?;
     }
-    Ok(all)
+    Ok(())
 }
 
 /// Whether no body calls a member, where these are numbered from `first` on.

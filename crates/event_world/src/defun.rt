@@ -35,8 +35,14 @@ fn judged(world: &World, def: Def, stated: Option<Measure>) -> Result<Event, Eve
             body: def.body,
             measure,
         })),
-        Err(AdmitFault::NotAdmitted(call)) => Err(EventFault::NotAdmitted(call)),
-        Err(AdmitFault::Memory) => Err(EventFault::Memory),
+        Err(AdmitFault::NotAdmitted(call)) => {
+            drop(def);
+            Err(EventFault::NotAdmitted(call))
+        }
+        Err(AdmitFault::Memory) => {
+            drop(def);
+            Err(EventFault::Memory)
+        }
     }
 }
 

@@ -84,19 +84,32 @@ fn claimed(
     ensures meant { Gives event_seen (theorem_claimed texts.old world.now mode memoized.now (theorem_form_seen form.now) (clocks.0, clocks.1)) result }
     ensures texts { texts.new ≡ texts.old }
 {
+    let memoized = copy_of(alloc, memoized)?;
     let hyp = hypothesis(alloc, texts, world, form.hyp)?;
-    let concl = claim_term(alloc, form.concl, world, texts)?;
-    let bindings = bindings_for(alloc, texts, form.bindings, &hyp, &concl)?;
-    Ok(Event::Theorem(Thm {
-        name: form.name,
-        hyp,
-        concl,
-        bindings,
-        hyp_clk: clocks.0,
-        concl_clk: clocks.1,
-        mode,
-        memoized: copy_of(alloc, memoized)?,
-    }))
+    let concl = match claim_term(alloc, form.concl, world, texts) {
+        Ok(concl) => concl,
+        Err(fault) => {
+            drop(hyp);
+            return Err(fault);
+        }
+    };
+    match bindings_for(alloc, texts, form.bindings, &hyp, &concl) {
+        Ok(bindings) => Ok(Event::Theorem(Thm {
+            name: form.name,
+            hyp,
+            concl,
+            bindings,
+            hyp_clk: clocks.0,
+            concl_clk: clocks.1,
+            mode,
+            memoized,
+        })),
+        Err(fault) => {
+            drop(hyp);
+            drop(concl);
+            Err(fault)
+        }
+    }
 }
 
 /// `(def-gl-thm n :hyp h :concl c :g-bindings b ..)`, by what stands behind `def-gl-thm`.

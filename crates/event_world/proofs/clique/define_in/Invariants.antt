@@ -2,7 +2,7 @@ use Rattle.std.proofs.Common.{◌≡◌, false, map, drop}
 use Rattle.event_world.specs.CliqueMeant.{owns_of, members_meant}
 use Rattle.event_world.specs.FormsSeen.{made_seen}
 use Rattle.event_world.proofs.MemberLists.{done_then}
-use Rattle.event_world.proofs.clique.all_members.Given as goal
+use Rattle.event_world.proofs.clique.define_in.Given as goal
 
 abbrev pub invariant-loop-form : goal.invariant-loop-form
 invariant-loop-form l = record {

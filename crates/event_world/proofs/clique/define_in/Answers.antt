@@ -6,10 +6,10 @@ use Rattle.gl_logic.specs.DefinitionOf.{definition_of}
 use Rattle.event_world.specs.CliqueMeant.{owns_of, member_meant, members_meant}
 use Rattle.event_world.specs.FormsSeen.{made_seen}
 use Rattle.event_world.proofs.MemberLists.{done_then, member_more}
-use Rattle.event_world.proofs.clique.all_members.Goals as goal
+use Rattle.event_world.proofs.clique.define_in.Goals as goal
 
 pub member-requires-clause-name : goal.member-requires-clause-name
-member-requires-clause-name c = subst (λ (t : List (List ℕ)). with_name t [] ≡ t) (sym c.loop-form.invariant.texts) c.requires
+member-requires-clause-name c = subst (λ (t : List (List ℕ)). with_name t [] ≡ t) (sym c.loop-form.invariant.texts) c.requires.name
 
 pub member-requires-clause-narrow : goal.member-requires-clause-narrow
 member-requires-clause-narrow c = c.loop-form.invariant.every
