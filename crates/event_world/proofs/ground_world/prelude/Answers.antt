@@ -6,6 +6,7 @@ use Rattle.event_world.specs.PreludeTexts.{ground_texts}
 use Rattle.event_world.specs.PreludeRows.{HoldsFirst}
 use Rattle.event_world.proofs.PreludeRows.{how_many_texts}
 use Rattle.event_world.proofs.PreludeWorlds.{is_prelude}
+use Rattle.std.proofs.lemmas.Grind.{common_steps}
 use Rattle.event_world.proofs.ground_world.prelude.Goals as goal
 
 abbrev text_of : Bor (List ℕ) → List ℕ
@@ -26,3 +27,6 @@ returns-clause-world c =
     let l : length (map text_of items) ≡ length ground_texts = ap length c.definitions-text-items.ensures in
     let n : c.loop-text.text-index ≡ 43 = omega (arith, l, length-map items text_of, how_many_texts) in
     is_prelude c.loop-text.texts c.loop-text.world c.is_table.ensures (subst (λ (k : ℕ). HoldsFirst k c.loop-text.texts c.loop-text.world) n c.loop-text.invariant.holds)
+
+pub loop-text-preserved : goal.loop-text-preserved
+loop-text-preserved c = grind (arith, common_steps)

@@ -5,6 +5,7 @@ use Rattle.gl_logic.specs.Lists.{elements_of, tail_of, size_of}
 use Rattle.shape_spec.specs.Wording.{has_mark}
 use Rattle.shape_spec.proofs.Proper.{marks_whole}
 use Rattle.shape_spec.proofs.Proper.{most_of, tail_below}
+use Rattle.std.proofs.lemmas.Grind.{common_steps}
 use Rattle.shape_spec.proofs.words.+marks.Goals as goal
 
 pub has_mark-have_marks-requires : goal.has_mark-have_marks-requires
@@ -26,3 +27,6 @@ has_mark-returns-else-have_marks t c =
     let x = c.args.object.now in
     let none : list_any has_mark (elements_of x) ≡ false = ap (list_any has_mark) (sym c.elements.ensures) ∙ (sym c.have_marks.ensures ∙ c.if-have_marks.false) in
     c.has_mark.ensures ∙ (ap has_mark c.tail.ensures ∙ sym (marks_whole x ∙ ap (λ b. b || has_mark (tail_of x)) none))
+
+pub have_marks-loop-object-preserved : goal.have_marks-loop-object-preserved
+have_marks-loop-object-preserved t c = grind (arith, common_steps)

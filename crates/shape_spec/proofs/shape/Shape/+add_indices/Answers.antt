@@ -4,6 +4,7 @@ use Rattle.shape_spec.specs.Indices.{indices_in}
 use Rattle.shape_spec.specs.declared.shape.Shape.{Shape}
 use Rattle.shape_spec.proofs.Pairs.{list_shape}
 use Rattle.shape_spec.proofs.Conses.{front_indices, front_pairs}
+use Rattle.std.proofs.lemmas.Grind.{common_steps}
 use Rattle.shape_spec.proofs.shape.Shape.+add_indices.Goals as goal
 
 pub returns-in_ok-add_indices-in-List-2 : goal.returns-in_ok-add_indices-in-List-2
@@ -17,3 +18,6 @@ returns-in_ok-add_indices-in-List-2 t c =
     ∙ ((λ k. so_far k ++ tail k)
     ∙ (append_assoc old front (indices_in (shape_of c.in-List.tail.value))
     ∙ ap (λ is. old ++ is) (sym (ap (λ (s : Shape). indices_in (shape_of s)) c.in-List.is ∙ (ap indices_in (list_shape c.in-List.elements c.in-List.tail) ∙ front_pairs c.in-List.elements.items (shape_of c.in-List.tail.value))))))
+
+pub loop-left-preserved : goal.loop-left-preserved
+loop-left-preserved t c = grind (arith, common_steps)
