@@ -1,3 +1,5 @@
+//! Files and writers of the system, and faked ones that fail.
+
 use super::rows::words_in;
 use crate::adapters::{FileShelf, WriterSink, read_some};
 use crate::run::run;
@@ -6,15 +8,16 @@ use gl_base::memory_sink::MemorySink;
 use gl_base::shelf::Shelf;
 use gl_base::sink::Sink;
 use gl_decide::Stalls;
+use std::alloc::AllocError;
 use std::io::{ErrorKind, Read, Write};
+use std::process::Abort;
+use std::rt::Files;
 use std::test::Fail;
+use std::thread::Threads;
 use std::{fs, io};
 
-#[test]
-fn real_file(rt: HostRuntime) -> Result<(), Fail> {
-    let name = "gl_adapters_test.lisp";
-    fs::write(&rt, name, "(a b)")?;
-    let mut shelf = FileShelf::new(&rt);
+/// Opens a file of five bytes and reads it to its end.
+fn read_through<R: Files + Abort>(rt: &R, shelf: &mut FileShelf<R>, name: &str) {
     let mut piece = [0u8; 3];
     assert!(rt; shelf.open("gl_adapters_no_such_file.lisp").is_err());
     assert!(rt; shelf.open(name).is_ok());
@@ -23,29 +26,42 @@ fn real_file(rt: HostRuntime) -> Result<(), Fail> {
     assert_eq!(rt; shelf.read(&mut piece), Ok(2));
     assert_eq!(rt; &piece[..2], b"b)".as_slice());
     assert_eq!(rt; shelf.read(&mut piece), Ok(0));
+}
+
+#[test]
+fn real_file(rt: HostRuntime) -> Result<(), Fail> {
+    let name = "gl_adapters_test.lisp";
+    fs::write(&rt, name, "(a b)")?;
+    read_through(&rt, &mut FileShelf::new(&rt), name);
     fs::remove_file(&rt, name)?;
     Ok(())
+}
+
+/// The code of the status of a run on a folder, and how many stalls it adds.
+fn run_folder<R: AllocGlobal + Files + Threads + Sync>(
+    rt: &R,
+    out: &mut MemorySink,
+) -> Result<(u8, usize), AllocError> {
+    let mut shelf = FileShelf::new(rt);
+    let words = words_in(rt.alloc(), ".")?;
+    let mut stalls = Stalls::new(rt.alloc());
+    let status = run(
+        rt,
+        rt.alloc(),
+        words.as_slice(),
+        &mut shelf,
+        &mut stalls,
+        out,
+    );
+    Ok((status.code(), stalls.len()))
 }
 
 /// A folder opens as a file does, and its first read fails.
 #[test]
 fn folder(rt: HostRuntime) -> Result<(), Fail> {
-    let alloc = rt.alloc();
-    let mut shelf = FileShelf::new(&rt);
-    let mut out = MemorySink::new(alloc, 100, Vec::new(alloc))?;
-    let words = words_in(alloc, ".")?;
-    let mut stalls = Stalls::new(alloc);
-    let status = run(
-        &rt,
-        alloc,
-        words.as_slice(),
-        &mut shelf,
-        &mut stalls,
-        &mut out,
-    );
-    assert_eq!(rt; status.code(), 4);
+    let mut out = MemorySink::new(rt.alloc(), 100, Vec::new(rt.alloc()))?;
+    assert!(rt; run_folder(&rt, &mut out)? == (4, 0));
     assert_eq!(rt; out.bytes(), b"".as_slice());
-    assert_eq!(rt; stalls.len(), 0);
     Ok(())
 }
 
@@ -85,19 +101,30 @@ impl Read for Uneven {
     }
 }
 
-#[test]
-fn uneven_writer(rt: HostRuntime) -> Result<(), Fail> {
-    let mut sink = WriterSink::new(Uneven {
-        taken: Vec::new(rt.alloc()),
-        calls: 0,
-    });
+fn write_twice(rt: &impl Abort, sink: &mut WriterSink<Uneven>) {
     assert_eq!(rt; sink.write(b"abc"), Ok(2));
     assert_eq!(rt; sink.write(b"c"), Err(Failed));
     assert_eq!(rt; sink.write(b"c"), Err(Failed));
     assert_eq!(rt; sink.write(b"c"), Ok(1));
     assert_eq!(rt; sink.flush(), Err(Failed));
+}
+
+#[test]
+fn uneven_writer(rt: HostRuntime) {
+    let mut sink = WriterSink::new(Uneven {
+        taken: Vec::new(rt.alloc()),
+        calls: 0,
+    });
+    write_twice(&rt, &mut sink);
     assert_eq!(rt; sink.into_writer().taken.as_slice(), b"abc".as_slice());
-    Ok(())
+}
+
+fn read_twice(rt: &impl Abort, reader: &mut Uneven) {
+    let mut piece = [0u8; 3];
+    assert_eq!(rt; read_some(reader, &mut piece), Ok(2));
+    assert_eq!(rt; &piece[..2], b"ab".as_slice());
+    assert_eq!(rt; read_some(reader, &mut piece), Ok(0));
+    assert_eq!(rt; read_some(reader, &mut piece), Err(Failed));
 }
 
 #[test]
@@ -106,11 +133,7 @@ fn uneven_reader(rt: HostRuntime) -> Result<(), Fail> {
         taken: b"ab".to_vec(rt.alloc())?,
         calls: 0,
     };
-    let mut piece = [0u8; 3];
-    assert_eq!(rt; read_some(&mut reader, &mut piece), Ok(2));
-    assert_eq!(rt; &piece[..2], b"ab".as_slice());
-    assert_eq!(rt; read_some(&mut reader, &mut piece), Ok(0));
-    assert_eq!(rt; read_some(&mut reader, &mut piece), Err(Failed));
+    read_twice(&rt, &mut reader);
     Ok(())
 }
 

@@ -1,14 +1,21 @@
+//! Books of values and of theorems, and outsides that fail, that take a little at a time, and that never fail.
+
 ghost use Rattle.std.specs.Prelude.{◌<◌, Some};
 
-use super::rows::{each_gives, gives, shelf_of, words_in};
+use super::rows::{FaultRow, each_fault_gives, each_gives, shelf_of, texts_of, words_in};
 use crate::run::run;
 use gl_base::failed::Failed;
+use gl_base::memory_shelf::MemoryShelf;
 use gl_base::memory_sink::MemorySink;
+use gl_base::shelf::Shelf;
 use gl_base::sink::Sink;
 use gl_base::sure_shelf::SureShelf;
 use gl_base::sure_sink::SureSink;
 use gl_decide::Stalls;
+use std::alloc::{AllocError, Global};
+use std::process::Abort;
 use std::test::Fail;
+use std::thread::Threads;
 
 const FIRST_BOOK: &str = "(value-triple (car (cons 'a 2)))\n";
 
@@ -16,123 +23,125 @@ const FIRST_LINES: &str = "VALUE A\nDONE proved=0 vacuous=0 refuted=0 undecided=
 
 const NO_LINES: &str = "DONE proved=0 vacuous=0 refuted=0 undecided=0\n";
 
+/// Books, their lines but for the last, and the codes of their statuses.
+const VALUES: [(&str, &str, u8); 13] = [
+    (FIRST_BOOK, "VALUE A\n", 0),
+    ("(value-triple (equal (cons 1 nil) '(1)))", "VALUE T\n", 0),
+    ("", "", 0),
+    ("\n \n", "", 0),
+    (
+        "(VALUE-triple 007)(value-triple -12)",
+        "VALUE 7\nVALUE -12\n",
+        0,
+    ),
+    (
+        "(value-triple t) (value-triple nil) (value-triple ())",
+        "VALUE T\nVALUE NIL\nVALUE NIL\n",
+        0,
+    ),
+    (
+        "(value-triple '(1 (b-2 c) () -0 'd))",
+        "VALUE (1 (B-2 C) NIL 0 (QUOTE D))\n",
+        0,
+    ),
+    ("(value-triple (cons 1 (cons 2 3)))", "VALUE (1 2 . 3)\n", 0),
+    (
+        "(value-triple (cdr '(1 2)))(value-triple (cdr 5))",
+        "VALUE (2)\nVALUE NIL\n",
+        0,
+    ),
+    (
+        "(value-triple (if (equal 'x 'y) 1 (if 0 2 3)))",
+        "VALUE 2\n",
+        0,
+    ),
+    (
+        "(value-triple '(a . (#\\Space \"q\\\"r\" :k -0)))",
+        "VALUE (A #\\Space \"q\\\"r\" :K 0)\n",
+        0,
+    ),
+    (
+        "(value-triple -170141183460469231731687303715884105728)",
+        "VALUE -170141183460469231731687303715884105728\n",
+        0,
+    ),
+    (
+        "; one\n(value-triple #| two #| three |# |# 1) ; and no end",
+        "VALUE 1\n",
+        0,
+    ),
+];
+
 #[test]
 fn books_of_values(rt: HostRuntime) -> Result<(), Fail> {
-    let rows = [
-        (FIRST_BOOK, "VALUE A\n", 0),
-        ("(value-triple (equal (cons 1 nil) '(1)))", "VALUE T\n", 0),
-        ("", "", 0),
-        ("\n \n", "", 0),
-        (
-            "(VALUE-triple 007)(value-triple -12)",
-            "VALUE 7\nVALUE -12\n",
-            0,
-        ),
-        (
-            "(value-triple t) (value-triple nil) (value-triple ())",
-            "VALUE T\nVALUE NIL\nVALUE NIL\n",
-            0,
-        ),
-        (
-            "(value-triple '(1 (b-2 c) () -0 'd))",
-            "VALUE (1 (B-2 C) NIL 0 (QUOTE D))\n",
-            0,
-        ),
-        ("(value-triple (cons 1 (cons 2 3)))", "VALUE (1 2 . 3)\n", 0),
-        (
-            "(value-triple (cdr '(1 2)))(value-triple (cdr 5))",
-            "VALUE (2)\nVALUE NIL\n",
-            0,
-        ),
-        (
-            "(value-triple (if (equal 'x 'y) 1 (if 0 2 3)))",
-            "VALUE 2\n",
-            0,
-        ),
-        (
-            "(value-triple '(a . (#\\Space \"q\\\"r\" :k -0)))",
-            "VALUE (A #\\Space \"q\\\"r\" :K 0)\n",
-            0,
-        ),
-        (
-            "(value-triple -170141183460469231731687303715884105728)",
-            "VALUE -170141183460469231731687303715884105728\n",
-            0,
-        ),
-        (
-            "; one\n(value-triple #| two #| three |# |# 1) ; and no end",
-            "VALUE 1\n",
-            0,
-        ),
-    ];
-    each_gives(&rt, &rows, NO_LINES)
+    each_gives(&rt, &VALUES, NO_LINES)
 }
+
+/// Books, their lines, and the codes of their statuses.
+const THEOREMS: [(&str, &str, u8); 6] = [
+    (
+        "(def-gl-thm small :hyp (unsigned-byte-p 4 x) :concl (< x 15) :g-bindings (auto-bindings (:nat x 4)))",
+        "REFUTED SMALL\n  X = 15\nDONE proved=0 vacuous=0 refuted=1 undecided=0\n",
+        1,
+    ),
+    (
+        "(def-gl-thm short :hyp (unsigned-byte-p 8 x) :concl (< x 256) :g-bindings (auto-bindings (:nat x 7)))",
+        "UNDECIDED SHORT uncovered X\nDONE proved=0 vacuous=0 refuted=0 undecided=1\n",
+        3,
+    ),
+    (
+        "(def-gl-thm short :hyp (unsigned-byte-p 8 x) :concl (< x 256) :g-bindings (auto-bindings (:nat x 8)))",
+        "PROVED SHORT\nDONE proved=1 vacuous=0 refuted=0 undecided=0\n",
+        0,
+    ),
+    (
+        "(def-gl-thm none :hyp (if (unsigned-byte-p 2 x) (< x 0) nil) :concl (equal x 7) :g-bindings (auto-bindings (:nat x 2)))",
+        "VACUOUS NONE\nDONE proved=0 vacuous=1 refuted=0 undecided=0\n",
+        0,
+    ),
+    (
+        "(def-gl-thm wide :hyp (unsigned-byte-p 12 x) :concl (< x 4096) :g-bindings (auto-bindings (:nat x 12)))",
+        "PROVED WIDE\nDONE proved=1 vacuous=0 refuted=0 undecided=0\n",
+        0,
+    ),
+    // 1,024 indices
+    (
+        "(def-gl-thm n :hyp t :concl t :g-bindings (auto-bindings (:nat a 127) (:nat b 127) (:nat c 127) (:nat d 127) (:nat e 127) (:nat f 127) (:nat g 127) (:nat h 127)))",
+        "PROVED N\nDONE proved=1 vacuous=0 refuted=0 undecided=0\n",
+        0,
+    ),
+];
 
 #[test]
 fn books_of_theorems(rt: HostRuntime) -> Result<(), Fail> {
-    let rows = [
-        (
-            "(def-gl-thm small :hyp (unsigned-byte-p 4 x) :concl (< x 15) :g-bindings (auto-bindings (:nat x 4)))",
-            "REFUTED SMALL\n  X = 15\nDONE proved=0 vacuous=0 refuted=1 undecided=0\n",
-            1,
-        ),
-        (
-            "(def-gl-thm short :hyp (unsigned-byte-p 8 x) :concl (< x 256) :g-bindings (auto-bindings (:nat x 7)))",
-            "UNDECIDED SHORT uncovered X\nDONE proved=0 vacuous=0 refuted=0 undecided=1\n",
-            3,
-        ),
-        (
-            "(def-gl-thm short :hyp (unsigned-byte-p 8 x) :concl (< x 256) :g-bindings (auto-bindings (:nat x 8)))",
-            "PROVED SHORT\nDONE proved=1 vacuous=0 refuted=0 undecided=0\n",
-            0,
-        ),
-        (
-            "(def-gl-thm none :hyp (if (unsigned-byte-p 2 x) (< x 0) nil) :concl (equal x 7) :g-bindings (auto-bindings (:nat x 2)))",
-            "VACUOUS NONE\nDONE proved=0 vacuous=1 refuted=0 undecided=0\n",
-            0,
-        ),
-        (
-            "(def-gl-thm wide :hyp (unsigned-byte-p 12 x) :concl (< x 4096) :g-bindings (auto-bindings (:nat x 12)))",
-            "PROVED WIDE\nDONE proved=1 vacuous=0 refuted=0 undecided=0\n",
-            0,
-        ),
-        // 1,024 indices
-        (
-            "(def-gl-thm n :hyp t :concl t :g-bindings (auto-bindings (:nat a 127) (:nat b 127) (:nat c 127) (:nat d 127) (:nat e 127) (:nat f 127) (:nat g 127) (:nat h 127)))",
-            "PROVED N\nDONE proved=1 vacuous=0 refuted=0 undecided=0\n",
-            0,
-        ),
-    ];
-    each_gives(&rt, &rows, "")
+    each_gives(&rt, &THEOREMS, "")
 }
+
+/// The calls of a run are the open, the bytes and the end; and no text has the last name.
+const SHELF_FAULTS: [FaultRow; 5] = [
+    ("b", 1, 0, "", 4),
+    ("b", 2, 0, "", 4),
+    ("b", 3, 0, "", 4),
+    ("b", 4, 0, FIRST_LINES, 0),
+    ("c", 4, 0, "", 4),
+];
 
 #[test]
 fn faults_of_the_shelf(rt: HostRuntime) -> Result<(), Fail> {
-    // the calls of a run: open, the bytes, the end; and no text has the last name
-    for (words, call, want) in [
-        ("b", 1, ("", 4)),
-        ("b", 2, ("", 4)),
-        ("b", 3, ("", 4)),
-        ("b", 4, (FIRST_LINES, 0)),
-        ("c", 4, ("", 4)),
-    ] {
-        gives(&rt, words, FIRST_BOOK, (&[call], &[]), want)?;
-    }
-    Ok(())
+    each_fault_gives(&rt, FIRST_BOOK, &SHELF_FAULTS)
 }
+
+/// The calls of a run are two lines and the flush.
+const SINK_FAULTS: [FaultRow; 4] = [
+    ("b", 0, 1, "", 5),
+    ("b", 0, 2, "VALUE A\n", 5),
+    ("b", 0, 3, FIRST_LINES, 5),
+    ("b", 0, 4, FIRST_LINES, 0),
+];
 
 #[test]
 fn faults_of_the_sink(rt: HostRuntime) -> Result<(), Fail> {
-    // the calls of a run: two lines, the flush
-    for (call, want) in [
-        (1, ("", 5)),
-        (2, ("VALUE A\n", 5)),
-        (3, (FIRST_LINES, 5)),
-        (4, (FIRST_LINES, 0)),
-    ] {
-        gives(&rt, "b", FIRST_BOOK, (&[], &[call]), want)?;
-    }
-    Ok(())
+    each_fault_gives(&rt, FIRST_BOOK, &SINK_FAULTS)
 }
 
 /// A sink that takes a few bytes at a time.
@@ -157,52 +166,75 @@ impl Sink for Slow {
     }
 }
 
+/// The code of the status of a run with these words.
+fn code_of<R: AllocGlobal + Threads + Sync, S: Shelf, K: Sink>(
+    rt: &R,
+    words: &str,
+    shelf: &mut S,
+    out: &mut K,
+) -> Result<u8, AllocError> {
+    let words = words_in(rt.alloc(), words)?;
+    let mut stalls = Stalls::new(rt.alloc());
+    let status = run(rt, rt.alloc(), words.as_slice(), shelf, &mut stalls, out);
+    Ok(status.code())
+}
+
+/// A shelf with the first book.
+fn first_shelf(alloc: Global) -> Result<MemoryShelf, Fail> {
+    let book = FIRST_BOOK.as_bytes().to_vec(alloc)?;
+    shelf_of(alloc, book, 0)
+}
+
+/// A sink that takes so many bytes at a time.
+fn slow_sink(alloc: Global, step: usize) -> Result<Slow, Fail>
+    requires { 0 < step }
+{
+    let inner = MemorySink::new(alloc, 100, Vec::new(alloc))?;
+    Ok(Slow { inner, step })
+}
+
+fn try_slow<R: AllocGlobal + Threads + Sync + Abort>(
+    rt: &R,
+    shelf: &mut MemoryShelf,
+    out: &mut Slow,
+) -> Result<(), Fail> {
+    let code = code_of(rt, "b", shelf, out)?;
+    assert_eq!(rt; out.inner.bytes(), FIRST_LINES.as_bytes());
+    assert_eq!(rt; code, 0);
+    Ok(())
+}
+
+fn try_step<R: AllocGlobal + Threads + Sync + Abort>(rt: &R, step: usize) -> Result<(), Fail>
+    requires { 0 < step }
+{
+    let mut shelf = first_shelf(rt.alloc())?;
+    let mut out = slow_sink(rt.alloc(), step)?;
+    try_slow(rt, &mut shelf, &mut out)
+}
+
 #[test]
 fn slow_sinks(rt: HostRuntime) -> Result<(), Fail> {
-    let alloc = rt.alloc();
-    for step in [1, 3] {
-        let mut shelf = shelf_of(alloc, FIRST_BOOK.as_bytes().to_vec(alloc)?, Vec::new(alloc))?;
-        let inner = MemorySink::new(alloc, 100, Vec::new(alloc))?;
-        let mut out = Slow { inner, step };
-        let words = words_in(alloc, "b")?;
-        let mut stalls = Stalls::new(alloc);
-        let status = run(
-            &rt,
-            alloc,
-            words.as_slice(),
-            &mut shelf,
-            &mut stalls,
-            &mut out,
-        );
-        assert_eq!(rt; out.inner.bytes(), FIRST_LINES.as_bytes());
-        assert_eq!(rt; status.code(), 0);
-    }
+    try_step(&rt, 1)?;
+    try_step(&rt, 3)
+}
+
+fn try_sure<R: AllocGlobal + Threads + Sync + Abort>(
+    rt: &R,
+    shelf: &mut SureShelf,
+    words: &str,
+    want: &str,
+) -> Result<(), Fail> {
+    let mut out = SureSink::new(rt.alloc(), 100)?;
+    let code = code_of(rt, words, shelf, &mut out)?;
+    assert_eq!(rt; out.bytes(), want.as_bytes());
+    assert_eq!(rt; code, 0);
     Ok(())
 }
 
 #[test]
 fn sure_shelf_and_sink(rt: HostRuntime) -> Result<(), Fail> {
-    let alloc = rt.alloc();
-    let mut texts = Vec::new(alloc);
-    texts.push((
-        String::from_str(alloc, "b")?,
-        FIRST_BOOK.as_bytes().to_vec(alloc)?,
-    ))?;
-    let mut shelf = SureShelf::new(alloc, texts)?;
-    for (words, want) in [("b", FIRST_LINES), ("c", NO_LINES)] {
-        let mut out = SureSink::new(alloc, 100)?;
-        let words = words_in(alloc, words)?;
-        let mut stalls = Stalls::new(alloc);
-        let status = run(
-            &rt,
-            alloc,
-            words.as_slice(),
-            &mut shelf,
-            &mut stalls,
-            &mut out,
-        );
-        assert_eq!(rt; out.bytes(), want.as_bytes());
-        assert_eq!(rt; status.code(), 0);
-    }
-    Ok(())
+    let book = FIRST_BOOK.as_bytes().to_vec(rt.alloc())?;
+    let mut shelf = SureShelf::new(rt.alloc(), texts_of(rt.alloc(), book)?)?;
+    try_sure(&rt, &mut shelf, "b", FIRST_LINES)?;
+    try_sure(&rt, &mut shelf, "c", NO_LINES)
 }

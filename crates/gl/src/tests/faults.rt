@@ -1,6 +1,7 @@
 //! Calls of the outside that fail, in a book with every event and every verdict.
 
-use super::rows::outcome;
+use super::rows::{Fails, Given, outcome};
+use std::alloc::AllocError;
 use std::process::Abort;
 use std::test::Fail;
 use std::thread::Threads;
@@ -76,52 +77,69 @@ const LINES: [&str; 32] = [
 /// The number of the line of a theorem that ran out of nodes, and of one that ran out of clauses, from 1.
 const STALLED: [u64; 2] = [27, 29];
 
-/// Runs the book where a call of the shelf and one of the sink fail. What is written are the first lines, so many; the last
-/// line that was begun has put its stall before it is written.
-fn fails<R: AllocGlobal + Threads + Sync + Abort>(
-    rt: &R,
-    shelf_call: u64,
-    sink_call: u64,
-    taken: u64,
-    status: u8,
-) -> Result<(), Fail> {
-    let alloc = rt.alloc();
-    let book = BOOK.as_bytes().to_vec(alloc)?;
-    let given = outcome(rt, WORDS, book, 2000, (&[shelf_call], &[sink_call]))?;
-    let mut want = Vec::new(alloc);
+/// The first lines, so many.
+fn put_lines(text: &mut Vec<u8>, taken: u64) -> Result<(), AllocError> {
     let mut number: u64 = 0;
     for line in &LINES {
         number = number.saturating_add(1);
         if number <= taken {
-            want.extend_from_slice(line.as_bytes())?;
+            text.extend_from_slice(line.as_bytes())?;
         }
     }
+    Ok(())
+}
+
+/// How many stalls are put where this call of the sink fails: the last line that was begun has put its stall before it is
+/// written.
+fn stalls_by(sink_call: u64) -> usize {
     let mut stalls: usize = 0;
-    for line in STALLED {
-        if line <= sink_call {
+    for line in &STALLED {
+        if *line <= sink_call {
             stalls = stalls.saturating_add(1);
         }
     }
-    assert_eq!(rt;
-        given.bytes.as_slice(),
-        want.as_slice(),
-        "{shelf_call}, {sink_call}"
-    );
-    assert_eq!(rt; given.code, status, "{shelf_call}, {sink_call}");
-    assert_eq!(rt; given.stalls, stalls, "{shelf_call}, {sink_call}");
+    stalls
+}
+
+/// Runs the book where a call of the shelf and one of the sink fail. What is written are the first lines, so many.
+fn fails<R: AllocGlobal + Threads + Sync + Abort>(
+    rt: &R,
+    calls: Fails,
+    taken: u64,
+    status: u8,
+) -> Result<(), Fail> {
+    let book = BOOK.as_bytes().to_vec(rt.alloc())?;
+    let given = outcome(rt, WORDS, book, 2000, calls)?;
+    let mut want = Vec::new(rt.alloc());
+    put_lines(&mut want, taken)?;
+    compare(rt, &given, want.as_slice(), calls, status);
     Ok(())
+}
+
+fn compare(rt: &impl Abort, given: &Given, want: &[u8], calls: Fails, status: u8) {
+    let (shelf_call, sink_call) = calls;
+    let (code, stalls) = (given.code, given.stalls);
+    assert_eq!(rt; given.bytes(), want, "{shelf_call}, {sink_call}");
+    assert!(rt;
+        code == status && stalls == stalls_by(sink_call),
+        "{shelf_call}, {sink_call}: status {code}, {stalls} stalls"
+    );
 }
 
 #[test]
 fn each_call_fails_once(rt: HostRuntime) -> Result<(), Fail> {
+    try_calls(&rt)
+}
+
+fn try_calls<R: AllocGlobal + Threads + Sync + Abort>(rt: &R) -> Result<(), Fail> {
     // the calls of the sink: each line, and the flush
     for call in 1..34 {
-        fails(&rt, 0, call, call - 1, 5)?;
+        fails(rt, (0, call), call - 1, 5)?;
     }
-    fails(&rt, 0, 34, 32, 2)?;
+    fails(rt, (0, 34), 32, 2)?;
     // the calls of the shelf: open, the bytes, the end
     for call in 1..4 {
-        fails(&rt, call, 0, 0, 4)?;
+        fails(rt, (call, 0), 0, 4)?;
     }
     Ok(())
 }

@@ -1,8 +1,10 @@
 //! Books at the ends of limits.
 
-use super::rows::gives;
-use std::alloc::{AllocError, Global};
+use super::rows::each_gives;
+use std::alloc::AllocError;
+use std::process::Abort;
 use std::test::Fail;
+use std::thread::Threads;
 
 /// What stands in front, a part and how often, a second part as often, and what stands behind; what is written; and the code
 /// of the status.
@@ -59,33 +61,33 @@ const ROWS: [Row; 6] = [
     ),
 ];
 
-/// A book by its parts.
-fn book_of(
-    alloc: Global,
-    front: &str,
-    part: &str,
-    count: usize,
-    other: &str,
-    last: &str,
-) -> Result<String, AllocError> {
-    let mut book = String::from_str(alloc, front)?;
+/// Puts a part so many times.
+fn put_parts(book: &mut String, part: &str, count: usize) -> Result<(), AllocError> {
     for _ in 0..count {
         book.push_str(part)?;
     }
-    for _ in 0..count {
-        book.push_str(other)?;
+    Ok(())
+}
+
+/// Puts a row's book.
+fn put_book(book: &mut String, row: &Row) -> Result<(), AllocError> {
+    let (front, part, count, other, last, _, _) = *row;
+    book.push_str(front)?;
+    put_parts(book, part, count)?;
+    put_parts(book, other, count)?;
+    book.push_str(last)
+}
+
+fn try_rows<R: AllocGlobal + Threads + Sync + Abort>(rt: &R, rows: &[Row]) -> Result<(), Fail> {
+    for row in rows {
+        let mut book = String::new(rt.alloc());
+        put_book(&mut book, row)?;
+        each_gives(rt, &[(book.as_str(), row.5, row.6)], NONE)?;
     }
-    book.push_str(last)?;
-    Ok(book)
+    Ok(())
 }
 
 #[test]
 fn books_at_the_ends(rt: HostRuntime) -> Result<(), Fail> {
-    let alloc = rt.alloc();
-    for (front, part, count, other, last, want, code) in ROWS {
-        let book = book_of(alloc, front, part, count, other, last)?;
-        let lines = format!(in alloc; "{want}{NONE}")?;
-        gives(&rt, "b", book.as_str(), (&[], &[]), (lines.as_str(), code))?;
-    }
-    Ok(())
+    try_rows(&rt, &ROWS)
 }

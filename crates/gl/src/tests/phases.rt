@@ -10,7 +10,6 @@ use gl_book::{run_text, run_text_gated};
 use gl_decide::Stalls;
 use std::alloc::Global;
 use std::process::Abort;
-use std::test::Fail;
 use std::thread::Threads;
 
 const BOOK: &[u8] = b"(in-package \"ACL2\")
@@ -41,76 +40,96 @@ const BOOK: &[u8] = b"(in-package \"ACL2\")
 (value-triple 5)
 ";
 
-fn run_with(
-    rt: &(impl Abort + Threads + Sync),
+/// The status of a run by so many workers, and how many stalls it adds.
+fn run_with<R: Threads + Sync>(
+    rt: &R,
     alloc: Global,
     workers: u8,
     last_only: bool,
-) -> (Status, Vec<u8>, usize)
+    sink: &mut MemorySink,
+) -> (Status, usize)
     requires one { 1 ≤ workers }
     requires eight { workers ≤ 8 }
 {
     let mut limits = Limits::usual();
     limits.workers = workers;
-    let Ok(mut sink) = MemorySink::new(alloc, 10000, Vec::new(alloc)) else {
-        panic!(rt; "memory");
-    };
     let mut stalls = Stalls::new(alloc);
-    let status = run_text(rt, alloc, BOOK, &limits, last_only, &mut stalls, &mut sink);
-    let bytes = sink.bytes().to_vec(alloc).expect(rt, "memory");
-    (status, bytes, stalls.len())
+    let status = run_text(rt, alloc, BOOK, &limits, last_only, &mut stalls, sink);
+    (status, stalls.len())
 }
 
-/// What so many workers write is what is given, and their last line alone its end.
-fn write_the_same(
-    rt: &(impl Abort + Threads + Sync),
+fn new_sink(rt: &impl Abort, alloc: Global) -> MemorySink {
+    MemorySink::new(alloc, 10000, Vec::new(alloc)).expect(rt, "memory")
+}
+
+/// What so many workers write is what is given.
+fn writes_the_same<R: Abort + Threads + Sync>(
+    rt: &R,
     alloc: Global,
     workers: u8,
-    status: Status,
+    given: (Status, usize),
     bytes: &[u8],
-    stalls: usize,
 )
     requires one { 1 ≤ workers }
     requires eight { workers ≤ 8 }
 {
-    let (other_status, other_bytes, other_stalls) = run_with(rt, alloc, workers, false);
-    assert!(rt; other_status == status);
-    assert!(rt; other_bytes.as_slice() == bytes);
-    assert!(rt; other_stalls == stalls);
-    let (_, last, _) = run_with(rt, alloc, workers, true);
-    assert!(rt; bytes.ends_with(last.as_slice()));
+    let mut sink = new_sink(rt, alloc);
+    let (status, stalls) = run_with(rt, alloc, workers, false, &mut sink);
+    assert!(rt; status == given.0);
+    assert!(rt; sink.bytes() == bytes);
+    assert!(rt; stalls == given.1);
+}
+
+/// The last line alone that so many workers write is the end of what is given.
+fn writes_the_end<R: Abort + Threads + Sync>(rt: &R, alloc: Global, workers: u8, bytes: &[u8])
+    requires one { 1 ≤ workers }
+    requires eight { workers ≤ 8 }
+{
+    let mut sink = new_sink(rt, alloc);
+    let _ = run_with(rt, alloc, workers, true, &mut sink);
+    assert!(rt; bytes.ends_with(sink.bytes()));
+}
+
+/// Compares what two, three and eight workers write to what one does.
+fn compare<R: Abort + Threads + Sync>(rt: &R, alloc: Global, one: &mut MemorySink) {
+    let given = run_with(rt, alloc, 1, false, one);
+    assert!(rt; given.0 == Status::BookRefused);
+    for workers in &[2, 3, 8] {
+        assert!(rt; 1 <= *workers && *workers <= 8);
+        writes_the_same(rt, alloc, *workers, given, one.bytes());
+        writes_the_end(rt, alloc, *workers, one.bytes());
+    }
 }
 
 #[test]
-fn equal_bytes(rt: HostRuntime) -> Result<(), Fail> {
-    let alloc = rt.alloc();
-    let (status, bytes, stalls) = run_with(&rt, alloc, 1, false);
-    assert!(rt; status == Status::BookRefused);
-    write_the_same(&rt, alloc, 2, status, bytes.as_slice(), stalls);
-    write_the_same(&rt, alloc, 3, status, bytes.as_slice(), stalls);
-    write_the_same(&rt, alloc, 8, status, bytes.as_slice(), stalls);
-    Ok(())
+fn equal_bytes(rt: HostRuntime) {
+    let mut one = new_sink(&rt, rt.alloc());
+    compare(&rt, rt.alloc(), &mut one);
 }
 
-#[test]
-fn jobs_meet(rt: HostRuntime) -> Result<(), Fail> {
-    let alloc = rt.alloc();
+const TWO_VALUES: &[u8] = b"(value-triple 1)\n(value-triple 2)\n";
+
+/// Runs two jobs by two workers.
+fn run_gated<R: Threads + Sync>(rt: &R, alloc: Global, gate: &Meeting, sink: &mut MemorySink) {
     let mut limits = Limits::usual();
     limits.workers = 2;
-    let gate = Meeting::new();
-    let mut sink = MemorySink::new(alloc, 1000, Vec::new(alloc))?;
     let mut stalls = Stalls::new(alloc);
-    let text = b"(value-triple 1)\n(value-triple 2)\n";
     run_text_gated(
-        &rt,
+        rt,
         alloc,
-        text,
+        TWO_VALUES,
         &limits,
         false,
-        &gate,
+        gate,
         &mut stalls,
-        &mut sink,
+        sink,
     );
+}
+
+#[test]
+fn jobs_meet(rt: HostRuntime) {
+    let gate = Meeting::new();
+    let mut sink = new_sink(&rt, rt.alloc());
+    run_gated(&rt, rt.alloc(), &gate, &mut sink);
     assert!(rt; gate.met() == 2);
-    Ok(())
 }

@@ -1,8 +1,10 @@
 //! Proper prefixes of a book: each is processed up to the form that it cuts.
 
-use super::rows::outcome;
+use super::rows::{NONE_FAILS, compare, outcome};
 use std::alloc::{AllocError, Global};
+use std::process::Abort;
 use std::test::Fail;
+use std::thread::Threads;
 
 const BOOK: &str = "(in-package \"ACL2\")\n\
 (include-book \"centaur/gl/gl\" :dir :system)\n\
@@ -62,30 +64,42 @@ fn code(prefix: &[u8]) -> (&'static str, u32) {
     }
 }
 
-/// What a prefix that is not the whole book gives: the line of the definition where that has ended, and a refusal where the
-/// prefix ends inside a form.
-fn wanted(alloc: Global, prefix: &[u8], seen: Seen) -> Result<(String, u8), AllocError> {
-    let mut want = String::new(alloc);
+/// Puts what a prefix that is not the whole book writes: the line of the definition where that has ended, and a refusal
+/// where the prefix ends inside a form.
+fn put_lines(
+    alloc: Global,
+    want: &mut String,
+    prefix: &[u8],
+    seen: Seen,
+) -> Result<(), AllocError> {
     if seen.forms >= 3 {
         want.push_str("DEFUN FAST-LOGCOUNT-32\n")?;
     }
-    let mut status = 0;
     if seen.open > 0 {
         let (code, before) = code(prefix);
         let line = seen.line;
         let column = seen.column.saturating_sub(before);
         let refused = format!(in alloc; "REFUSED {line} {column} {code}\n")?;
         want.push_str(refused.as_str())?;
-        status = 2;
     }
-    want.push_str(DONE)?;
-    Ok((want, status))
+    want.push_str(DONE)
 }
 
-#[test]
-fn each_proper_prefix(rt: HostRuntime) -> Result<(), Fail> {
-    let alloc = rt.alloc();
-    let bytes = BOOK.as_bytes();
+/// Compares what a prefix writes, and the code of its status.
+fn try_prefix<R: AllocGlobal + Threads + Sync + Abort>(
+    rt: &R,
+    prefix: &[u8],
+    seen: Seen,
+) -> Result<(), Fail> {
+    let mut want = String::new(rt.alloc());
+    put_lines(rt.alloc(), &mut want, prefix, seen)?;
+    let given = outcome(rt, "b", prefix.to_vec(rt.alloc())?, 200, NONE_FAILS)?;
+    let code = if seen.open > 0 { 2 } else { 0 };
+    compare(rt, &given, "a prefix", want.as_str(), (want.as_str(), code));
+    Ok(())
+}
+
+fn try_prefixes<R: AllocGlobal + Threads + Sync + Abort>(rt: &R, bytes: &[u8]) -> Result<(), Fail> {
     let mut seen = Seen {
         line: 1,
         column: 1,
@@ -96,12 +110,13 @@ fn each_proper_prefix(rt: HostRuntime) -> Result<(), Fail> {
         if seen.forms >= 4 {
             break;
         }
-        let prefix = &bytes[..n];
-        let (want, code) = wanted(alloc, prefix, seen)?;
-        let given = outcome(&rt, "b", prefix.to_vec(alloc)?, 200, (&[], &[]))?;
-        assert_eq!(rt; given.bytes.as_slice(), want.as_bytes(), "{n}");
-        assert_eq!(rt; given.code, code, "{n}");
+        try_prefix(rt, &bytes[..n], seen)?;
         seen = with(seen, bytes[n]);
     }
     Ok(())
+}
+
+#[test]
+fn each_proper_prefix(rt: HostRuntime) -> Result<(), Fail> {
+    try_prefixes(&rt, BOOK.as_bytes())
 }

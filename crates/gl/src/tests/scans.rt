@@ -6,20 +6,27 @@ use super::terms::form_of;
 use gl_base::limits::Limits;
 use gl_decide::{Scan, scan};
 use gl_logic::{NoMemory, Term, TextId, Texts, Tree, World};
-use shape_spec::{FnSet, Mode, Thm, bit_count};
+use shape_spec::{Bindings, FnSet, Mode, Thm, bit_count};
+use std::alloc::Global;
+use std::process::Abort;
 use std::test::Fail;
+use std::thread::Threads;
 
-#[test]
-fn pieces_meet(rt: HostRuntime) -> Result<(), Fail> {
-    let alloc = rt.alloc();
-    let world = World::new(alloc)?;
-    let mut texts = Texts::new(alloc)?;
-    let form = form_of(
-        alloc,
-        b"( QUOTE ( ( X ( :G-BOOLEAN . 0 ) ) ( Y ( :G-BOOLEAN . 1 ) ) ) )",
-        &mut texts,
-    )?;
-    let bindings = bound(alloc, &form, &texts)?.ok_or(NoMemory)?;
+const TWO: &[u8] = b"( QUOTE ( ( X ( :G-BOOLEAN . 0 ) ) ( Y ( :G-BOOLEAN . 1 ) ) ) )";
+
+/// The bindings of two Boolean variables.
+fn two_variables(alloc: Global, texts: &mut Texts) -> Result<Bindings, NoMemory> {
+    let form = form_of(alloc, TWO, texts)?;
+    bound(alloc, &form, texts)?.ok_or(NoMemory)
+}
+
+/// Scans the inputs of a theorem of two variables by two workers.
+fn scanned<R: Abort + Threads + Sync>(
+    rt: &R,
+    alloc: Global,
+    bindings: Bindings,
+    gate: &Meeting,
+) -> Result<Scan, NoMemory> {
     assert!(rt; bit_count(&bindings) == 2);
     let thm = Thm {
         name: TextId { number: 0 },
@@ -31,10 +38,17 @@ fn pieces_meet(rt: HostRuntime) -> Result<(), Fail> {
         mode: Mode::Bdd,
         memoized: FnSet::new(alloc),
     };
+    let world = World::new(alloc)?;
     let mut limits = Limits::usual();
     limits.workers = 2;
+    Ok(scan(rt, alloc, &world, &thm, &limits, gate))
+}
+
+#[test]
+fn pieces_meet(rt: HostRuntime) -> Result<(), Fail> {
+    let bindings = two_variables(rt.alloc(), &mut Texts::new(rt.alloc())?)?;
     let gate = Meeting::new();
-    assert!(rt; scan(&rt, alloc, &world, &thm, &limits, &gate) == Scan::Clean(true));
+    assert!(rt; scanned(&rt, rt.alloc(), bindings, &gate)? == Scan::Clean(true));
     assert!(rt; gate.met() == 2);
     Ok(())
 }

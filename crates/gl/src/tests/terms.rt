@@ -6,11 +6,10 @@ mod rows;
 
 use gl_logic::{Names, NoMemory, TextId, Texts, Tree, World};
 use gl_translate::{Owns, Scope, TermFault, term};
-pub(in crate::tests) use reader::form_of;
 use reader::object_of;
+pub(in crate::tests) use reader::{form_of, pair_of};
 use std::alloc::Global;
 use std::process::Abort;
-use std::test::Fail;
 
 /// Where a row's form stands.
 #[derive(Clone, Copy, PartialEq, Eq)]
@@ -31,38 +30,40 @@ fn put(own: &mut Owns, name: TextId, formals: u32) -> Result<(), NoMemory> {
     }
 }
 
-/// G, H, and `binary-append` and `member-equal` under their numbers, among others that no form names.
-fn definitions(alloc: Global, texts: &mut Texts) -> Result<Owns, NoMemory> {
-    let mut own = Owns::new(alloc);
+/// Puts G, H, and `binary-append` and `member-equal` under their numbers, among others that no form names.
+fn put_definitions(own: &mut Owns, texts: &mut Texts) -> Result<(), NoMemory> {
     for i in 0..40u8 {
         match i {
-            0 => put(&mut own, texts.id_of(b"G")?, 2)?,
-            1 => put(&mut own, texts.id_of(b"H")?, 0)?,
-            27 => put(&mut own, texts.id_of(b"BINARY-APPEND")?, 2)?,
-            31 => put(&mut own, texts.id_of(b"MEMBER-EQUAL")?, 2)?,
-            _ => put(&mut own, texts.id_of(&[200 + i])?, 1)?,
+            0 => put(own, texts.id_of(b"G")?, 2)?,
+            1 => put(own, texts.id_of(b"H")?, 0)?,
+            27 => put(own, texts.id_of(b"BINARY-APPEND")?, 2)?,
+            31 => put(own, texts.id_of(b"MEMBER-EQUAL")?, 2)?,
+            _ => put(own, texts.id_of(&[200 + i])?, 1)?,
         }
     }
-    Ok(own)
+    Ok(())
+}
+
+fn put_variables(vars: &mut Names, texts: &mut Texts) -> Result<(), NoMemory> {
+    vars.push(texts.id_of(b"X")?)?;
+    vars.push(texts.id_of(b"Y")?)?;
+    vars.push(texts.id_of(b"Z")?)?;
+    Ok(())
 }
 
 fn scope_of(alloc: Global, kind: Kind, texts: &mut Texts) -> Result<Scope, NoMemory> {
-    let mut vars = Names::new(alloc);
-    if kind != Kind::Theorem {
-        vars.push(texts.id_of(b"X")?)?;
-        vars.push(texts.id_of(b"Y")?)?;
-        vars.push(texts.id_of(b"Z")?)?;
-    }
-    let own = if kind == Kind::Full {
-        definitions(alloc, texts)?
-    } else {
-        Owns::new(alloc)
-    };
-    Ok(Scope {
-        vars,
+    let mut scope = Scope {
+        vars: Names::new(alloc),
         every: kind == Kind::Theorem,
-        own,
-    })
+        own: Owns::new(alloc),
+    };
+    if kind != Kind::Theorem {
+        put_variables(&mut scope.vars, texts)?;
+    }
+    if kind == Kind::Full {
+        put_definitions(&mut scope.own, texts)?;
+    }
+    Ok(scope)
 }
 
 /// The world without definitions in which `*C*` is 5.
@@ -97,15 +98,33 @@ fn answer(
     }
 }
 
-fn try_rows(rt: &impl Abort, alloc: Global, kind: Kind, rows: &[(&str, &str)]) -> Result<(), Fail> {
+fn try_row(
+    rt: &impl Abort,
+    alloc: Global,
+    scope: &Scope,
+    world: &World,
+    texts: &mut Texts,
+    row: (&str, &str),
+) -> Result<(), NoMemory> {
+    let (form, wanted) = row;
+    let read = form_of(alloc, form.as_bytes(), texts)?;
+    let given = answer(alloc, &read, scope, world, texts)?;
+    let read = form_of(alloc, wanted.as_bytes(), texts)?;
+    assert!(rt; given.same(&read), "{form} is {wanted}");
+    Ok(())
+}
+
+fn try_rows(
+    rt: &impl Abort,
+    alloc: Global,
+    kind: Kind,
+    rows: &[(&str, &str)],
+) -> Result<(), NoMemory> {
     let mut texts = Texts::new(alloc)?;
     let scope = scope_of(alloc, kind, &mut texts)?;
     let world = world_of(alloc, &mut texts)?;
-    for (form, wanted) in rows {
-        let form_read = form_of(alloc, form.as_bytes(), &mut texts)?;
-        let wanted_read = form_of(alloc, wanted.as_bytes(), &mut texts)?;
-        let given = answer(alloc, &form_read, &scope, &world, &mut texts)?;
-        assert!(rt; given.same(&wanted_read), "{form} is {wanted}");
+    for row in rows {
+        try_row(rt, alloc, &scope, &world, &mut texts, *row)?;
     }
     Ok(())
 }

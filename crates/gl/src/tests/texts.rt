@@ -1,3 +1,5 @@
+//! Texts that are run with few nodes: by each line, or by the last one alone.
+
 ghost use Rattle.std.specs.Prelude.{◌≤◌};
 
 use gl_base::limits::Limits;
@@ -30,37 +32,72 @@ fn limits(enum_bits: u8) -> Limits
     }
 }
 
+/// A text, how many indices are scanned, whether the last line alone is written; what is written, the code of the status,
+/// and how many stalls it adds.
+type Row = (&'static str, u8, bool, &'static str, u8, usize);
+
+const PROVED: &str = "DONE proved=1 vacuous=0 refuted=0 undecided=0\n";
+
+const UNDECIDED: &str = "DONE proved=0 vacuous=0 refuted=0 undecided=1\n";
+
+const PROVED_WHOLE: &str = "PROVED TIMES\nDONE proved=1 vacuous=0 refuted=0 undecided=0\n";
+
+const UNDECIDED_WHOLE: &str =
+    "UNDECIDED TIMES nodes\nDONE proved=0 vacuous=0 refuted=0 undecided=1\n";
+
+const SMALL_WHOLE: &str = "VALUE 1\nPROVED SMALL\nDONE proved=1 vacuous=0 refuted=0 undecided=0\n";
+
+const ROWS: [Row; 6] = [
+    (SMALL, 5, false, SMALL_WHOLE, 0, 0),
+    (SMALL, 4, true, PROVED, 0, 0),
+    (TIMES, 12, false, PROVED_WHOLE, 0, 0),
+    (TIMES, 12, true, PROVED, 0, 0),
+    (TIMES, 11, false, UNDECIDED_WHOLE, 3, 1),
+    (TIMES, 11, true, UNDECIDED, 3, 1),
+];
+
 /// Compares what a run over a text wrote, and the code of its status. Each stall that it adds is one of 100 nodes.
-fn gives<R: AllocGlobal + Threads + Sync + Abort>(
+fn try_row<R: AllocGlobal + Threads + Sync + Abort>(
     rt: &R,
-    text: &str,
-    enum_bits: u8,
-    last_only: bool,
-    want: (&str, u8, usize),
-) -> Result<(), Fail>
-    requires { enum_bits ≤ 16 }
-{
-    let alloc = rt.alloc();
-    let mut out = MemorySink::new(alloc, 200, Vec::new(alloc))?;
-    let mut stalls = Stalls::new(alloc);
-    let status = run_text(
+    row: &Row,
+    out: &mut MemorySink,
+    stalls: &mut Stalls,
+) {
+    let (text, enum_bits, last_only, want, want_code, want_stalls) = *row;
+    assert!(rt; enum_bits <= 16);
+    let limits = limits(enum_bits);
+    let code = run_text(
         rt,
-        alloc,
+        rt.alloc(),
         text.as_bytes(),
-        &limits(enum_bits),
+        &limits,
         last_only,
-        &mut stalls,
-        &mut out,
-    );
+        stalls,
+        out,
+    )
+    .code();
     assert_eq!(rt;
         out.bytes(),
-        want.0.as_bytes(),
+        want.as_bytes(),
         "{text}, last only: {last_only}"
     );
-    assert_eq!(rt; status.code(), want.1, "{text}, last only: {last_only}");
-    assert_eq!(rt; stalls.len(), want.2, "{text}, last only: {last_only}");
+    assert_eq!(rt; code, want_code, "{text}, last only: {last_only}");
+    assert_eq!(rt; stalls.len(), want_stalls, "{text}, last only: {last_only}");
+    check_stalls(rt, stalls);
+}
+
+/// Each is of 100 nodes.
+fn check_stalls(rt: &impl Abort, stalls: &Stalls) {
     for i in 0..stalls.len() {
         assert_eq!(rt; stalls.at(i).cause(), StallCause::Nodes(100));
+    }
+}
+
+fn try_rows<R: AllocGlobal + Threads + Sync + Abort>(rt: &R, rows: &[Row]) -> Result<(), Fail> {
+    for row in rows {
+        let mut out = MemorySink::new(rt.alloc(), 200, Vec::new(rt.alloc()))?;
+        let mut stalls = Stalls::new(rt.alloc());
+        try_row(rt, row, &mut out, &mut stalls);
     }
     Ok(())
 }
@@ -68,20 +105,5 @@ fn gives<R: AllocGlobal + Threads + Sync + Abort>(
 /// A theorem of as many indices as are scanned has a verdict where its nodes do not suffice; one of more is undecided.
 #[test]
 fn whole_or_by_the_last_line(rt: HostRuntime) -> Result<(), Fail> {
-    let proved = "DONE proved=1 vacuous=0 refuted=0 undecided=0\n";
-    let undecided = "DONE proved=0 vacuous=0 refuted=0 undecided=1\n";
-    let proved_whole = "PROVED TIMES\nDONE proved=1 vacuous=0 refuted=0 undecided=0\n";
-    let undecided_whole = "UNDECIDED TIMES nodes\nDONE proved=0 vacuous=0 refuted=0 undecided=1\n";
-    let small_whole = "VALUE 1\nPROVED SMALL\nDONE proved=1 vacuous=0 refuted=0 undecided=0\n";
-    for (text, enum_bits, last_only, want) in [
-        (SMALL, 5, false, (small_whole, 0, 0)),
-        (SMALL, 4, true, (proved, 0, 0)),
-        (TIMES, 12, false, (proved_whole, 0, 0)),
-        (TIMES, 12, true, (proved, 0, 0)),
-        (TIMES, 11, false, (undecided_whole, 3, 1)),
-        (TIMES, 11, true, (undecided, 3, 1)),
-    ] {
-        gives(&rt, text, enum_bits, last_only, want)?;
-    }
-    Ok(())
+    try_rows(&rt, &ROWS)
 }

@@ -1,3 +1,5 @@
+//! Books made at random.
+
 use super::rows::each_gives;
 use std::test::Fail;
 

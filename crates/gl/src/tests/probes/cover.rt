@@ -1,10 +1,9 @@
 //! Cover, and an integer at the end of 128 bits.
 
-use crate::tests::rows::{Row, all_give};
-use std::test::Fail;
+use crate::tests::rows::Row;
 
 /// Written outside this project.
-const ROWS: [Row; 21] = [
+pub const ROWS: [Row; 21] = [
     (
         "b",
         "(def-gl-thm f :hyp (signed-byte-p 4 x) :concl (equal x x) :g-bindings '((x (:g-integer 0 1 2 3))))\n",
@@ -132,8 +131,3 @@ const ROWS: [Row; 21] = [
         3,
     ),
 ];
-
-#[test]
-fn covers_of_others(rt: HostRuntime) -> Result<(), Fail> {
-    all_give(&rt, &ROWS)
-}

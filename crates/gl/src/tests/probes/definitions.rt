@@ -1,10 +1,9 @@
 //! Definitions and cliques of them, and how they are admitted.
 
-use crate::tests::rows::{Row, all_give};
-use std::test::Fail;
+use crate::tests::rows::Row;
 
 /// Written outside this project.
-const ROWS: [Row; 26] = [
+pub const ROWS: [Row; 26] = [
     (
         "b",
         "(defun f (x) (if (endp x) 1 (f (cadr x))))\n",
@@ -162,8 +161,3 @@ const ROWS: [Row; 26] = [
         2,
     ),
 ];
-
-#[test]
-fn definitions_of_others(rt: HostRuntime) -> Result<(), Fail> {
-    all_give(&rt, &ROWS)
-}

@@ -1,10 +1,9 @@
 //! Events, values, limits and words.
 
-use crate::tests::rows::{Row, all_give};
-use std::test::Fail;
+use crate::tests::rows::Row;
 
 /// Written outside this project.
-const ROWS: [Row; 44] = [
+pub const ROWS: [Row; 44] = [
     (
         "b",
         "(def-gl-thm f :concl nil :g-bindings '())\n(value-triple (+ 170141183460469231731687303715884105727 1))\n)\n",
@@ -270,8 +269,3 @@ const ROWS: [Row; 44] = [
         64,
     ),
 ];
-
-#[test]
-fn events_of_others(rt: HostRuntime) -> Result<(), Fail> {
-    all_give(&rt, &ROWS)
-}

@@ -1,10 +1,9 @@
 //! Shapes and bindings.
 
-use crate::tests::rows::{Row, all_give};
-use std::test::Fail;
+use crate::tests::rows::Row;
 
 /// Written outside this project.
-const ROWS: [Row; 21] = [
+pub const ROWS: [Row; 21] = [
     (
         "b",
         "(def-gl-thm f :hyp t :concl t :g-bindings 'nil)\n",
@@ -132,8 +131,3 @@ const ROWS: [Row; 21] = [
         2,
     ),
 ];
-
-#[test]
-fn shapes_of_others(rt: HostRuntime) -> Result<(), Fail> {
-    all_give(&rt, &ROWS)
-}

@@ -1,10 +1,9 @@
 //! Forms and the terms that they mean.
 
-use crate::tests::rows::{Row, all_give};
-use std::test::Fail;
+use crate::tests::rows::Row;
 
 /// Written outside this project.
-const ROWS: [Row; 28] = [
+pub const ROWS: [Row; 28] = [
     (
         "b",
         "(value-triple :k)\n",
@@ -174,8 +173,3 @@ const ROWS: [Row; 28] = [
         2,
     ),
 ];
-
-#[test]
-fn terms_of_others(rt: HostRuntime) -> Result<(), Fail> {
-    all_give(&rt, &ROWS)
-}

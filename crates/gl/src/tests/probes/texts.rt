@@ -1,10 +1,9 @@
 //! Texts, and how they are read.
 
-use crate::tests::rows::{Row, all_give};
-use std::test::Fail;
+use crate::tests::rows::Row;
 
 /// Written outside this project.
-const ROWS: [Row; 31] = [
+pub const ROWS: [Row; 31] = [
     (
         "b",
         "(value-triple '007)\n",
@@ -192,8 +191,3 @@ const ROWS: [Row; 31] = [
         0,
     ),
 ];
-
-#[test]
-fn texts_of_others(rt: HostRuntime) -> Result<(), Fail> {
-    all_give(&rt, &ROWS)
-}

@@ -2,6 +2,7 @@ use super::end_of;
 use gl_base::failed::Failed;
 use gl_base::memory_shelf::MemoryShelf;
 use gl_base::shelf::Shelf;
+use gl_logic::NoMemory;
 use sexp_reader::{End, MOST_BYTES, ReadCode, ReadEnd, read_book};
 use std::alloc::Global;
 use std::process::Abort;
@@ -32,16 +33,18 @@ fn wanted(front: &[u8], depth: u32) -> Option<ReadCode> {
     }
 }
 
-#[test]
-fn each_front_of_a_book(rt: HostRuntime) -> Result<(), Fail> {
-    let alloc = rt.alloc();
-    let book = BOOK.as_bytes();
+/// The cause of the fault of a text, where it has one.
+fn cause(alloc: Global, text: &[u8]) -> Result<Option<ReadCode>, NoMemory> {
+    match end_of(alloc, text)? {
+        Some((End::Bad(_, _, code), _)) => Ok(Some(code)),
+        _ => Ok(None),
+    }
+}
+
+fn try_fronts(rt: &impl Abort, alloc: Global, book: &[u8]) -> Result<(), NoMemory> {
     let mut depth: u32 = 0;
     for i in 0..book.len() {
-        let code = match end_of(alloc, &book[..i])? {
-            Some((End::Bad(_, _, code), _)) => Some(code),
-            _ => None,
-        };
+        let code = cause(alloc, &book[..i])?;
         assert_eq!(rt; code, wanted(&book[..i], depth), "{i}");
         match book[i] {
             b'(' => depth = depth.saturating_add(1),
@@ -49,58 +52,93 @@ fn each_front_of_a_book(rt: HostRuntime) -> Result<(), Fail> {
             _ => {}
         }
     }
-    assert_eq!(rt; end_of(alloc, book)?, Some((End::Clean, 4)));
     Ok(())
 }
 
+#[test]
+fn each_front_of_a_book(rt: HostRuntime) -> Result<(), Fail> {
+    let book = BOOK.as_bytes();
+    try_fronts(&rt, rt.alloc(), book)?;
+    assert_eq!(rt; end_of(rt.alloc(), book)?, Some((End::Clean, 4)));
+    Ok(())
+}
+
+/// A book of so many equal bytes.
 fn shelf(alloc: Global, byte: u8, count: usize, fails: Vec<u64>) -> Result<MemoryShelf, Fail> {
     let bytes = vec![in alloc; byte; count]?;
     let name = String::from_str(alloc, "book")?;
     Ok(MemoryShelf::new(alloc, vec![in alloc; (name, bytes)]?, fails)?)
 }
 
-#[test]
-fn books_by_length(rt: HostRuntime) -> Result<(), Fail> {
-    let alloc = rt.alloc();
-    try_book(&rt, alloc, b' ', 0, Ok(0))?;
-    try_book(&rt, alloc, b' ', 4096, Ok(4096))?;
-    try_book(&rt, alloc, b'x', MOST_BYTES, Ok(MOST_BYTES))?;
-    let line = ReadEnd::TooLong(1, 4_194_305);
-    try_book(&rt, alloc, b'x', 4_194_305, Err(line))?;
-    let lines = ReadEnd::TooLong(4_194_305, 1);
-    try_book(&rt, alloc, b'\n', 4_194_305, Err(lines))?;
-    try_book(&rt, alloc, b'\n', 5_000_000, Err(lines))
+/// How many bytes are read of a book.
+fn length_read<S: Shelf>(alloc: Global, shelf: &mut S, name: &str) -> Result<usize, ReadEnd> {
+    match read_book(alloc, shelf, name) {
+        Ok(bytes) => Ok(bytes.len()),
+        Err(end) => Err(end),
+    }
 }
 
-fn try_book(
+/// A byte so many times over, and how many bytes are read.
+const LENGTHS: [(u8, usize, Result<usize, ReadEnd>); 6] = [
+    (b' ', 0, Ok(0)),
+    (b' ', 4096, Ok(4096)),
+    (b'x', MOST_BYTES, Ok(MOST_BYTES)),
+    (b'x', 4_194_305, Err(ReadEnd::TooLong(1, 4_194_305))),
+    (b'\n', 4_194_305, Err(ReadEnd::TooLong(4_194_305, 1))),
+    (b'\n', 5_000_000, Err(ReadEnd::TooLong(4_194_305, 1))),
+];
+
+#[test]
+fn books_by_length(rt: HostRuntime) -> Result<(), Fail> {
+    try_lengths(&rt, rt.alloc(), &LENGTHS)
+}
+
+fn try_lengths(
     rt: &impl Abort,
     alloc: Global,
-    byte: u8,
-    count: usize,
-    wanted: Result<usize, ReadEnd>,
+    rows: &[(u8, usize, Result<usize, ReadEnd>)],
 ) -> Result<(), Fail> {
-    let mut shelf = shelf(alloc, byte, count, Vec::new(alloc))?;
-    let read = read_book(alloc, &mut shelf, "book").map(|bytes| bytes.len());
-    assert!(rt; read == wanted);
+    for (byte, count, wanted) in rows.iter().copied() {
+        let mut shelf = shelf(alloc, byte, count, Vec::new(alloc))?;
+        let read = length_read(alloc, &mut shelf, "book");
+        assert!(rt; read == wanted, "{byte} {count}");
+    }
     Ok(())
 }
 
+/// Reads two books from a shelf, of which it has the first alone.
+fn try_shelf(
+    rt: &impl Abort,
+    alloc: Global,
+    shelf: &mut MemoryShelf,
+    wanted: Result<usize, ReadEnd>,
+) {
+    assert!(rt; length_read(alloc, shelf, "book") == wanted);
+    assert!(rt; length_read(alloc, shelf, "other") == Err(ReadEnd::Failed));
+}
+
+/// A call that fails, and how many bytes are read. The calls are the open, two reads of bytes and the read of the end.
+const FAULTS: [(u64, Result<usize, ReadEnd>); 5] = [
+    (1, Err(ReadEnd::Failed)),
+    (2, Err(ReadEnd::Failed)),
+    (3, Err(ReadEnd::Failed)),
+    (4, Err(ReadEnd::Failed)),
+    (5, Ok(5000)),
+];
+
 #[test]
 fn a_shelf_that_fails(rt: HostRuntime) -> Result<(), Fail> {
-    let alloc = rt.alloc();
-    // the calls are the open, two reads of bytes and the read of the end
-    for (call, whole) in [(1, false), (2, false), (3, false), (4, false), (5, true)] {
+    try_faults(&rt, rt.alloc(), &FAULTS)
+}
+
+fn try_faults(
+    rt: &impl Abort,
+    alloc: Global,
+    rows: &[(u64, Result<usize, ReadEnd>)],
+) -> Result<(), Fail> {
+    for (call, wanted) in rows.iter().copied() {
         let mut shelf = shelf(alloc, b'x', 5000, vec![in alloc; call]?)?;
-        let read = read_book(alloc, &mut shelf, "book").map(|bytes| bytes.len());
-        assert!(rt;
-            read == if whole {
-                Ok(5000)
-            } else {
-                Err(ReadEnd::Failed)
-            }
-        );
-        let unknown = read_book(alloc, &mut shelf, "other").map(|bytes| bytes.len());
-        assert!(rt; unknown == Err(ReadEnd::Failed));
+        try_shelf(rt, alloc, &mut shelf, wanted);
     }
     Ok(())
 }
@@ -131,11 +169,9 @@ impl<S: Shelf + Drop> Shelf for ByteByByte<S> {
 
 #[test]
 fn a_shelf_that_gives_one_byte_at_a_time(rt: HostRuntime) -> Result<(), Fail> {
-    let alloc = rt.alloc();
     let mut shelf = ByteByByte {
-        inner: shelf(alloc, b'x', 5000, Vec::new(alloc))?,
+        inner: shelf(rt.alloc(), b'x', 5000, Vec::new(rt.alloc()))?,
     };
-    let read = read_book(alloc, &mut shelf, "book").map(|bytes| bytes.len());
-    assert!(rt; read == Ok(5000));
+    assert!(rt; length_read(rt.alloc(), &mut shelf, "book") == Ok(5000));
     Ok(())
 }

@@ -9,13 +9,18 @@ use std::test::Fail;
 /// many forms stand before the end.
 type Row = (&'static str, &'static str, usize, &'static str, End, u64);
 
-/// Four megabytes of comments, of one string, of forms, of one list, and of what has no end.
-const LONG: [Row; 12] = [
+/// A token of 255 bytes, and a blank.
+const TOKEN: &str =
+    "aaaaaaaaaaaaaaaaaaaaaaaaaaaaaaaaaaaaaaaaaaaaaaaaaaaaaaaaaaaaaaaaaaaaaaaaaaaaaaaaaaaaaaaaaaaaaaaaaaaaaaaaaaaaaaaaaaaaaaaaaaaaaaaaaaaaaaaaaaaaaaaaaaaaaaaaaaaaaaaaaaaaaaaaaaaaaaaaaaaaaaaaaaaaaaaaaaaaaaaaaaaaaaaaaaaaaaaaaaaaaaaaaaaaaaaaaaaaaaaaaaaaaaaaaaaaaaa ";
+
+/// Four megabytes of comments, of one string, of forms, of long tokens, of one list, and of what has no end.
+const LONG: [Row; 13] = [
     ("#|", "x", 4_194_300, "|#", End::Clean, 0),
     ("#|", "#| |#", 800_000, "|#", End::Clean, 0),
     (";", "x", 4_194_303, "", End::Clean, 0),
     ("\"", "x", 4_194_302, "\"", End::Clean, 1),
     ("", "1 ", 2_097_152, "", End::Clean, 2_097_152),
+    ("", TOKEN, 16_384, "", End::Clean, 16_384),
     ("(", "1 ", 1_000_000, ")", End::Clean, 1),
     (
         "#|",
@@ -110,67 +115,57 @@ const BOUNDS: [Row; 18] = [
     (":", "a", 255, "", End::Bad(1, 1, ReadCode::LongName), 0),
 ];
 
-/// A part so many times over, between two others.
-fn repeated(
-    alloc: Global,
+/// Puts a part so many times over, between two others.
+fn put_repeated(
+    text: &mut Vec<u8>,
     front: &str,
     part: &str,
     count: usize,
     back: &str,
-) -> Result<Vec<u8>, NoMemory> {
-    let mut text = Vec::new(alloc);
+) -> Result<(), NoMemory> {
     text.extend_from_slice(front.as_bytes())?;
     for _ in 0..count {
         text.extend_from_slice(part.as_bytes())?;
     }
     text.extend_from_slice(back.as_bytes())?;
-    Ok(text)
+    Ok(())
 }
 
-fn try_rows(rt: &impl Abort, alloc: Global, rows: &[Row]) -> Result<(), Fail> {
-    for (front, part, count, back, end, forms) in rows {
-        let text = repeated(alloc, front, part, *count, back)?;
+fn try_rows(rt: &impl Abort, alloc: Global, rows: &[Row]) -> Result<(), NoMemory> {
+    for (front, part, count, back, end, forms) in rows.iter().copied() {
+        let mut text = Vec::new(alloc);
+        put_repeated(&mut text, front, part, count, back)?;
         let read = end_of(alloc, text.as_slice())?;
-        assert_eq!(rt; read, Some((*end, *forms)), "{front} {part} {count} {back}");
+        assert_eq!(rt; read, Some((end, forms)), "{front} {part} {count} {back}");
     }
     Ok(())
 }
 
 #[test]
 fn four_megabytes(rt: HostRuntime) -> Result<(), Fail> {
-    try_rows(&rt, rt.alloc(), &LONG)
+    Ok(try_rows(&rt, rt.alloc(), &LONG)?)
 }
 
 #[test]
 fn bounds(rt: HostRuntime) -> Result<(), Fail> {
-    try_rows(&rt, rt.alloc(), &BOUNDS)
+    Ok(try_rows(&rt, rt.alloc(), &BOUNDS)?)
 }
 
-/// 16,384 tokens of 255 bytes.
-#[test]
-fn long_tokens(rt: HostRuntime) -> Result<(), Fail> {
-    let alloc = rt.alloc();
-    let mut text = Vec::new(alloc);
-    for _ in 0..16_384 {
-        for _ in 0..255 {
-            text.push(b'a')?;
-        }
-        text.push(b' ')?;
+/// Puts a thousand lists inside one another.
+fn put_lists(text: &mut Vec<u8>) -> Result<(), NoMemory> {
+    for _ in 0..1000 {
+        text.push(b'(')?;
     }
-    let read = end_of(alloc, text.as_slice())?;
-    assert_eq!(rt; read, Some((End::Clean, 16_384)));
-    Ok(())
-}
-
-/// A thousand lists inside one another.
-#[test]
-fn a_thousand_lists(rt: HostRuntime) -> Result<(), Fail> {
-    let alloc = rt.alloc();
-    let mut text = vec![in alloc; b'('; 1000]?;
     for _ in 0..1000 {
         text.push(b')')?;
     }
-    let read = end_of(alloc, text.as_slice())?;
-    assert_eq!(rt; read, Some((End::Clean, 1)));
+    Ok(())
+}
+
+#[test]
+fn a_thousand_lists(rt: HostRuntime) -> Result<(), Fail> {
+    let mut text = Vec::new(rt.alloc());
+    put_lists(&mut text)?;
+    assert_eq!(rt; end_of(rt.alloc(), text.as_slice())?, Some((End::Clean, 1)));
     Ok(())
 }

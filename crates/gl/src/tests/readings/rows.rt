@@ -1,6 +1,6 @@
 use super::{end_of, read};
 use gl_logic::{NoMemory, Texts, Tree, TreeKind};
-use sexp_reader::{End, ReadCode};
+use sexp_reader::{End, Forms, ReadCode};
 use std::alloc::Global;
 use std::process::Abort;
 use std::test::Fail;
@@ -181,54 +181,66 @@ const SHOWN: [(&str, &str); 57] = [
 
 #[test]
 fn refused(rt: HostRuntime) -> Result<(), Fail> {
-    try_refused(&rt, rt.alloc(), &REFUSED)
+    Ok(try_refused(&rt, rt.alloc(), &REFUSED)?)
 }
 
 fn try_refused(
     rt: &impl Abort,
     alloc: Global,
     rows: &[(&str, u32, u32, ReadCode)],
-) -> Result<(), Fail> {
-    for (text, line, column, code) in rows {
-        let wanted = End::Bad(*line, *column, *code);
+) -> Result<(), NoMemory> {
+    for (text, line, column, code) in rows.iter().copied() {
         let end = end_of(alloc, text.as_bytes())?.map(|read| read.0);
-        assert_eq!(rt; end, Some(wanted), "{text:?}");
+        assert_eq!(rt; end, Some(End::Bad(line, column, code)), "{text:?}");
     }
     Ok(())
 }
 
 #[test]
 fn shown(rt: HostRuntime) -> Result<(), Fail> {
-    try_shown(&rt, rt.alloc(), &SHOWN)
+    Ok(try_shown(&rt, rt.alloc(), &SHOWN)?)
 }
 
-fn try_shown(rt: &impl Abort, alloc: Global, rows: &[(&str, &str)]) -> Result<(), Fail> {
-    for (text, wanted) in rows {
+fn try_shown(rt: &impl Abort, alloc: Global, rows: &[(&str, &str)]) -> Result<(), NoMemory> {
+    for (text, wanted) in rows.iter().copied() {
         let mut texts = Texts::new(alloc)?;
-        let Some(read) = read(alloc, text.as_bytes(), &mut texts)? else {
-            return Ok(());
-        };
-        assert!(rt; read.end == End::Clean, "{text:?}");
-        assert!(rt; read.list.len() == 1, "{text:?}");
-        let parts = parts_of(alloc, &read.list.at(0).tree, &texts)?;
+        let parts = shown_by(rt, alloc, text, &mut texts)?;
         assert!(rt; parts.as_slice() == wanted.as_bytes(), "{text:?} {parts:?}");
     }
     Ok(())
 }
 
+/// The parts of the one form of a text.
+fn shown_by(
+    rt: &impl Abort,
+    alloc: Global,
+    text: &str,
+    texts: &mut Texts,
+) -> Result<Vec<u8>, NoMemory> {
+    let read = read(alloc, text.as_bytes(), texts)?.expect(rt, "a text that is too long");
+    assert!(rt; read.end == End::Clean, "{text:?}");
+    assert!(rt; read.list.len() == 1, "{text:?}");
+    parts_of(alloc, &read.list.at(0).tree, texts)
+}
+
 /// An atom, or the elements of a list and its tail where that is not NIL.
 fn parts_of(alloc: Global, tree: &Tree, texts: &Texts) -> Result<Vec<u8>, NoMemory> {
     let mut out = Vec::new(alloc);
+    put_parts(alloc, tree, texts, &mut out)?;
+    Ok(out)
+}
+
+fn put_parts(alloc: Global, tree: &Tree, texts: &Texts, out: &mut Vec<u8>) -> Result<(), NoMemory> {
     for element in tree.elements().iter().rev() {
-        put_atom(alloc, element, texts, &mut out)?;
+        put_atom(alloc, element, texts, out)?;
     }
     if tree.elements().is_empty() {
-        put_atom(alloc, tree, texts, &mut out)?;
+        put_atom(alloc, tree, texts, out)?;
     } else if !tree.tail().is_nil() {
         out.extend_from_slice(b" .")?;
-        put_atom(alloc, tree.tail(), texts, &mut out)?;
+        put_atom(alloc, tree.tail(), texts, out)?;
     }
-    Ok(out)
+    Ok(())
 }
 
 /// An atom behind a space, where it is not the first.
@@ -254,21 +266,25 @@ fn put_atom(alloc: Global, tree: &Tree, texts: &Texts, out: &mut Vec<u8>) -> Res
     Ok(())
 }
 
+/// The line and the column of each form of a text.
+const PLACES: [(u32, u32); 4] = [(2, 2), (3, 7), (4, 8), (4, 11)];
+
+fn check_places(rt: &impl Abort, read: &Forms) {
+    assert!(rt; read.end == End::Bad(4, 15, ReadCode::EndInside));
+    assert_eq!(rt; read.list.len(), 4);
+    for (i, wanted) in PLACES.iter().enumerate() {
+        assert!(rt; i < 4);
+        let form = read.list.at(i as u64);
+        assert_eq!(rt; (form.line, form.column), *wanted, "{i}");
+    }
+}
+
 /// The places of the forms of a text, and what is read before a fault.
 #[test]
 fn places(rt: HostRuntime) -> Result<(), Fail> {
-    let alloc = rt.alloc();
-    let mut texts = Texts::new(alloc)?;
+    let mut texts = Texts::new(rt.alloc())?;
     let text = b"\n (a 'b\n -12) nil ; x\n#| y |#:k 'z (";
-    let Some(read) = read(alloc, text, &mut texts)? else {
-        return Ok(());
-    };
-    assert!(rt; read.end == End::Bad(4, 15, ReadCode::EndInside));
-    let wanted = [(2, 2), (3, 7), (4, 8), (4, 11)];
-    assert_eq!(rt; read.list.len(), 4);
-    for i in 0..4 {
-        let form = read.list.at(i as u64);
-        assert_eq!(rt; (form.line, form.column), wanted[i]);
-    }
+    let read = read(rt.alloc(), text, &mut texts)?.expect(&rt, "a text that is too long");
+    check_places(&rt, &read);
     Ok(())
 }

@@ -5,7 +5,11 @@ use std::alloc::Global;
 use std::mem;
 
 /// The list of two.
-pub(super) fn pair_of(alloc: Global, first: Tree, second: Tree) -> Result<Tree, NoMemory> {
+pub(in crate::tests) fn pair_of(
+    alloc: Global,
+    first: Tree,
+    second: Tree,
+) -> Result<Tree, NoMemory> {
     let rest = Tree::pair(alloc, second, Tree::nil())?;
     Tree::pair(alloc, first, rest)
 }

@@ -1,6 +1,9 @@
 //! Each line of the table of forms, on good forms and on each fault.
 
 use super::{Kind, try_rows};
+use gl_logic::NoMemory;
+use std::alloc::Global;
+use std::process::Abort;
 use std::test::Fail;
 
 type Row = (&'static str, &'static str);
@@ -392,47 +395,21 @@ const THEOREM: [Row; 12] = [
     ("(FOO A)", "V4"),
 ];
 
-#[test]
-fn atoms_and_heads(rt: HostRuntime) -> Result<(), Fail> {
-    try_rows(&rt, rt.alloc(), Kind::Full, &ATOMS)
+/// Tries each table.
+fn try_tables(rt: &impl Abort, alloc: Global) -> Result<(), NoMemory> {
+    try_rows(rt, alloc, Kind::Full, &ATOMS)?;
+    try_rows(rt, alloc, Kind::Full, &CALLS)?;
+    try_rows(rt, alloc, Kind::Full, &LOGIC)?;
+    try_rows(rt, alloc, Kind::Full, &CASES)?;
+    try_rows(rt, alloc, Kind::Full, &BINDINGS)?;
+    try_rows(rt, alloc, Kind::Full, &NUMBERS)?;
+    try_rows(rt, alloc, Kind::Full, &PATHS)?;
+    try_rows(rt, alloc, Kind::Empty, &EMPTY_WORLD)?;
+    try_rows(rt, alloc, Kind::Theorem, &THEOREM)?;
+    Ok(())
 }
 
 #[test]
-fn primitives_and_definitions(rt: HostRuntime) -> Result<(), Fail> {
-    try_rows(&rt, rt.alloc(), Kind::Full, &CALLS)
-}
-
-#[test]
-fn macros_of_logic(rt: HostRuntime) -> Result<(), Fail> {
-    try_rows(&rt, rt.alloc(), Kind::Full, &LOGIC)
-}
-
-#[test]
-fn cases(rt: HostRuntime) -> Result<(), Fail> {
-    try_rows(&rt, rt.alloc(), Kind::Full, &CASES)
-}
-
-#[test]
-fn lets(rt: HostRuntime) -> Result<(), Fail> {
-    try_rows(&rt, rt.alloc(), Kind::Full, &BINDINGS)
-}
-
-#[test]
-fn lists_and_numbers(rt: HostRuntime) -> Result<(), Fail> {
-    try_rows(&rt, rt.alloc(), Kind::Full, &NUMBERS)
-}
-
-#[test]
-fn chains(rt: HostRuntime) -> Result<(), Fail> {
-    try_rows(&rt, rt.alloc(), Kind::Full, &PATHS)
-}
-
-#[test]
-fn without_definitions(rt: HostRuntime) -> Result<(), Fail> {
-    try_rows(&rt, rt.alloc(), Kind::Empty, &EMPTY_WORLD)
-}
-
-#[test]
-fn in_a_theorem(rt: HostRuntime) -> Result<(), Fail> {
-    try_rows(&rt, rt.alloc(), Kind::Theorem, &THEOREM)
+fn each_line_of_the_table(rt: HostRuntime) -> Result<(), Fail> {
+    Ok(try_tables(&rt, rt.alloc())?)
 }
