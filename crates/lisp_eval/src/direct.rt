@@ -1,37 +1,33 @@
 //! Terms that are evaluated at once, with no frame; cells and memory go to conses and to what tables answer.
 
-ghost use Rattle.std.specs.Prelude.{◌≡◌, ◌+◌, ◌-◌, ◌<◌, List, IfOk, IfSome, IsErrOf, IsTrue, Some, length, slice_get};
+ghost use Rattle.std.specs.Prelude.{◌≡◌, ◌+◌, ◌<◌, List, IsTrue, Some, length, slice_get};
 ghost use Rattle.fast_alists.specs.Tables.{Agree};
 ghost use Rattle.gl_logic.specs.Counts.{is_among};
 ghost use Rattle.gl_logic.specs.Environment.{look};
 ghost use Rattle.gl_logic.specs.Exp.{Call};
-ghost use Rattle.gl_logic.specs.Object.{Object, Int};
-ghost use Rattle.gl_logic.specs.PrimValue.{prim_of};
+ghost use Rattle.gl_logic.specs.Object.{Object};
 ghost use Rattle.gl_logic.specs.TermOf.{term_of, terms_of};
 ghost use Rattle.hons_arena.specs.Held.{IsWhole};
-ghost use Rattle.lisp_eval.specs.Attempts.{Tells, TellsAll, Applies, EntersThree, unary_term, binary_term};
-ghost use Rattle.lisp_eval.specs.Directs.{OpensAtOnce, scope_env, IsLiveScope};
+ghost use Rattle.lisp_eval.specs.Attempts.{Tells, TellsAll, EntersThree, unary_term, binary_term};
+ghost use Rattle.lisp_eval.specs.Directs.{scope_env, IsLiveScope};
 ghost use Rattle.lisp_eval.specs.Outside.{value_object, local_in, IsLiveValue};
 ghost use Rattle.lisp_eval.specs.Tables.{answered_in};
 ghost use Rattle.lisp_eval.specs.declared.direct.Stop.TheVariants as stop;
 
+use crate::applied::{apply, constant_found};
 use crate::bindings::look;
-use crate::calls::{is_answered, is_memoized};
+use crate::calls::is_answered;
 use crate::frame::Binding;
-use crate::primitives::{code, is_predicate, predicate};
+use crate::opening::opens_at_once;
 use crate::tables::answer;
-use crate::value::{Local, Value, cons};
+use crate::value::{Local, Value};
 use fast_alists::{AlistFault, FastAlists};
-use gl_logic::{FnId, Names, Prim, Term, TextId, Tree, TreeKind, World};
+use gl_logic::{FnId, Names, Prim, Term, TextId, World};
 use hons_arena::{Full, HonsArena, Id};
-use int_prims::{apply_int, is_operation};
 use std::alloc::{AllocError, AllocFailed};
 
 /// How deep a term that is evaluated at once may nest, with the bodies of the definitions that it opens.
 pub const LEVELS: u64 = 12;
-
-/// How many subterms the body of a definition that is opened at once may have.
-const SUBTERMS: u64 = 32;
 
 /// The variables that a term may name.
 #[derive(Clone, Copy)]
@@ -574,121 +570,5 @@ fn local(formals: &Names, i: u64, value: Value) -> Local
     Local {
         name: *formals.at(i),
         value,
-    }
-}
-
-/// What a constant that needs no cell gives.
-fn constant_found(arena: &HonsArena, tree: &Tree, left: u64) -> Result<Found, Stop>
-    requires { 0 < left }
-    ensures found { IfOk result (λ f. IsLiveValue arena.now.objects f.value × (value_object arena.now.objects f.value ≡ tree.now) × (f.left ≡ left - 1)) }
-    ensures beyond { ¬ IsErrOf result stop.Full }
-{
-    match constant(arena, tree) {
-        Some(value) => Ok(Found {
-            value,
-            left: left - 1,
-        }),
-        None => Err(Stop::Beyond),
-    }
-}
-
-/// The value of a constant that needs no cell.
-fn constant(arena: &HonsArena, tree: &Tree) -> Option<Value>
-    ensures { IfSome result (λ v. IsLiveValue arena.now.objects v × (value_object arena.now.objects v ≡ tree.now)) }
-{
-    match tree.kind() {
-        TreeKind::Int(i) => Value::small(i),
-        TreeKind::Symbol(t) => Some(Value::Symbol(t)),
-        TreeKind::Text(t) => Some(Value::Text(t)),
-        TreeKind::Character(_) => None,
-        TreeKind::List => None,
-    }
-}
-
-/// The value of a primitive. That of `code-char` is beyond this.
-fn apply(arena: &mut HonsArena, prim: Prim, x: Value, y: Value) -> Result<Value, Stop>
-    requires whole { IsWhole arena.old }
-    requires x { IsLiveValue arena.old.objects x }
-    requires y { IsLiveValue arena.old.objects y }
-    ensures { Applies (prim_of prim (value_object arena.old.objects x) (value_object arena.old.objects y)) arena.old arena.new result }
-{
-    match prim {
-        Prim::Cons => Ok(Value::of(cons(arena, x, y)?)),
-        _ => value_of(arena, prim, x, y),
-    }
-}
-
-/// An integer as a value; beyond this where it is of more than 64 bits.
-fn fitting(i: i128) -> Result<Value, Stop>
-    ensures value { IfOk result (λ v. (objects : List Object) → IsLiveValue objects v × (value_object objects v ≡ Int i)) }
-    ensures beyond { ¬ IsErrOf result stop.Full }
-{
-    match Value::small(i) {
-        Some(value) => Ok(value),
-        None => Err(Stop::Beyond),
-    }
-}
-
-/// The value of a primitive that needs no cell.
-fn value_of(arena: &HonsArena, prim: Prim, x: Value, y: Value) -> Result<Value, Stop>
-    requires x { IsLiveValue arena.now.objects x }
-    requires y { IsLiveValue arena.now.objects y }
-    ensures value { IfOk result (λ v. IsLiveValue arena.now.objects v × (value_object arena.now.objects v ≡ prim_of prim (value_object arena.now.objects x) (value_object arena.now.objects y))) }
-    ensures beyond { ¬ IsErrOf result stop.Full }
-{
-    if is_predicate(prim) {
-        return Ok(Value::truth(predicate(arena, prim, x, y)));
-    }
-    if is_operation(prim) {
-        return match apply_int(prim, x.integer(arena), y.integer(arena)) {
-            Ok(i) => fitting(i),
-            Err(_) => Err(Stop::Beyond),
-        };
-    }
-    match prim {
-        Prim::Car => Ok(Value::of(arena.car(x.with_parts()))),
-        Prim::Cdr => Ok(Value::of(arena.cdr(x.with_parts()))),
-        Prim::CharCode => Ok(Value::Int(i64::from(code(arena, x)))),
-        _ => Err(Stop::Beyond),
-    }
-}
-
-/// Whether a definition is opened at once: it is neither memoized nor answered by tables, and its body may well be
-/// evaluated at once.
-fn opens_at_once(world: &World, functions: &[u64], f: FnId) -> bool
-    ensures { IsTrue result → OpensAtOnce world.now.definitions functions.now f.number }
-{
-    if f.number >= world.count() || is_memoized(functions, f) || is_answered(world, f) {
-        return false;
-    }
-    plain_within(&world.def(f).body, SUBTERMS).is_some()
-}
-
-/// How many of so many subterms are left behind those of a term that has no calls and binds nothing. None for any other term,
-/// and where it has more.
-#[cycle(plain_within)]
-fn plain_within(term: &Term, subterms: u64) -> Option<u64>
-    ensures { IfSome result (λ left. left < subterms) }
-{
-    if subterms == 0 {
-        return None;
-    }
-    match term {
-        Term::Var(_) => Some(subterms - 1),
-        Term::Const(_) => Some(subterms - 1),
-        Term::If(test, then, otherwise) => {
-            let behind_test = plain_within(test, subterms - 1)?;
-            let behind_then = plain_within(then, behind_test)?;
-            plain_within(otherwise, behind_then)
-        }
-        Term::Prim(_, terms) => {
-            let mut left = subterms - 1;
-            for part in terms.as_slice() {
-                left = plain_within(part, left)?;
-            }
-            Some(left)
-        }
-        Term::Call(_, _) => None,
-        Term::Let(_, _, _) => None,
     }
 }

@@ -13,6 +13,7 @@
 #![tactic(auto)]
 
 mod ahead;
+mod applied;
 mod bindings;
 mod calls;
 mod constants;
@@ -23,6 +24,7 @@ mod fault;
 mod frame;
 pub mod laws;
 mod machine;
+mod opening;
 mod primitives;
 mod run;
 mod steps;

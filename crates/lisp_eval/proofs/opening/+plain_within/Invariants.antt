@@ -1,5 +1,5 @@
 use Rattle.std.proofs.Common.{◌<◌}
-use Rattle.lisp_eval.proofs.direct.+plain_within.Given as goal
+use Rattle.lisp_eval.proofs.opening.+plain_within.Given as goal
 
 abbrev pub decreases-plain_within : goal.decreases-plain_within
 decreases-plain_within l = l.subterms

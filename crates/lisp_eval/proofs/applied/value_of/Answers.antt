@@ -7,7 +7,7 @@ use Rattle.int_prims.specs.Integers.{is_operation, integers_for}
 use Rattle.lisp_eval.specs.Outside.{value_object, IsLiveValue}
 use Rattle.lisp_eval.proofs.Attempting.{ok_map}
 use Rattle.lisp_eval.proofs.PrimValues.{value_of_integers}
-use Rattle.lisp_eval.proofs.direct.value_of.Goals as goal
+use Rattle.lisp_eval.proofs.applied.value_of.Goals as goal
 
 pub returns-then-is_predicate-clause-value : goal.returns-then-is_predicate-clause-value
 returns-then-is_predicate-clause-value c =
