@@ -1,6 +1,5 @@
 -- A walk on its way, where jobs wait for their answers: one form more, the end of a phase, and the end.
-use Rattle.std.proofs.Common.{◌≡◌, ◌≢◌, ◌∙◌, ap, sym, refl, subst, ℕ, zero, suc, ◌+◌, ◌-◌, ◌<◌, ◌≤◌, ◌^◌, List, [], ◌∷◌, ◌++◌, length, length-append, get_or, take, drop, append_assoc, append-nil, Bool, true, false, cond, Option, Some, None, slice_get, Result, Ok, Err, inl, inr, ◌⊎◌, arith}
-use Rattle.std.specs.Prelude.{OnOk, OnErr, IfOk}
+use Rattle.std.proofs.Common.{◌≡◌, ◌≢◌, ◌∙◌, ap, sym, refl, subst, ℕ, zero, suc, ◌+◌, ◌<◌, ◌≤◌, ◌^◌, List, [], ◌∷◌, ◌++◌, length, length-append, take, drop, append_assoc, append-nil, Bool, true, false, Option, Some, None, slice_get, Ok, Err, arith}
 use Rattle.std.specs.List.{All, flat_map, list_any}
 use Rattle.std.proofs.Math.Seq.{drop-cons, take-append_seam}
 use Rattle.std.proofs.lemmas.List.Concat.{flat_map-append}
@@ -15,7 +14,6 @@ use Rattle.gl_base.specs.Outside.{Grows}
 use Rattle.gl_base.proofs.Growth.{grows-then}
 use Rattle.gl_base.specs.declared.status.Status.{Status}
 use Rattle.sexp_reader.specs.declared.list.Form.{Form}
-use Rattle.sexp_reader.specs.declared.ends.Forms.{Forms}
 use Rattle.sexp_reader.specs.declared.ends.End.{End}
 use Rattle.sexp_reader.specs.declared.ends.End.TheVariants.{Clean, Bad}
 use Rattle.event_world.specs.declared.fault.EventFault.{EventFault}
@@ -25,27 +23,25 @@ use Rattle.gl_decide.specs.Bounds.{Bounds}
 use Rattle.gl_decide.specs.Stalls.{StallSeen}
 use Rattle.gl_decide.specs.declared.verdict.Verdict.TheVariants as verdict
 use Rattle.gl_book.specs.Answers.{IsAnswerable, IsProperAnswer}
-use Rattle.gl_book.specs.Courses.{AreBehind, Course, EndsPhase, EndsPhaseByFront, Follows, HasRoomFor, IsQuiet, IsRefused, KeepsPhase, KeepsPhaseFront, Leads, LeadsToFront, Place, Stands, WritesPhase, WritesPhaseFront, counts_after, count_waited, phase_lines, place_at, waited}
+use Rattle.gl_book.specs.Courses.{AreBehind, Course, EndsPhaseByFront, HasRoomFor, IsQuiet, KeepsPhase, KeepsPhaseFront, Place, Stands, WritesPhase, WritesPhaseFront, counts_after, count_waited, phase_lines, waited}
 use Rattle.gl_book.specs.Entry.{Entry, Answered, Refused, entry_stalls, stalls_of, stalls_in}
 use Rattle.gl_book.specs.Lines.{entry_lines, event_lines, done_line, counts_of, is_answer, is_proved, is_vacuous, is_refuted, is_undecided, is_failed, is_refusal, transcript_lines}
-use Rattle.gl_book.specs.Phases.{JobSeen, AreAnswered, CanBeAnswered, IsAnsweredBy, IsFollowed, ends_phase, is_job, new_job, state_noted}
+use Rattle.gl_book.specs.Phases.{JobSeen, AreAnswered, CanBeAnswered, IsFollowed, ends_phase, is_job, new_job}
 use Rattle.gl_book.specs.Stops.{counts_with, end_refusal, closing_lines, closing_status, told_before, WritesLines, WritesLinesFront, WritesWalk, WritesWalkFront}
 use Rattle.gl_book.specs.Transcript.{told}
-use Rattle.gl_book.specs.Walk.{CanGoOn, Walk, ended, bad, refused, without_value, event, event_in, refusal_at, refused_cause, state_after, text_refusal}
+use Rattle.gl_book.specs.Walk.{CanGoOn, Walk, ended, bad, refused, without_value, event, event_in, refusal_at, refused_cause, state_after}
 use Rattle.gl_book.specs.declared.answer.Answer.{Answer}
 use Rattle.gl_book.specs.declared.answer.Answer.TheVariants as answer
 use Rattle.gl_book.specs.declared.answer.Cause.{Cause}
 use Rattle.gl_book.specs.declared.answer.Cause.TheVariants as cause
-use Rattle.gl_book.specs.declared.counts.Counts.{Counts}
-use Rattle.gl_book.specs.declared.progress.Progress.{Progress}
 use Rattle.gl_book.specs.declared.refusal.Refusal.{Refusal}
 use Rattle.gl_book.specs.declared.refusal.RefusalCode.TheVariants as code
-use Rattle.gl_book.proofs.Closing.{counts_more, room, closing, lines_that_close, status_that_closes, still_answered}
+use Rattle.gl_book.proofs.Closing.{counts_more, closing, lines_that_close, status_that_closes, still_answered}
 use Rattle.gl_book.proofs.GoOn.{after_event}
 use Rattle.gl_book.proofs.Looks.{before_event}
 use Rattle.gl_book.proofs.Onward.{some_walk}
-use Rattle.gl_book.proofs.Told.{front_of, front_then, grows_is, grows_nothing, so_far, told_before_split, told_whole}
-use Rattle.gl_book.proofs.Waited.{LastAnswered, HasLast, with_lines, waited_lines, waited_stalls, waited_counts, waited_stand, waited_count, none_behind, few_jobs, behind_push, count_push, last_answered, waited_push, has_last, behind_more, count_more, answered_without, waited_more}
+use Rattle.gl_book.proofs.Told.{front_then, grows_is, grows_nothing, so_far, told_before_split, told_whole}
+use Rattle.gl_book.proofs.Waited.{HasLast, with_lines, waited_lines, waited_stalls, waited_counts, waited_stand, waited_count, none_behind, few_jobs, behind_push, count_push, last_answered, waited_push, has_last, behind_more, count_more, answered_without, waited_more}
 
 -- ---- answers that memory alone does not hinder
 abbrev memory_answer : EventSeen → Answer

@@ -1,5 +1,5 @@
 -- What a proper answer looks at: the definitions and the constants of its world, and the limits but for the workers.
-use Rattle.std.proofs.Common.{◌≡◌, ℕ, Bool, List, [], ◌∷◌}
+use Rattle.std.proofs.Common.{ℕ, List, [], ◌∷◌}
 use Rattle.gl_logic.specs.Object.{Object}
 use Rattle.gl_logic.specs.Exp.{Exp}
 use Rattle.gl_logic.specs.WorldSeen.{WorldSeen}
@@ -12,8 +12,8 @@ use Rattle.gl_decide.specs.Verdicts.{IsProperVerdict}
 use Rattle.gl_decide.specs.declared.stall.StallCause.{StallCause}
 use Rattle.gl_decide.specs.declared.verdict.Verdict.{Verdict}
 use Rattle.gl_decide.specs.declared.verdict.Verdict.TheVariants as verdict
-use Rattle.gl_book.specs.Answers.{IsValue, IsPrintedValue, IsTruth, IsTooLarge, HasCause, LacksValue, IsProperValue, IsProperTruth, IsDecided, IsFunctionNamed, IsDone, IsProperAnswer, decided_theorem}
-use Rattle.gl_book.specs.Phases.{JobSeen, IsAnsweredBy, AreAnswered, with_one_worker}
+use Rattle.gl_book.specs.Answers.{IsValue, HasCause, IsProperValue, IsProperTruth, IsDecided, IsFunctionNamed, IsProperAnswer, decided_theorem}
+use Rattle.gl_book.specs.Phases.{JobSeen, AreAnswered, with_one_worker}
 use Rattle.gl_book.specs.declared.answer.Cause.{Cause}
 use Rattle.gl_book.specs.declared.answer.Cause.TheVariants as cause
 use Rattle.gl_book.specs.declared.answer.Answer.{Answer}

@@ -23,7 +23,7 @@ use Rattle.gl_book.specs.Lines.{entry_lines, event_lines, done_line, counts_of, 
 use Rattle.gl_book.specs.Answers.{IsProperAnswer}
 use Rattle.gl_book.specs.Walk.{CanGoOn, event_in, state_after, refused_cause, refusal_at, Walk, ended, bad, refused, without_value, event}
 use Rattle.gl_book.specs.Transcript.{told}
-use Rattle.gl_book.specs.Stops.{HasRoom, counts_with, end_refusal, closing_lines, closing_status, told_before, WritesLines, WritesLinesFront, KeepsFront, KeepsStalls, KeepsStallsFront, WritesWalk, WritesWalkFront}
+use Rattle.gl_book.specs.Stops.{HasRoom, counts_with, end_refusal, closing_lines, closing_status, told_before, WritesLines, WritesLinesFront, KeepsFront, KeepsStalls, WritesWalk, WritesWalkFront}
 use Rattle.gl_book.specs.declared.answer.Answer.{Answer}
 use Rattle.gl_book.specs.declared.answer.Cause.{Cause}
 use Rattle.gl_book.specs.declared.answer.Cause.TheVariants as cause

@@ -1,24 +1,21 @@
 -- The entries of jobs that have waited: their lines, counts and stalls.
-use Rattle.std.proofs.Common.{◌≡◌, ◌∙◌, ap, sym, refl, subst, ℕ, zero, suc, ◌+◌, ◌-◌, ◌<◌, ◌≤◌, ◌^◌, List, [], ◌∷◌, ◌++◌, length, length-append, take, drop, append_assoc, append-nil, Bool, true, false, cond, Some, slice_get, inl, inr, ◌⊎◌, arith}
-use Rattle.std.specs.Prelude.{◌||◌}
+use Rattle.std.proofs.Common.{◌≡◌, ◌∙◌, ap, sym, refl, ℕ, suc, ◌+◌, ◌<◌, ◌≤◌, List, [], ◌∷◌, ◌++◌, length, length-append, take, drop, append_assoc, append-nil, false, arith}
 use Rattle.std.specs.List.{flat_map, list_any}
 use Rattle.std.proofs.Math.Seq.{take-append_seam}
 use Rattle.std.proofs.lemmas.List.{take-append-drop}
 use Rattle.std.proofs.lemmas.List.Concat.{flat_map-append}
-use Rattle.std.proofs.lemmas.List.Folds.{list_any-append}
 use Rattle.gl_logic.specs.Every.{Every}
 use Rattle.gl_logic.specs.WorldSeen.{WorldSeen}
 use Rattle.event_world.specs.EventSeen.{EventSeen}
 use Rattle.gl_decide.specs.Bounds.{Bounds}
 use Rattle.gl_decide.specs.Stalls.{StallSeen}
-use Rattle.gl_book.specs.Courses.{IsQuiet, AreBehind, waited, count_waited, job_lines, phase_lines, counts_after}
+use Rattle.gl_book.specs.Courses.{IsQuiet, AreBehind, waited, count_waited, phase_lines, counts_after}
 use Rattle.gl_book.specs.Entry.{Entry, Answered, Refused, entry_stalls, stalls_of, stalls_in}
 use Rattle.gl_book.specs.Lines.{entry_lines, event_lines, counts_of, is_refusal}
 use Rattle.gl_book.specs.Phases.{JobSeen, IsAnsweredBy, AreAnswered}
 use Rattle.gl_book.specs.Stops.{counts_with}
 use Rattle.gl_book.specs.declared.answer.Answer.{Answer}
 use Rattle.gl_book.specs.declared.answer.Answer.TheVariants as answer
-use Rattle.gl_book.specs.declared.counts.Counts.{Counts}
 use Rattle.gl_book.proofs.Closing.{counts_more, still_answered}
 
 -- ---- quiet entries

@@ -1,11 +1,8 @@
 -- From one place of a walk to the next, by what the walk's functions did.
-use Rattle.std.proofs.Common.{◌≡◌, ◌≢◌, ◌∙◌, ap, sym, refl, subst, ℕ, zero, suc, ◌+◌, ◌<◌, ◌≤◌, ◌^◌, List, [], ◌∷◌, ◌++◌, length, take, drop, Bool, true, false, Option, Some, None, slice_get, Result, Ok, Err, arith}
-use Rattle.std.specs.Prelude.{OnOk, OnErr, IfOk}
-use Rattle.std.specs.List.{All}
+use Rattle.std.proofs.Common.{◌≡◌, ◌≢◌, sym, refl, subst, ℕ, zero, suc, ◌+◌, ◌<◌, ◌≤◌, List, [], ◌∷◌, ◌++◌, length, take, Bool, true, false, Option, Some, None, Ok, Err, arith}
 use Rattle.gl_logic.specs.Object.{Object, nil}
 use Rattle.gl_logic.specs.WorldSeen.{WorldSeen}
 use Rattle.gl_base.specs.Outside.{Grows}
-use Rattle.gl_base.specs.declared.status.Status.{Status}
 use Rattle.sexp_reader.specs.declared.list.Form.{Form}
 use Rattle.event_world.specs.declared.fault.EventFault.{EventFault}
 use Rattle.event_world.specs.EventSeen.{EventSeen, Nothing, Redundant, Defun, Defconst, Value, Assert, Memoize, Unmemoize, SetMode, Theorem, Clique, RedundantClique}
@@ -13,11 +10,11 @@ use Rattle.event_world.specs.NextState.{BookState, next_state}
 use Rattle.gl_decide.specs.Bounds.{Bounds}
 use Rattle.gl_decide.specs.Stalls.{StallSeen}
 use Rattle.gl_book.specs.Answers.{IsAnswerable, IsProperAnswer}
-use Rattle.gl_book.specs.Courses.{Course, EndsPhase, EndsPhaseByFront, Follows, HasRoomFor, IsRefused, Leads, LeadsPast, LeadsPastToFront, LeadsToFront, Place, Stands, place_at, counts_after}
+use Rattle.gl_book.specs.Courses.{EndsPhase, EndsPhaseByFront, Follows, HasRoomFor, Leads, LeadsPast, LeadsPastToFront, LeadsToFront, Place, Stands, place_at, counts_after}
 use Rattle.gl_book.specs.Lines.{event_lines}
 use Rattle.gl_book.specs.Entry.{stalls_of}
 use Rattle.gl_book.specs.Phases.{JobSeen, AreAnswered, ends_phase, is_job, jobs_of, new_job, state_noted}
-use Rattle.gl_book.specs.Stops.{closing_lines, closing_status, counts_with, told_before, WritesLines, WritesLinesFront, WritesWalk, WritesWalkFront}
+use Rattle.gl_book.specs.Stops.{counts_with, told_before}
 use Rattle.gl_book.specs.Walk.{event_in, refusal_at, refused_cause, state_after}
 use Rattle.gl_book.specs.declared.answer.Answer.{Answer}
 use Rattle.gl_book.specs.declared.answer.Cause.{Cause}
@@ -26,8 +23,7 @@ use Rattle.gl_book.specs.declared.counts.Counts.{Counts}
 use Rattle.gl_book.specs.declared.progress.Progress.{Progress}
 use Rattle.gl_book.specs.declared.refusal.Refusal.{Refusal}
 use Rattle.gl_book.specs.declared.refusal.RefusalCode.TheVariants as code
-use Rattle.gl_book.specs.declared.stop.Stop.{Stop}
-use Rattle.gl_book.proofs.Crosses.{closes, ends_refused, ends_without, follows, front_closing, front_here, front_next, goes_on, job_ends_none, phase_front, phase_stands, waits}
+use Rattle.gl_book.proofs.Crosses.{ends_refused, ends_without, follows, front_here, front_next, goes_on, job_ends_none, phase_front, phase_stands, waits}
 use Rattle.gl_book.proofs.Puts.{room_for_next}
 use Rattle.gl_book.proofs.Waited.{as_many}
 

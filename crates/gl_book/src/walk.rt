@@ -252,19 +252,26 @@ fn answer_now<R: Threads + Sync, K: Sink>(
     ensures cause { IsCounted (K.faults out.old) (K.faults out.new) result }
 {
     let answer = answer_of(rt, alloc, state.world(), state.memoized(), &event, limits);
-    match refused_cause(&event, &answer) {
-        None => {}
-        Some(cause) => match cause {
-            Cause::Memory => return Err(Stop::Memory),
-            _ => return Ok(Some(refusal_at(form, RefusalCode::Constant(cause)))),
-        },
+    if let Some(cause) = refused_cause(&event, &answer) {
+        drop(event);
+        drop(answer);
+        return match cause {
+            Cause::Memory => Err(Stop::Memory),
+            _ => Ok(Some(refusal_at(form, RefusalCode::Constant(cause)))),
+        };
     }
     progress.counts = progress.counts.with(&answer);
-    let value = put_event(alloc, &event, answer, texts, last_only, stalls, out)?;
-    let Ok(()) = state.take(alloc, &form.tree, event, value) else {
-        return Err(Stop::Memory);
+    let value = match put_event(alloc, &event, answer, texts, last_only, stalls, out) {
+        Ok(value) => value,
+        Err(stop) => {
+            drop(event);
+            return Err(stop);
+        }
     };
-    Ok(None)
+    match state.take(alloc, &form.tree, event, value) {
+        Ok(()) => Ok(None),
+        Err(_) => Err(Stop::Memory),
+    }
 }
 
 /// Whether an event is a job: its answer may come later.

@@ -9,7 +9,6 @@ use Rattle.gl_book.specs.Lines.{event_lines}
 use Rattle.gl_book.specs.Stops.{told_before}
 use Rattle.gl_book.specs.Walk.{refused_cause}
 use Rattle.gl_book.specs.declared.refusal.Refusal.{Refusal}
-use Rattle.gl_book.proofs.Joined.{on_err}
 use Rattle.gl_book.proofs.Stalled.{kept_whole}
 use Rattle.gl_book.proofs.Told.{whole_front}
 use Rattle.gl_book.proofs.Ways.{front_past, goes_past, goes_past_front, refused_past, stays_front}
@@ -28,8 +27,8 @@ returns-in-Memory-clause-front g c =
     let here = place_at state old written stalls in
     front_past names bounds last form here written stalls (stays_front names bounds last here written stalls refl refl)
 
-pub returns-in_default : goal.returns-in_default
-returns-in_default g c =
+pub returns-in_default-cause : goal.returns-in_default-cause
+returns-in_default-cause g c =
     let names = c.args.texts.now in
     let bounds = bounds_of c.args.limits.now in
     let last = c.args.last_only in
@@ -42,11 +41,11 @@ returns-in_default g c =
     let here = place_at state old written stalls in
     let a = c.answer_of-answer.result in
     let proper : IsProperAnswer bounds state.world state.memoized e a = rw (c.world.ensures.world, c.memoized.ensures.memoized) at c.answer_of-answer.ensures in
-    let past = refused_past names bounds last form e state c.requires.meant old written stalls c.requires.none a proper c.in-Some.cause (sym c.refused_cause.ensures ∙ c.in-Some.is) c.in_default.not-Memory in
+    let past = refused_past names bounds last form e state c.requires.meant old written stalls c.requires.none a proper c.in-Some.cause (sym c.refused_cause.ensures ∙ c.in-Some.is) c.in_default-cause.not-Memory in
     record { ok = subst (λ (r : Refusal). LeadsPast names bounds last form here (Some r) here) (sym c.refusal_at.ensures) past; front = tt; cause = refl }
 
-pub returns-in_err-value-clause-front : goal.returns-in_err-value-clause-front
-returns-in_err-value-clause-front g c =
+pub returns-in-Err-clause-front : goal.returns-in-Err-clause-front
+returns-in-Err-clause-front g c =
     let names = c.args.texts.now in
     let bounds = bounds_of c.args.limits.now in
     let last = c.args.last_only in
@@ -58,11 +57,11 @@ returns-in_err-value-clause-front g c =
     let stalls = c.args.stalls.now in
     let a = c.answer_of-answer.result in
     let proper : IsProperAnswer bounds state.world state.memoized e a = rw (c.world.ensures.world, c.memoized.ensures.memoized) at c.answer_of-answer.ensures in
-    let valued : refused_cause e a ≡ None = sym c.refused_cause.ensures ∙ c.in-None.is in
-    on_err c.from_residual.result (goes_past_front names bounds last form e state c.requires.meant old written stalls c.requires.none a proper _ _ valued c.in_err-value.ensures.front c.in_err-value.ensures.kept_front)
+    let valued : refused_cause e a ≡ None = sym c.refused_cause.ensures ∙ c.in_default.is in
+    goes_past_front names bounds last form e state c.requires.meant old written stalls c.requires.none a proper _ _ valued c.in-Err.ensures.front c.in-Err.ensures.kept_front
 
-pub returns-in_default-take-clause-front : goal.returns-in_default-take-clause-front
-returns-in_default-take-clause-front g c =
+pub returns-in-Err-take-clause-front : goal.returns-in-Err-take-clause-front
+returns-in-Err-take-clause-front g c =
     let names = c.args.texts.now in
     let bounds = bounds_of c.args.limits.now in
     let last = c.args.last_only in
@@ -74,14 +73,14 @@ returns-in_default-take-clause-front g c =
     let stalls = c.args.stalls.now in
     let a = c.answer_of-answer.result in
     let proper : IsProperAnswer bounds state.world state.memoized e a = rw (c.world.ensures.world, c.memoized.ensures.memoized) at c.answer_of-answer.ensures in
-    let valued : refused_cause e a ≡ None = sym c.refused_cause.ensures ∙ c.in-None.is in
+    let valued : refused_cause e a ≡ None = sym c.refused_cause.ensures ∙ c.in_default.is in
     let now = g.K.Sink.written c.put_event.new.out in
     let after = c.put_event.new.stalls in
     goes_past_front names bounds last form e state c.requires.meant old written stalls c.requires.none a proper now after valued
-    (whole_front written now now (told_before last (event_lines names e a)) c.in_ok-value.ensures.ok refl) (kept_whole (stalls_of a) stalls after c.in_ok-value.ensures.kept)
+    (whole_front written now now (told_before last (event_lines names e a)) c.in-Ok.ensures.ok refl) (kept_whole (stalls_of a) stalls after c.in-Ok.ensures.kept)
 
-pub returns-clause-ok : goal.returns-clause-ok
-returns-clause-ok g c =
+pub returns-in-Ok-take-clause-ok : goal.returns-in-Ok-take-clause-ok
+returns-in-Ok-take-clause-ok g c =
     let names = c.args.texts.now in
     let bounds = bounds_of c.args.limits.now in
     let last = c.args.last_only in
@@ -93,6 +92,6 @@ returns-clause-ok g c =
     let stalls = c.args.stalls.now in
     let a = c.answer_of-answer.result in
     let proper : IsProperAnswer bounds state.world state.memoized e a = rw (c.world.ensures.world, c.memoized.ensures.memoized) at c.answer_of-answer.ensures in
-    let valued : refused_cause e a ≡ None = sym c.refused_cause.ensures ∙ c.in-None.is in
+    let valued : refused_cause e a ≡ None = sym c.refused_cause.ensures ∙ c.in_default.is in
     goes_past names bounds last form e state c.requires.meant old written stalls c.requires.none a proper c.take.new.self (record { counts = c.with-progress.result; waiting = old.waiting }) (g.K.Sink.written c.put_event.new.out) c.put_event.new.stalls valued
-    (c.in-Ok.ensures ∙ ap (next_state state form.tree e) c.in_ok-value.ensures.value) c.requires.none c.with-progress.ensures c.in_ok-value.ensures.ok c.in_ok-value.ensures.kept
+    (c.in-Ok-take.ensures ∙ ap (next_state state form.tree e) c.in-Ok.ensures.value) c.requires.none c.with-progress.ensures c.in-Ok.ensures.ok c.in-Ok.ensures.kept
