@@ -4,7 +4,7 @@ use Rattle.std.specs.Prelude.{IfOk, IsErrOf}
 use Rattle.gl_logic.specs.Counts.{is_among}
 use Rattle.gl_logic.specs.Definition.{Definition}
 use Rattle.gl_logic.specs.Environment.{extended}
-use Rattle.gl_logic.specs.Exp.{Exp, Exps, If, Prim, Call, Last, More}
+use Rattle.gl_logic.specs.Exp.{Exp, Exps, Const, If, Prim, Call, Last, More}
 use Rattle.gl_logic.specs.IsGround.{AreGround}
 use Rattle.gl_logic.specs.Object.{Object, nil}
 use Rattle.gl_logic.specs.ObjectEq.{is_nil}
@@ -13,7 +13,7 @@ use Rattle.gl_logic.specs.declared.prim.Primitive.{Primitive}
 use Rattle.fast_alists.specs.Tables.{Agree}
 use Rattle.hons_arena.specs.Held.{Held, AddsCellsOf, IsWhole}
 use Rattle.lisp_eval.specs.Answers.{HasGrown}
-use Rattle.lisp_eval.specs.Attempts.{Alists, Tells, TellsAll, Applies, IsSeenOrNil, SeesThree, unary_term, binary_term}
+use Rattle.lisp_eval.specs.Attempts.{Alists, Tells, TellsAll, Applies, IsSeenOrNil, SeesThree, unary_term, binary_term, value_found}
 use Rattle.lisp_eval.specs.CallValue.{IsCallValue}
 use Rattle.lisp_eval.specs.Directs.{GivesAtOnce, IsFound, AreGiven, OpensAtOnce}
 use Rattle.lisp_eval.specs.Narrow.{IsNarrow}
@@ -26,10 +26,10 @@ use Rattle.lisp_eval.specs.declared.direct.Given.{Given}
 use Rattle.lisp_eval.specs.declared.direct.Stop.{Stop}
 use Rattle.lisp_eval.specs.declared.direct.Stop.TheVariants as stop
 use Rattle.lisp_eval.specs.declared.value.Value.{Value}
-use Rattle.lisp_eval.proofs.DirectFound.{value_narrow, found_if, one_given, two_given, three_given, found_prim, found_call}
+use Rattle.lisp_eval.proofs.DirectFound.{value_narrow, found_const, found_if, one_given, two_given, three_given, found_prim, found_call}
 use Rattle.lisp_eval.proofs.Directly.{shut_gives, shut_seen}
 use Rattle.lisp_eval.proofs.Entering.{value_grown}
-use Rattle.lisp_eval.proofs.Sights.{Covers, SeesWithin, adds_cells, adds_on, adds_by, lacks_by, lacks_cell, if_sees_test, if_sees_branch, prim_sees_parts, prim_value_seen, call_sees_parts, call_sees_body, first_seen, rest_seen, arguments_seen, in_behind}
+use Rattle.lisp_eval.proofs.Sights.{Covers, SeesWithin, const_seen, adds_cells, adds_on, adds_by, lacks_by, lacks_cell, if_sees_test, if_sees_branch, prim_sees_parts, prim_value_seen, call_sees_parts, call_sees_body, first_seen, rest_seen, arguments_seen, in_behind}
 use Rattle.lisp_eval.proofs.TableValues.{tables_are_right}
 
 get_or_in : (xs : List Object) (k : ℕ) → IsIn xs (get_or xs k nil) ⊎ (get_or xs k nil ≡ nil)
@@ -86,6 +86,23 @@ module _ (ds : List Definition) (functions : List ℕ) where
       found = ok_map (IsFound ds functions new.objects inner u rest) (IsFound ds functions new.objects env t left) answer f h.found;
       lacks = λ e. lacks_by (S t) (Sees ds functions inner u) new c (h.lacks e);
     }
+
+    -- ---- a constant
+    pub const_tells : (t : Exp) (o : Object) (left : ℕ) (old new : Held) (tables : Alists) (answer : Result Found Stop) → Agree new.objects tables → (left ≡ 0 → ⊥) → t ≡ Const o → Applies o old new (value_found answer) → IfOk answer (λ f. f.left ≡ left - 1) → Tell t left old new tables answer
+    const_tells t o left old new tables answer agree some e a l = told answer a l where
+      seen_const : (seen : List Object) → S t seen → IsIn seen o
+      seen_const = subst (λ (u : Exp). (seen : List Object) → S u seen → IsIn seen o) (sym e) (const_seen ds functions env o)
+
+      is_full : (s : Stop) → IsErrOf {T = Found} (Err s) stop.Full → s ≡ stop.Full
+      is_full s q = cc
+
+      same_stop : (s : Stop) → s ≡ stop.Full → IsErrOf {T = Value} {E = Stop} (Err s) stop.Full
+      same_stop s q = subst (λ (z : Stop). IsErrOf {T = Value} {E = Stop} (Err z) stop.Full) (sym q) refl
+
+      told : (r : Result Found Stop) → Applies o old new (value_found r) → IfOk r (λ f. f.left ≡ left - 1) → Tell t left old new tables r
+      told (Ok f) a l = tells_found t left old new tables f (adds_cells (S t) o old new seen_const a.objects a.limit a.whole) agree
+          (subst (λ (n : ℕ). IsFound ds functions new.objects env t left (record { value = f.value; left = n })) (sym l) (found_const ds functions new a.whole env t o left f.value some e a.value.1 a.value.0))
+      told (Err s) a l = tells_refused t left old new tables (Err s) refl (adds_cells (S t) o old new seen_const a.objects a.limit a.whole) agree (λ q. lacks_cell (S t) o new seen_const (a.lacks (same_stop s (is_full s q))))
 
     -- ---- an `if`
     covers_test : (t test a b : Exp) → t ≡ If test a b → Covers (S t) (S test)

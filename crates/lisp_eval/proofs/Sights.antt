@@ -4,7 +4,7 @@ use Rattle.gl_logic.specs.Counts.{is_among}
 use Rattle.gl_logic.specs.Definition.{Definition}
 use Rattle.gl_logic.specs.Environment.{extended}
 use Rattle.gl_logic.specs.Every.{Every}
-use Rattle.gl_logic.specs.Exp.{Exp, Exps, If, Prim, Call, Last, More}
+use Rattle.gl_logic.specs.Exp.{Exp, Exps, Const, If, Prim, Call, Last, More}
 use Rattle.gl_logic.specs.Object.{Object}
 use Rattle.gl_logic.specs.ObjectEq.{is_nil}
 use Rattle.gl_logic.specs.PrimValue.{prim_value}
@@ -148,6 +148,9 @@ module _ (ds : List Definition) (functions : List ℕ) where
       let all : Every (IsIn s.walk.seen) s.walk.values = values_seen (IsIn s.walk.seen) (threaded ds A functions s.depth) ts env s.kept s.walk s.walks (every_in s.walk.seen) in
       let here : IsIn s.walk.values x = subst (λ (zs : List Object). IsIn zs x) (sym ends.values) i in
       subst (λ (zs : List Object). IsIn zs x) s.sight (every_at (IsIn s.walk.seen) s.walk.values all x here)
+
+  pub const_seen : (env : List (ℕ × Object)) (o : Object) (seen : List Object) → Sees ds functions env (Const o) seen → IsIn seen o
+  const_seen env o seen s = subst (λ (zs : List Object). IsIn zs o) (ap (λ (w : Thread). w.seen) (some_same _ s.walk s.walks) ∙ s.sight) (0, refl)
 
   pub prim_value_seen : (env : List (ℕ × Object)) (p : _) (ts : Exps) (xs : List Object) (m : ℕ) → GiveAtOnce ds functions env ts xs m → (seen : List Object) → Sees ds functions env (Prim p ts) seen → IsIn seen (prim_value p xs)
   prim_value_seen env p ts xs m g seen s =

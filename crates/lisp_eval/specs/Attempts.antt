@@ -1,5 +1,5 @@
 -- What an attempt at evaluating a term at once tells.
-use Rattle.std.specs.Prelude.{◌≡◌, ℕ, List, Result, IfOk, IsErrOf, ◌⊎◌}
+use Rattle.std.specs.Prelude.{◌≡◌, ℕ, List, Result, Ok, Err, IfOk, IsErrOf, ◌⊎◌}
 use Rattle.gl_logic.specs.Definition.{Definition}
 use Rattle.gl_logic.specs.Exp.{Exp, Exps, Prim, Last, More}
 use Rattle.gl_logic.specs.declared.prim.Primitive.{Primitive}
@@ -54,6 +54,11 @@ pub record Applies (object : Object) (old new : Held) (answer : Result Value Sto
   pub limit : new.limit ≡ old.limit
   pub whole : IsWhole new
   pub lacks : IsErrOf answer stop.Full → LacksCell new object
+
+-- the value of what is found
+abbrev pub value_found : Result Found Stop → Result Value Stop
+value_found (Ok f) = Ok f.value
+value_found (Err s) = Err s
 
 -- ---- of a call that tables answer
 abbrev pub IsSeenOrNil : List Object → Object → Type 0

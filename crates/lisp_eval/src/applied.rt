@@ -1,45 +1,58 @@
 //! Values of constants and primitives, without a frame.
 
-ghost use Rattle.std.specs.Prelude.{◌≡◌, ◌-◌, ◌<◌, List, IfOk, IfSome, IsErrOf};
-ghost use Rattle.gl_logic.specs.Object.{Object, Int};
+ghost use Rattle.std.specs.Prelude.{◌≡◌, ◌-◌, ◌<◌, IfOk, IsErrOf};
+ghost use Rattle.gl_logic.specs.Object.{Int};
 ghost use Rattle.gl_logic.specs.PrimValue.{prim_of};
 ghost use Rattle.hons_arena.specs.Held.{IsWhole};
-ghost use Rattle.lisp_eval.specs.Attempts.{Applies};
+ghost use Rattle.lisp_eval.specs.Attempts.{Applies, value_found};
 ghost use Rattle.lisp_eval.specs.Outside.{value_object, IsLiveValue};
 ghost use Rattle.lisp_eval.specs.declared.direct.Stop.TheVariants as stop;
 
 use crate::direct::{Found, Stop};
 use crate::primitives::{code, is_predicate, predicate};
-use crate::value::{Value, cons};
+use crate::value::{Value, cons, integer_id};
 use gl_logic::{Prim, Tree, TreeKind};
 use hons_arena::HonsArena;
 use int_prims::{apply_int, is_operation};
 
-/// What a constant that needs no cell gives.
-pub fn constant_found(arena: &HonsArena, tree: &Tree, left: u64) -> Result<Found, Stop>
-    requires { 0 < left }
-    ensures found { IfOk result (λ f. IsLiveValue arena.now.objects f.value × (value_object arena.now.objects f.value ≡ tree.now) × (f.left ≡ left - 1)) }
-    ensures beyond { ¬ IsErrOf result stop.Full }
+/// What a constant gives that is an integer, a symbol or a string; nothing for any other.
+pub fn constant_found(arena: &mut HonsArena, tree: &Tree, left: u64) -> Result<Found, Stop>
+    requires whole { IsWhole arena.old }
+    requires left { 0 < left }
+    ensures found { IfOk result (λ f. f.left ≡ left - 1) }
+    ensures applies { Applies tree.now arena.old arena.new (value_found result) }
 {
     match constant(arena, tree) {
-        Some(value) => Ok(Found {
+        Ok(value) => Ok(Found {
             value,
             left: left - 1,
         }),
-        None => Err(Stop::Beyond),
+        Err(stop) => Err(stop),
     }
 }
 
-/// The value of a constant that needs no cell.
-fn constant(arena: &HonsArena, tree: &Tree) -> Option<Value>
-    ensures { IfSome result (λ v. IsLiveValue arena.now.objects v × (value_object arena.now.objects v ≡ tree.now)) }
+/// The value of a constant that is an integer, a symbol or a string.
+fn constant(arena: &mut HonsArena, tree: &Tree) -> Result<Value, Stop>
+    requires { IsWhole arena.old }
+    ensures { Applies tree.now arena.old arena.new result }
 {
     match tree.kind() {
-        TreeKind::Int(i) => Value::small(i),
-        TreeKind::Symbol(t) => Some(Value::Symbol(t)),
-        TreeKind::Text(t) => Some(Value::Text(t)),
-        TreeKind::Character(_) => None,
-        TreeKind::List => None,
+        TreeKind::Int(i) => integer_value(arena, i),
+        TreeKind::Symbol(t) => Ok(Value::Symbol(t)),
+        TreeKind::Text(t) => Ok(Value::Text(t)),
+        TreeKind::Character(_) => Err(Stop::Beyond),
+        TreeKind::List => Err(Stop::Beyond),
+    }
+}
+
+/// An integer as a value: one of more than 64 bits takes a cell where it has none.
+fn integer_value(arena: &mut HonsArena, i: i128) -> Result<Value, Stop>
+    requires { IsWhole arena.old }
+    ensures { Applies (Int i) arena.old arena.new result }
+{
+    match Value::small(i) {
+        Some(value) => Ok(value),
+        None => Ok(Value::of(integer_id(arena, i)?)),
     }
 }
 
@@ -50,20 +63,15 @@ pub fn apply(arena: &mut HonsArena, prim: Prim, x: Value, y: Value) -> Result<Va
     requires y { IsLiveValue arena.old.objects y }
     ensures { Applies (prim_of prim (value_object arena.old.objects x) (value_object arena.old.objects y)) arena.old arena.new result }
 {
+    if is_operation(prim) {
+        return match apply_int(prim, x.integer(arena), y.integer(arena)) {
+            Ok(i) => integer_value(arena, i),
+            Err(_) => Err(Stop::Beyond),
+        };
+    }
     match prim {
         Prim::Cons => Ok(Value::of(cons(arena, x, y)?)),
         _ => value_of(arena, prim, x, y),
-    }
-}
-
-/// An integer as a value; beyond this where it is of more than 64 bits.
-fn fitting(i: i128) -> Result<Value, Stop>
-    ensures value { IfOk result (λ v. (objects : List Object) → IsLiveValue objects v × (value_object objects v ≡ Int i)) }
-    ensures beyond { ¬ IsErrOf result stop.Full }
-{
-    match Value::small(i) {
-        Some(value) => Ok(value),
-        None => Err(Stop::Beyond),
     }
 }
 
@@ -76,12 +84,6 @@ fn value_of(arena: &HonsArena, prim: Prim, x: Value, y: Value) -> Result<Value, 
 {
     if is_predicate(prim) {
         return Ok(Value::truth(predicate(arena, prim, x, y)));
-    }
-    if is_operation(prim) {
-        return match apply_int(prim, x.integer(arena), y.integer(arena)) {
-            Ok(i) => fitting(i),
-            Err(_) => Err(Stop::Beyond),
-        };
     }
     match prim {
         Prim::Car => Ok(Value::of(arena.car(x.with_parts()))),

@@ -71,7 +71,7 @@ struct Ids {
 /// Why a term gives nothing at once.
 #[derive(Clone, Copy, Debug, PartialEq, Eq)]
 pub enum Stop {
-    /// It is not of those that are evaluated at once, or some integer is outside 64 bits, or too few visits are left.
+    /// It is not of those that are evaluated at once, or its value is an integer outside 128 bits, or too few visits are left.
     Beyond,
     /// There is no cell left.
     Full,
@@ -132,8 +132,8 @@ fn local_value(locals: &[Local], name: TextId) -> Value
 }
 
 /// The value of a term on the variables of a scope, and the visits that are left of so many; for a term of few levels that
-/// binds nothing, and opens no definitions but those that bind nothing and call nothing. Full only where a cons lacks a
-/// cell, Memory only where a table is refused it; where a table's answer lacks a cell, it is Beyond. Cells that were made
+/// binds nothing, and opens no definitions but those that bind nothing and call nothing. Full only where a cons, or an
+/// integer of more than 64 bits, lacks a cell, Memory only where a table is refused it; where a table's answer lacks a cell, it is Beyond. Cells that were made
 /// stay, after a refusal too: each is of a value that the evaluation of the term speaks of.
 ///
 /// Each kind of compound term has a function of its own, so that a visit has a small frame.

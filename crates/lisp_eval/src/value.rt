@@ -239,7 +239,7 @@ fn integer_of(arena: &HonsArena, number: u64) -> i128
 }
 
 /// The id of an integer, which takes a cell where it has none; Full only where there is none left.
-fn integer_id(arena: &mut HonsArena, i: i128) -> Result<Id, Full>
+pub fn integer_id(arena: &mut HonsArena, i: i128) -> Result<Id, Full>
     requires { IsWhole arena.old }
     ensures places { Places arena.old arena.new (Int i) result }
     ensures whole { IsWhole arena.new }

@@ -10,15 +10,15 @@ use Rattle.gl_logic.specs.declared.term.Term.{Term}
 use Rattle.hons_arena.specs.Held.{AddsCellsOf}
 use Rattle.hons_arena.specs.Ids.{object_at, IsIdOf}
 use Rattle.lisp_eval.specs.Attempts.{Tells, TellsAll}
-use Rattle.lisp_eval.specs.Directs.{IsFound, scope_env}
+use Rattle.lisp_eval.specs.Directs.{scope_env}
 use Rattle.lisp_eval.specs.Outside.{value_object}
 use Rattle.lisp_eval.specs.Sights.{Sees}
 use Rattle.lisp_eval.specs.Tables.{answered_in, table_value}
 use Rattle.lisp_eval.specs.declared.direct.Stop.TheVariants as stop
 use Rattle.lisp_eval.specs.declared.value.Value.{Value}
 use Rattle.lisp_eval.specs.declared.value.Value.TheVariants as value
-use Rattle.lisp_eval.proofs.Attempting.{ok_map, tells_found, test_refused, branch_tells, first_refused, second_refused, third_refused, one_tells, two_tell, three_tell, operand_refused, unary_refused, unary_tells, second_operand_refused, binary_refused, binary_tells, call_refused, call_tells, entering_refused, answering_refused, answered_tells}
-use Rattle.lisp_eval.proofs.DirectFound.{found_var, found_const, first_term, second_term, one_term, two_terms, three_terms, one_local, two_locals}
+use Rattle.lisp_eval.proofs.Attempting.{const_tells, tells_found, test_refused, branch_tells, first_refused, second_refused, third_refused, one_tells, two_tell, three_tell, operand_refused, unary_refused, unary_tells, second_operand_refused, binary_refused, binary_tells, call_refused, call_tells, entering_refused, answering_refused, answered_tells}
+use Rattle.lisp_eval.proofs.DirectFound.{found_var, first_term, second_term, one_term, two_terms, three_terms, one_local, two_locals}
 use Rattle.lisp_eval.proofs.Entering.{scope_grown, tables_on}
 use Rattle.lisp_eval.proofs.PlacedConstants.{at_index}
 use Rattle.lisp_eval.proofs.Sights.{adds_none}
@@ -97,18 +97,13 @@ at_once-returns-in-Var t c =
 
 pub at_once-returns-in-Const : goal.at_once-returns-in-Const
 at_once-returns-in-Const t c =
-    let ds = c.args.world.now.definitions in
-    let fs = c.args.functions.now in
     let old = c.args.arena.now in
+    let new = c.constant_found.new.arena in
     let env = scope_env old.objects c.args.scope in
-    record {
-      adds = adds_none (Sees ds fs env (term_of c.args.term.now)) old c.requires.whole;
-      agree = c.requires.agree;
-      found = ok_map _ (IsFound ds fs old.objects env (term_of c.args.term.now) c.args.left) c.constant_found.result (λ f h.
-          subst (λ (n : ℕ). IsFound ds fs old.objects env (term_of c.args.term.now) c.args.left (record { value = f.value; left = n })) (sym h.2)
-          (found_const ds fs old c.requires.whole env (term_of c.args.term.now) c.in-Const.tree c.args.left f.value c.if-left-eq0.false (ap term_of c.in-Const.is ∙ const_term c.in-Const.tree) h.1 h.0)) c.constant_found.ensures.found;
-      lacks = λ e. absurd (c.constant_found.ensures.beyond e);
-    }
+    let applies = c.constant_found.ensures.applies in
+    let agree = tables_on old.objects new.objects (applies.objects.made, applies.objects.is) c.args.alists.now c.requires.agree in
+    const_tells c.args.world.now.definitions c.args.functions.now env (term_of c.args.term.now) c.in-Const.tree c.args.left old new c.args.alists.now c.constant_found.result agree c.if-left-eq0.false
+    (ap term_of c.in-Const.is ∙ const_term c.in-Const.tree) applies c.constant_found.ensures.found
 
 pub unary-returns-in_err-x : goal.unary-returns-in_err-x
 unary-returns-in_err-x t c =
