@@ -27,6 +27,7 @@ pub mod PrimValues
 pub mod Running
 pub mod Seen
 pub mod Sights
+pub mod SmallBits
 pub mod Standing
 pub mod State
 pub mod StateAhead

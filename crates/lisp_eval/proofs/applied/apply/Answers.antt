@@ -1,12 +1,24 @@
-use Rattle.std.proofs.Common.{rules, ◌≡◌, sym, subst, true, to_z-of_z, FitsSigned}
+use Rattle.std.proofs.Common.{rules, ◌≡◌, refl, sym, subst, true, to_z-of_z, FitsSigned}
 use Rattle.std.specs.Int.{w128}
 use Rattle.gl_logic.specs.Object.{Object, Int}
 use Rattle.gl_logic.specs.PrimValue.{prim_of, prim_value}
+use Rattle.hons_arena.proofs.Placing.{adds_none}
 use Rattle.int_prims.specs.Integers.{is_operation, integers_for}
 use Rattle.lisp_eval.specs.Attempts.{Applies}
 use Rattle.lisp_eval.specs.Outside.{value_object}
 use Rattle.lisp_eval.proofs.PrimValues.{value_of_integers}
 use Rattle.lisp_eval.proofs.applied.apply.Goals as goal
+
+pub returns-in-Some : goal.returns-in-Some
+returns-in-Some c =
+    let objects = c.args.arena.now.objects in
+    record {
+      value = (c.in-Some.ensures.live objects, c.in-Some.ensures.value objects);
+      objects = adds_none (prim_of c.args.prim (value_object objects c.args.x) (value_object objects c.args.y)) objects;
+      limit = refl;
+      whole = c.requires.whole;
+      lacks = λ e. absurd cc;
+    }
 
 pub returns-in-Ok : goal.returns-in-Ok
 returns-in-Ok c =
