@@ -42,3 +42,6 @@ pub mod Values
 pub mod WholeNarrow
 pub mod Within
 pub mod Worked
+pub mod Placed
+pub mod ZeroGives
+pub mod ZeroTells

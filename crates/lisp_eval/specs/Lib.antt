@@ -23,3 +23,4 @@ pub mod States
 pub mod Tables
 pub mod Threads
 pub mod Within
+pub mod Zero

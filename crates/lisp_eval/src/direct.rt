@@ -12,6 +12,7 @@ ghost use Rattle.lisp_eval.specs.Attempts.{Tells, TellsAll, EntersThree, unary_t
 ghost use Rattle.lisp_eval.specs.Directs.{scope_env, IsLiveScope};
 ghost use Rattle.lisp_eval.specs.Outside.{value_object, local_in, IsLiveValue};
 ghost use Rattle.lisp_eval.specs.Tables.{answered_in};
+ghost use Rattle.lisp_eval.specs.Zero.{IsZp};
 ghost use Rattle.lisp_eval.specs.declared.direct.Stop.TheVariants as stop;
 
 use crate::applied::{apply, constant_found};
@@ -21,6 +22,7 @@ use crate::frame::Binding;
 use crate::opening::opens_at_once;
 use crate::tables::answer;
 use crate::value::{Local, Value};
+use crate::zero::{is_zp, zero_test};
 use fast_alists::{AlistFault, FastAlists};
 use gl_logic::{FnId, Names, Prim, Term, TextId, World};
 use hons_arena::{Full, HonsArena, Id};
@@ -390,6 +392,19 @@ fn opened(
                     left - 1,
                 );
             }
+            if is_zp(world, functions, *f) {
+                return zero(
+                    world,
+                    functions,
+                    arena,
+                    alists,
+                    *f,
+                    terms.as_slice(),
+                    scope,
+                    levels - 1,
+                    left - 1,
+                );
+            }
             if !opens_at_once(world, functions, *f) {
                 return Err(Stop::Beyond);
             }
@@ -472,6 +487,42 @@ fn answered(
         },
         Err(_) => Err(Stop::Beyond),
     }
+}
+
+/// What a call of `zp` gives at once, behind the visit of the call itself.
+#[cycle(at_once)]
+#[inline(never)]
+fn zero(
+    world: &World,
+    functions: &[u64],
+    arena: &mut HonsArena,
+    alists: &mut FastAlists,
+    f: FnId,
+    terms: &[Term],
+    scope: Scope,
+    levels: u64,
+    left: u64,
+) -> Result<Found, Stop>
+    requires whole { IsWhole arena.old }
+    requires scope { IsLiveScope arena.old.objects scope }
+    requires agree { Agree arena.old.objects alists.old }
+    requires zp { IsZp world.now.definitions functions.now f.number }
+    ensures { Tells world.now.definitions functions.now (scope_env arena.old.objects scope.entry) (Call f.number (terms_of terms.now)) (left + 1) arena.old arena.new alists.new result }
+{
+    if terms.len() != 1 {
+        return Err(Stop::Beyond);
+    }
+    let x = at_once(
+        world, functions, arena, alists, &terms[0], scope, levels, left,
+    )?;
+    let test = zero_test(arena, x.value);
+    if x.left < test.visits {
+        return Err(Stop::Beyond);
+    }
+    Ok(Found {
+        value: Value::truth(test.holds),
+        left: x.left - test.visits,
+    })
 }
 
 /// The ids of the values of arguments.

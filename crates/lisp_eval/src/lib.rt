@@ -30,6 +30,7 @@ mod run;
 mod steps;
 mod tables;
 mod value;
+mod zero;
 
 pub use env::Env;
 pub use fault::EvalFault;

@@ -1,10 +1,10 @@
-use Rattle.std.proofs.Common.{rules, arith, ◌≡◌, ◌∙◌, ap, sym, subst, refl, true, false, [], ◌∷◌, ◌+◌, ◌-◌, List, Some, slice_get, ℕ, IsErr, Err, Ok}
+use Rattle.std.proofs.Common.{rules, arith, ◌≡◌, ◌∙◌, ap, sym, subst, refl, true, false, [], ◌∷◌, ◌+◌, ◌-◌, List, Some, slice_get, length, ℕ, IsErr, Err, Ok}
 use Rattle.std.specs.Prelude.{IsErrOf}
 use Rattle.gl_logic.proofs.Worlds.{world_ground}
 use Rattle.gl_logic.specs.Counts.{is_among}
 use Rattle.gl_logic.specs.DefinitionOf.{definition_of}
 use Rattle.gl_logic.specs.Exp.{Call}
-use Rattle.gl_logic.specs.Object.{Object}
+use Rattle.gl_logic.specs.Object.{Object, boolean_object}
 use Rattle.gl_logic.specs.TermOf.{term_of, terms_of}
 use Rattle.gl_logic.specs.declared.term.Term.{Term}
 use Rattle.hons_arena.specs.Held.{AddsCellsOf}
@@ -22,6 +22,7 @@ use Rattle.lisp_eval.proofs.DirectFound.{found_var, first_term, second_term, one
 use Rattle.lisp_eval.proofs.Entering.{scope_grown, tables_on}
 use Rattle.lisp_eval.proofs.PlacedConstants.{at_index}
 use Rattle.lisp_eval.proofs.Sights.{adds_none}
+use Rattle.lisp_eval.proofs.ZeroTells.{argument_refused, zero_refused, zero_tells}
 use Rattle.lisp_eval.proofs.TermForms.{var_term, const_term, if_term, call_term}
 use Rattle.lisp_eval.proofs.direct.+at_once.Goals as goal
 
@@ -476,3 +477,34 @@ arguments-returns-in_ok-third t c =
     let last = subst (λ (e : List (ℕ × _)). Tells ds fs e (term_of z) b.left late new c.at_once-then-terms-eq3-3.new.alists (Ok c.in_ok-third.third)) (h.1 ∙ g.1) c.in_ok-third.ensures in
     three_tell ds fs env (terms_of c.args.terms.now) (term_of x) (term_of y) (term_of z) c.args.left old mid late new c.at_once-then-terms-eq3-3.new.alists a b c.in_ok-third.third
     (three_terms c.args.terms.now x y z c.if-terms-eq3.true first second third) c.in_ok-first-3.ensures.adds c.in_ok-first-3.ensures.found next.adds next.found last.adds last.agree last.found
+
+pub zero-returns-in_err-x : goal.zero-returns-in_err-x
+zero-returns-in_err-x t c =
+    let env = scope_env c.args.arena.now.objects c.args.scope in
+    let x = c.index-terms-0.result in
+    let one : length c.args.terms.now ≡ 1 = search rules in
+    let first : slice_get c.args.terms.now 0 ≡ Some x = at_index c.args.terms.now 0 x (omega (arith, one)) c.index-terms-0.is in
+    let parts = one_term c.args.terms.now x one first in
+    let refused : IsErr c.from_residual.result = search rules in
+    let full : IsErrOf c.from_residual.result stop.Full → IsErrOf c.at_once.result stop.Full = λ e. search rules in
+    argument_refused c.args.world.now.definitions c.args.functions.now env c.args.f.number (terms_of c.args.terms.now) (term_of x) parts (c.args.left + 1) c.args.arena.now c.at_once.new.arena c.at_once.new.alists c.from_residual.result refused c.at_once.ensures.adds c.at_once.ensures.agree (λ e. c.at_once.ensures.lacks (full e))
+
+pub zero-returns-then-x-test : goal.zero-returns-then-x-test
+zero-returns-then-x-test t c =
+    let env = scope_env c.args.arena.now.objects c.args.scope in
+    let x = c.index-terms-0.result in
+    let one : length c.args.terms.now ≡ 1 = search rules in
+    let first : slice_get c.args.terms.now 0 ≡ Some x = at_index c.args.terms.now 0 x (omega (arith, one)) c.index-terms-0.is in
+    zero_refused c.args.world.now.definitions c.args.functions.now c.args.f.number c.requires.zp env (terms_of c.args.terms.now) (term_of x) (one_term c.args.terms.now x one first) c.args.left c.args.arena.now c.at_once.new.arena c.at_once.new.alists c.in_ok-x.x c.in_ok-x.ensures
+
+pub zero-returns : goal.zero-returns
+zero-returns t c =
+    let env = scope_env c.args.arena.now.objects c.args.scope in
+    let new = c.at_once.new.arena in
+    let x = c.index-terms-0.result in
+    let one : length c.args.terms.now ≡ 1 = search rules in
+    let first : slice_get c.args.terms.now 0 ≡ Some x = at_index c.args.terms.now 0 x (omega (arith, one)) c.index-terms-0.is in
+    let test = c.zero_test-test in
+    let told = zero_tells c.args.world.now.definitions c.args.functions.now c.args.f.number c.requires.zp env (terms_of c.args.terms.now) (term_of x) (one_term c.args.terms.now x one first) c.args.left c.args.arena.now new c.at_once.new.alists c.in_ok-x.x c.in_ok-x.ensures
+    c.truth.result (c.truth.ensures.value new.objects ∙ ap boolean_object test.ensures.holds) (c.truth.ensures.live new.objects) (omega (arith, c.if-x-test.false, test.ensures.visits)) in
+    subst (λ (n : ℕ). Tells c.args.world.now.definitions c.args.functions.now env (Call c.args.f.number (terms_of c.args.terms.now)) (c.args.left + 1) c.args.arena.now new c.at_once.new.alists (Ok (record { value = c.truth.result; left = c.in_ok-x.x.left - n }))) (sym test.ensures.visits) told

@@ -24,3 +24,6 @@ decreases-unary l = 4 * l.levels - 1
 
 abbrev pub decreases-binary : goal.decreases-binary
 decreases-binary l = 4 * l.levels - 1
+
+abbrev pub decreases-zero : goal.decreases-zero
+decreases-zero l = 4 * l.levels + 2

@@ -1,0 +1,14 @@
+use Rattle.std.proofs.Common.{◌∙◌, sym, arith}
+use Rattle.gl_logic.proofs.Worlds.{world_ground}
+use Rattle.lisp_eval.proofs.zero.is_zp.Goals as goal
+
+pub returns : goal.returns
+returns c = λ _. record {
+  number = omega (arith, c.if-f-ne-ZP.false);
+  ground = world_ground c.args.world.now.definitions c.args.world.now.cliques c.count-count.ensures.world;
+  opens = record {
+    there = omega (arith, c.if-f-count.false, c.count-count.ensures.count);
+    unanswered = sym c.is_answered.ensures ∙ c.if-is_answered.false;
+    plain = sym c.is_memoized.ensures ∙ c.if-is_memoized.false;
+  };
+}
