@@ -12,7 +12,7 @@ ghost use Rattle.lisp_eval.specs.Outside.{IsLiveValue};
 ghost use Rattle.lisp_eval.specs.States.{env_of};
 
 use crate::calls::{is_answered, is_memoized};
-use crate::direct::{Found, LEVELS, Scope, Stop, at_once};
+use crate::direct::{Found, LEVELS, Scope, Setting, Stop, at_once};
 use crate::frame::Binding;
 use crate::value::Local;
 use fast_alists::FastAlists;
@@ -50,7 +50,7 @@ pub enum Step<'a> {
 /// only where a value lacks a cell. Cells that were made stay, after a refusal too.
 pub fn advance<'a>(
     world: &'a World,
-    functions: &[u64],
+    functions: &'a [u64],
     alloc: Global,
     arena: &mut HonsArena,
     alists: &mut FastAlists,
@@ -64,10 +64,11 @@ pub fn advance<'a>(
     ensures tells { AheadTells world.now.definitions functions.now (env_of arena.old.objects env.now.value.items) (term_of term.now) left arena.old arena.new result }
     ensures agree { Agree arena.new.objects alists.new }
 {
+    let setting = Setting { world, functions };
     let mut here = Vec::new(alloc);
     let scope = Scope::Outer(env.as_ref().as_slice());
     match take_step(
-        world, functions, arena, alists, term, scope, &mut here, left,
+        &setting, arena, alists, term, &scope, &mut here, left,
     )? {
         Step::Value(found) => Ok(Ahead::Value(found.value.enter(arena)?, found.left)),
         Step::Stays(inner, rest) => Ok(Ahead::Term(inner, env.clone()?, rest)),
@@ -78,7 +79,7 @@ pub fn advance<'a>(
             loop {
                 let scope = Scope::Inner(here.as_slice());
                 let step = match take_step(
-                    world, functions, arena, alists, inner, scope, &mut next, rest,
+                    &setting, arena, alists, inner, &scope, &mut next, rest,
                 ) {
                     Ok(step) => step,
                     Err(Stop::Beyond) => {
@@ -109,19 +110,18 @@ pub fn advance<'a>(
 
 /// One step of an evaluation on the variables of a scope. Where it goes into a body, `next` holds that body's variables.
 fn take_step<'a>(
-    world: &'a World,
-    functions: &[u64],
+    setting: &Setting<'a>,
     arena: &mut HonsArena,
     alists: &mut FastAlists,
     term: &'a Term,
-    scope: Scope,
+    scope: &Scope,
     next: &mut Vec<Local>,
     left: u64,
 ) -> Result<Step<'a>, Stop>
     requires whole { IsWhole arena.old }
-    requires scope { IsLiveScope arena.old.objects scope }
+    requires scope { IsLiveScope arena.old.objects scope.now }
     requires agree { Agree arena.old.objects alists.old }
-    ensures tells { StepTells world.now.definitions functions.now (scope_env arena.old.objects scope.entry) (term_of term.now) left arena.old arena.new next.new.items result }
+    ensures tells { StepTells setting.now.world.now.definitions setting.now.functions.now (scope_env arena.old.objects scope.now) (term_of term.now) left arena.old arena.new next.new.items result }
     ensures agree { Agree arena.new.objects alists.new }
 {
     if left == 0 {
@@ -130,8 +130,7 @@ fn take_step<'a>(
     match term {
         Term::If(test, then, otherwise) => {
             let found = at_once(
-                world,
-                functions,
+                setting,
                 arena,
                 alists,
                 test,
@@ -146,14 +145,13 @@ fn take_step<'a>(
             }
         }
         Term::Call(f, terms) => {
-            if !goes_into(world, functions, *f, terms.as_slice()) {
+            if !goes_into(setting.world, setting.functions, *f, terms.as_slice()) {
                 return Err(Stop::Beyond);
             }
-            let def = world.def(*f);
+            let def = setting.world.def(*f);
             next.clear();
             let rest = bind_found(
-                world,
-                functions,
+                setting,
                 arena,
                 alists,
                 &def.formals,
@@ -165,7 +163,7 @@ fn take_step<'a>(
             )?;
             Ok(Step::Opens(&def.body, rest))
         }
-        _ => Ok(Step::Value(at_once(world, functions, arena, alists, term, scope, LEVELS, left)?)),
+        _ => Ok(Step::Value(at_once(setting, arena, alists, term, scope, LEVELS, left)?)),
     }
 }
 
@@ -184,36 +182,34 @@ fn goes_into(world: &World, functions: &[u64], f: FnId, terms: &[Term]) -> bool
 /// Adds the names from a place on, each with the value of its term; the visits that are left.
 #[cycle(bind_found)]
 fn bind_found(
-    world: &World,
-    functions: &[u64],
+    setting: &Setting,
     arena: &mut HonsArena,
     alists: &mut FastAlists,
     names: &Names,
     i: u64,
     terms: &[Term],
-    scope: Scope,
+    scope: &Scope,
     next: &mut Vec<Local>,
     left: u64,
 ) -> Result<u64, Stop>
     requires whole { IsWhole arena.old }
-    requires scope { IsLiveScope arena.old.objects scope }
+    requires scope { IsLiveScope arena.old.objects scope.now }
     requires agree { Agree arena.old.objects alists.old }
     requires count { i + length terms.now ≡ length names.now }
     requires few { length names.now ≤ 16 }
-    ensures tells { BindsFound world.now.definitions functions.now (scope_env arena.old.objects scope.entry) (drop i names.now) (terms_of terms.now) left arena.old arena.new next.old.items next.new.items result }
+    ensures tells { BindsFound setting.now.world.now.definitions setting.now.functions.now (scope_env arena.old.objects scope.now) (drop i names.now) (terms_of terms.now) left arena.old arena.new next.old.items next.new.items result }
     ensures agree { Agree arena.new.objects alists.new }
 {
     match terms {
         [] => Ok(left),
         [term, later @ ..] => {
-            let found = at_once(world, functions, arena, alists, term, scope, LEVELS, left)?;
+            let found = at_once(setting, arena, alists, term, scope, LEVELS, left)?;
             next.push(Local {
                 name: *names.at(i),
                 value: found.value,
             })?;
             bind_found(
-                world,
-                functions,
+                setting,
                 arena,
                 alists,
                 names,

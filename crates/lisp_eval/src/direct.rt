@@ -31,6 +31,15 @@ use std::alloc::{AllocError, AllocFailed};
 /// How deep a term that is evaluated at once may nest, with the bodies of the definitions that it opens.
 pub const LEVELS: u64 = 12;
 
+/// A world, and the functions whose calls are kept.
+#[derive(Clone, Copy)]
+pub struct Setting<'a> {
+    /// The world.
+    pub world: &'a World,
+    /// The numbers of the functions.
+    pub functions: &'a [u64],
+}
+
 /// The variables that a term may name.
 #[derive(Clone, Copy)]
 pub enum Scope<'a> {
@@ -142,19 +151,18 @@ fn local_value(locals: &[Local], name: TextId) -> Value
 #[cycle(at_once)]
 #[inline(always)]
 pub fn at_once(
-    world: &World,
-    functions: &[u64],
+    setting: &Setting,
     arena: &mut HonsArena,
     alists: &mut FastAlists,
     term: &Term,
-    scope: Scope,
+    scope: &Scope,
     levels: u64,
     left: u64,
 ) -> Result<Found, Stop>
     requires whole { IsWhole arena.old }
-    requires scope { IsLiveScope arena.old.objects scope }
+    requires scope { IsLiveScope arena.old.objects scope.now }
     requires agree { Agree arena.old.objects alists.old }
-    ensures { Tells world.now.definitions functions.now (scope_env arena.old.objects scope.entry) (term_of term.now) left arena.old arena.new alists.new result }
+    ensures { Tells setting.now.world.now.definitions setting.now.functions.now (scope_env arena.old.objects scope.now) (term_of term.now) left arena.old arena.new alists.new result }
 {
     if levels == 0 || left == 0 {
         return Err(Stop::Beyond);
@@ -165,9 +173,9 @@ pub fn at_once(
             left: left - 1,
         }),
         Term::Const(tree) => constant_found(arena, tree, left),
-        Term::If(_, _, _) => branch(world, functions, arena, alists, term, scope, levels, left),
-        Term::Prim(_, _) => operation(world, functions, arena, alists, term, scope, levels, left),
-        Term::Call(_, _) => opened(world, functions, arena, alists, term, scope, levels, left),
+        Term::If(_, _, _) => branch(setting, arena, alists, term, scope, levels, left),
+        Term::Prim(_, _) => operation(setting, arena, alists, term, scope, levels, left),
+        Term::Call(_, _) => opened(setting, arena, alists, term, scope, levels, left),
         Term::Let(_, _, _) => Err(Stop::Beyond),
     }
 }
@@ -176,27 +184,25 @@ pub fn at_once(
 #[cycle(at_once)]
 #[inline(never)]
 fn branch(
-    world: &World,
-    functions: &[u64],
+    setting: &Setting,
     arena: &mut HonsArena,
     alists: &mut FastAlists,
     term: &Term,
-    scope: Scope,
+    scope: &Scope,
     levels: u64,
     left: u64,
 ) -> Result<Found, Stop>
     requires whole { IsWhole arena.old }
-    requires scope { IsLiveScope arena.old.objects scope }
+    requires scope { IsLiveScope arena.old.objects scope.now }
     requires agree { Agree arena.old.objects alists.old }
     requires levels { 0 < levels }
     requires left { 0 < left }
-    ensures { Tells world.now.definitions functions.now (scope_env arena.old.objects scope.entry) (term_of term.now) left arena.old arena.new alists.new result }
+    ensures { Tells setting.now.world.now.definitions setting.now.functions.now (scope_env arena.old.objects scope.now) (term_of term.now) left arena.old arena.new alists.new result }
 {
     match term {
         Term::If(test, then, otherwise) => {
             let found = at_once(
-                world,
-                functions,
+                setting,
                 arena,
                 alists,
                 test,
@@ -206,8 +212,7 @@ fn branch(
             )?;
             if found.value.is_nil(arena) {
                 at_once(
-                    world,
-                    functions,
+                    setting,
                     arena,
                     alists,
                     otherwise,
@@ -217,8 +222,7 @@ fn branch(
                 )
             } else {
                 at_once(
-                    world,
-                    functions,
+                    setting,
                     arena,
                     alists,
                     then,
@@ -236,32 +240,31 @@ fn branch(
 #[cycle(at_once)]
 #[inline(never)]
 fn operation(
-    world: &World,
-    functions: &[u64],
+    setting: &Setting,
     arena: &mut HonsArena,
     alists: &mut FastAlists,
     term: &Term,
-    scope: Scope,
+    scope: &Scope,
     levels: u64,
     left: u64,
 ) -> Result<Found, Stop>
     requires whole { IsWhole arena.old }
-    requires scope { IsLiveScope arena.old.objects scope }
+    requires scope { IsLiveScope arena.old.objects scope.now }
     requires agree { Agree arena.old.objects alists.old }
     requires levels { 0 < levels }
     requires left { 0 < left }
-    ensures { Tells world.now.definitions functions.now (scope_env arena.old.objects scope.entry) (term_of term.now) left arena.old arena.new alists.new result }
+    ensures { Tells setting.now.world.now.definitions setting.now.functions.now (scope_env arena.old.objects scope.now) (term_of term.now) left arena.old arena.new alists.new result }
 {
     match term {
         Term::Prim(prim, terms) => {
             let terms = terms.as_slice();
             if terms.len() == 1 {
                 unary(
-                    world, functions, arena, alists, *prim, &terms[0], scope, levels, left,
+                    setting, arena, alists, *prim, &terms[0], scope, levels, left,
                 )
             } else if terms.len() == 2 {
                 binary(
-                    world, functions, arena, alists, *prim, &terms[0], &terms[1], scope, levels,
+                    setting, arena, alists, *prim, &terms[0], &terms[1], scope, levels,
                     left,
                 )
             } else {
@@ -275,26 +278,24 @@ fn operation(
 /// What a primitive of one argument gives at once.
 #[cycle(at_once)]
 fn unary(
-    world: &World,
-    functions: &[u64],
+    setting: &Setting,
     arena: &mut HonsArena,
     alists: &mut FastAlists,
     prim: Prim,
     term: &Term,
-    scope: Scope,
+    scope: &Scope,
     levels: u64,
     left: u64,
 ) -> Result<Found, Stop>
     requires whole { IsWhole arena.old }
-    requires scope { IsLiveScope arena.old.objects scope }
+    requires scope { IsLiveScope arena.old.objects scope.now }
     requires agree { Agree arena.old.objects alists.old }
     requires levels { 0 < levels }
     requires left { 0 < left }
-    ensures { Tells world.now.definitions functions.now (scope_env arena.old.objects scope.entry) (unary_term prim (term_of term.now)) left arena.old arena.new alists.new result }
+    ensures { Tells setting.now.world.now.definitions setting.now.functions.now (scope_env arena.old.objects scope.now) (unary_term prim (term_of term.now)) left arena.old arena.new alists.new result }
 {
     let x = at_once(
-        world,
-        functions,
+        setting,
         arena,
         alists,
         term,
@@ -312,27 +313,25 @@ fn unary(
 /// What a primitive of two arguments gives at once.
 #[cycle(at_once)]
 fn binary(
-    world: &World,
-    functions: &[u64],
+    setting: &Setting,
     arena: &mut HonsArena,
     alists: &mut FastAlists,
     prim: Prim,
     first: &Term,
     second: &Term,
-    scope: Scope,
+    scope: &Scope,
     levels: u64,
     left: u64,
 ) -> Result<Found, Stop>
     requires whole { IsWhole arena.old }
-    requires scope { IsLiveScope arena.old.objects scope }
+    requires scope { IsLiveScope arena.old.objects scope.now }
     requires agree { Agree arena.old.objects alists.old }
     requires levels { 0 < levels }
     requires left { 0 < left }
-    ensures { Tells world.now.definitions functions.now (scope_env arena.old.objects scope.entry) (binary_term prim (term_of first.now) (term_of second.now)) left arena.old arena.new alists.new result }
+    ensures { Tells setting.now.world.now.definitions setting.now.functions.now (scope_env arena.old.objects scope.now) (binary_term prim (term_of first.now) (term_of second.now)) left arena.old arena.new alists.new result }
 {
     let x = at_once(
-        world,
-        functions,
+        setting,
         arena,
         alists,
         first,
@@ -341,8 +340,7 @@ fn binary(
         left - 1,
     )?;
     let y = at_once(
-        world,
-        functions,
+        setting,
         arena,
         alists,
         second,
@@ -361,28 +359,26 @@ fn binary(
 #[cycle(at_once)]
 #[inline(never)]
 fn opened(
-    world: &World,
-    functions: &[u64],
+    setting: &Setting,
     arena: &mut HonsArena,
     alists: &mut FastAlists,
     term: &Term,
-    scope: Scope,
+    scope: &Scope,
     levels: u64,
     left: u64,
 ) -> Result<Found, Stop>
     requires whole { IsWhole arena.old }
-    requires scope { IsLiveScope arena.old.objects scope }
+    requires scope { IsLiveScope arena.old.objects scope.now }
     requires agree { Agree arena.old.objects alists.old }
     requires levels { 0 < levels }
     requires left { 0 < left }
-    ensures { Tells world.now.definitions functions.now (scope_env arena.old.objects scope.entry) (term_of term.now) left arena.old arena.new alists.new result }
+    ensures { Tells setting.now.world.now.definitions setting.now.functions.now (scope_env arena.old.objects scope.now) (term_of term.now) left arena.old arena.new alists.new result }
 {
     match term {
         Term::Call(f, terms) => {
-            if is_answered(world, *f) {
+            if is_answered(setting.world, *f) {
                 return answered(
-                    world,
-                    functions,
+                    setting,
                     arena,
                     alists,
                     *f,
@@ -392,10 +388,9 @@ fn opened(
                     left - 1,
                 );
             }
-            if is_zp(world, functions, *f) {
+            if is_zp(setting.world, setting.functions, *f) {
                 return zero(
-                    world,
-                    functions,
+                    setting,
                     arena,
                     alists,
                     *f,
@@ -405,12 +400,11 @@ fn opened(
                     left - 1,
                 );
             }
-            if !opens_at_once(world, functions, *f) {
+            if !opens_at_once(setting.world, setting.functions, *f) {
                 return Err(Stop::Beyond);
             }
             let given = arguments(
-                world,
-                functions,
+                setting,
                 arena,
                 alists,
                 terms.as_slice(),
@@ -418,16 +412,15 @@ fn opened(
                 levels - 1,
                 left - 1,
             )?;
-            let def = world.def(*f);
+            let def = setting.world.def(*f);
             if def.formals.len() == 1 {
                 let locals = [local(&def.formals, 0, given.first)];
                 at_once(
-                    world,
-                    functions,
+                    setting,
                     arena,
                     alists,
                     &def.body,
-                    Scope::Inner(&locals),
+                    &Scope::Inner(&locals),
                     levels - 1,
                     given.left,
                 )
@@ -437,12 +430,11 @@ fn opened(
                     local(&def.formals, 1, given.second),
                 ];
                 at_once(
-                    world,
-                    functions,
+                    setting,
                     arena,
                     alists,
                     &def.body,
-                    Scope::Inner(&locals),
+                    &Scope::Inner(&locals),
                     levels - 1,
                     given.left,
                 )
@@ -458,24 +450,23 @@ fn opened(
 #[cycle(at_once)]
 #[inline(never)]
 fn answered(
-    world: &World,
-    functions: &[u64],
+    setting: &Setting,
     arena: &mut HonsArena,
     alists: &mut FastAlists,
     f: FnId,
     terms: &[Term],
-    scope: Scope,
+    scope: &Scope,
     levels: u64,
     left: u64,
 ) -> Result<Found, Stop>
     requires whole { IsWhole arena.old }
-    requires scope { IsLiveScope arena.old.objects scope }
+    requires scope { IsLiveScope arena.old.objects scope.now }
     requires agree { Agree arena.old.objects alists.old }
-    requires answered { IsTrue (is_among (answered_in world.now.definitions) f.number) }
-    ensures { Tells world.now.definitions functions.now (scope_env arena.old.objects scope.entry) (Call f.number (terms_of terms.now)) (left + 1) arena.old arena.new alists.new result }
+    requires answered { IsTrue (is_among (answered_in setting.now.world.now.definitions) f.number) }
+    ensures { Tells setting.now.world.now.definitions setting.now.functions.now (scope_env arena.old.objects scope.now) (Call f.number (terms_of terms.now)) (left + 1) arena.old arena.new alists.new result }
 {
-    let _count = world.count();
-    let given = arguments(world, functions, arena, alists, terms, scope, levels, left)?;
+    let _count = setting.world.count();
+    let given = arguments(setting, arena, alists, terms, scope, levels, left)?;
     match ids_of(arena, given) {
         Ok(ids) => match answer(arena, alists, f, &[ids.first, ids.second, ids.third]) {
             Ok(id) => Ok(Found {
@@ -493,27 +484,26 @@ fn answered(
 #[cycle(at_once)]
 #[inline(never)]
 fn zero(
-    world: &World,
-    functions: &[u64],
+    setting: &Setting,
     arena: &mut HonsArena,
     alists: &mut FastAlists,
     f: FnId,
     terms: &[Term],
-    scope: Scope,
+    scope: &Scope,
     levels: u64,
     left: u64,
 ) -> Result<Found, Stop>
     requires whole { IsWhole arena.old }
-    requires scope { IsLiveScope arena.old.objects scope }
+    requires scope { IsLiveScope arena.old.objects scope.now }
     requires agree { Agree arena.old.objects alists.old }
-    requires zp { IsZp world.now.definitions functions.now f.number }
-    ensures { Tells world.now.definitions functions.now (scope_env arena.old.objects scope.entry) (Call f.number (terms_of terms.now)) (left + 1) arena.old arena.new alists.new result }
+    requires zp { IsZp setting.now.world.now.definitions setting.now.functions.now f.number }
+    ensures { Tells setting.now.world.now.definitions setting.now.functions.now (scope_env arena.old.objects scope.now) (Call f.number (terms_of terms.now)) (left + 1) arena.old arena.new alists.new result }
 {
     if terms.len() != 1 {
         return Err(Stop::Beyond);
     }
     let x = at_once(
-        world, functions, arena, alists, &terms[0], scope, levels, left,
+        setting, arena, alists, &terms[0], scope, levels, left,
     )?;
     let test = zero_test(arena, x.value);
     if x.left < test.visits {
@@ -547,23 +537,22 @@ fn ids_of(arena: &mut HonsArena, given: Given) -> Result<Ids, Full>
 #[cycle(at_once)]
 #[inline(never)]
 fn arguments(
-    world: &World,
-    functions: &[u64],
+    setting: &Setting,
     arena: &mut HonsArena,
     alists: &mut FastAlists,
     terms: &[Term],
-    scope: Scope,
+    scope: &Scope,
     levels: u64,
     left: u64,
 ) -> Result<Given, Stop>
     requires whole { IsWhole arena.old }
-    requires scope { IsLiveScope arena.old.objects scope }
+    requires scope { IsLiveScope arena.old.objects scope.now }
     requires agree { Agree arena.old.objects alists.old }
-    ensures { TellsAll world.now.definitions functions.now (scope_env arena.old.objects scope.entry) (terms_of terms.now) left arena.old arena.new alists.new result }
+    ensures { TellsAll setting.now.world.now.definitions setting.now.functions.now (scope_env arena.old.objects scope.now) (terms_of terms.now) left arena.old arena.new alists.new result }
 {
     if terms.len() == 1 {
         let first = at_once(
-            world, functions, arena, alists, &terms[0], scope, levels, left,
+            setting, arena, alists, &terms[0], scope, levels, left,
         )?;
         Ok(Given {
             first: first.value,
@@ -573,10 +562,10 @@ fn arguments(
         })
     } else if terms.len() == 2 {
         let first = at_once(
-            world, functions, arena, alists, &terms[0], scope, levels, left,
+            setting, arena, alists, &terms[0], scope, levels, left,
         )?;
         let second = at_once(
-            world, functions, arena, alists, &terms[1], scope, levels, first.left,
+            setting, arena, alists, &terms[1], scope, levels, first.left,
         )?;
         Ok(Given {
             first: first.value,
@@ -586,14 +575,13 @@ fn arguments(
         })
     } else if terms.len() == 3 {
         let first = at_once(
-            world, functions, arena, alists, &terms[0], scope, levels, left,
+            setting, arena, alists, &terms[0], scope, levels, left,
         )?;
         let second = at_once(
-            world, functions, arena, alists, &terms[1], scope, levels, first.left,
+            setting, arena, alists, &terms[1], scope, levels, first.left,
         )?;
         let third = at_once(
-            world,
-            functions,
+            setting,
             arena,
             alists,
             &terms[2],

@@ -41,7 +41,7 @@ pub fn run<'a>(
     world: &'a World,
     term: &'a Term,
     env: Rc<Vec<Binding>>,
-    functions: &[u64],
+    functions: &'a [u64],
     limit: u64,
     alloc: Global,
     arena: &mut HonsArena,

@@ -10,10 +10,10 @@ use Rattle.lisp_eval.proofs.ahead.take_step.Goals as goal
 
 pub returns-in_err-found-in-If-clause-tells : goal.returns-in_err-found-in-If-clause-tells
 returns-in_err-found-in-If-clause-tells c =
-    let ds = c.args.world.now.definitions in
-    let fs = c.args.functions.now in
+    let ds = c.args.setting.now.world.now.definitions in
+    let fs = c.args.setting.now.functions.now in
     let old = c.args.arena.now in
-    let env = scope_env old.objects c.args.scope in
+    let env = scope_env old.objects c.args.scope.now in
     let i = c.in-If in
     let e = c.in_err-found-in-If.field-0.0 in
     let here : c.deref.result.now ≡ i.test.value = search rules in
@@ -23,10 +23,10 @@ returns-in_err-found-in-If-clause-tells c =
 
 pub returns-then-is_nil-clause-tells : goal.returns-then-is_nil-clause-tells
 returns-then-is_nil-clause-tells c =
-    let ds = c.args.world.now.definitions in
-    let fs = c.args.functions.now in
+    let ds = c.args.setting.now.world.now.definitions in
+    let fs = c.args.setting.now.functions.now in
     let old = c.args.arena.now in
-    let env = scope_env old.objects c.args.scope in
+    let env = scope_env old.objects c.args.scope.now in
     let i = c.in-If in
     let f = c.in_ok-found-in-If.found in
     let here : c.deref.result.now ≡ i.test.value = search rules in
@@ -36,10 +36,10 @@ returns-then-is_nil-clause-tells c =
 
 pub returns-else-is_nil-clause-tells : goal.returns-else-is_nil-clause-tells
 returns-else-is_nil-clause-tells c =
-    let ds = c.args.world.now.definitions in
-    let fs = c.args.functions.now in
+    let ds = c.args.setting.now.world.now.definitions in
+    let fs = c.args.setting.now.functions.now in
     let old = c.args.arena.now in
-    let env = scope_env old.objects c.args.scope in
+    let env = scope_env old.objects c.args.scope.now in
     let i = c.in-If in
     let f = c.in_ok-found-in-If.found in
     let here : c.deref.result.now ≡ i.test.value = search rules in
@@ -59,11 +59,11 @@ bind_found-requires-clause-few c =
 
 pub returns-in_err-rest-in-Call-clause-tells : goal.returns-in_err-rest-in-Call-clause-tells
 returns-in_err-rest-in-Call-clause-tells c =
-    let ds = c.args.world.now.definitions in
-    let fs = c.args.functions.now in
+    let ds = c.args.setting.now.world.now.definitions in
+    let fs = c.args.setting.now.functions.now in
     let old = c.args.arena.now in
     let new = c.bind_found.new.arena in
-    let env = scope_env old.objects c.args.scope in
+    let env = scope_env old.objects c.args.scope.now in
     let names = drop 0 c.def-def.result.now.formals in
     let i = c.in-Call in
     let e = c.in_err-rest-in-Call.field-0.0 in
@@ -73,11 +73,11 @@ returns-in_err-rest-in-Call-clause-tells c =
 
 pub returns-in_ok-rest-in-Call-clause-tells : goal.returns-in_ok-rest-in-Call-clause-tells
 returns-in_ok-rest-in-Call-clause-tells c =
-    let ds = c.args.world.now.definitions in
-    let fs = c.args.functions.now in
+    let ds = c.args.setting.now.world.now.definitions in
+    let fs = c.args.setting.now.functions.now in
     let old = c.args.arena.now in
     let new = c.bind_found.new.arena in
-    let env = scope_env old.objects c.args.scope in
+    let env = scope_env old.objects c.args.scope.now in
     let d = definition_of c.def-def.result.now in
     let names = drop 0 d.formals in
     let i = c.in-Call in
