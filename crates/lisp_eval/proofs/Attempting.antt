@@ -21,10 +21,10 @@ use Rattle.lisp_eval.specs.Outside.{value_object, IsLiveValue}
 use Rattle.lisp_eval.specs.Sights.{Sees, SeeAll, Adds, Lacks}
 use Rattle.lisp_eval.specs.Tables.{answered_in, table_value}
 use Rattle.lisp_eval.specs.Within.{IsIn}
-use Rattle.lisp_eval.specs.declared.direct.Found.{Found}
-use Rattle.lisp_eval.specs.declared.direct.Given.{Given}
-use Rattle.lisp_eval.specs.declared.direct.Stop.{Stop}
-use Rattle.lisp_eval.specs.declared.direct.Stop.TheVariants as stop
+use Rattle.lisp_eval.specs.declared.attempt.Found.{Found}
+use Rattle.lisp_eval.specs.declared.attempt.Given.{Given}
+use Rattle.lisp_eval.specs.declared.attempt.Stop.{Stop}
+use Rattle.lisp_eval.specs.declared.attempt.Stop.TheVariants as stop
 use Rattle.lisp_eval.specs.declared.value.Value.{Value}
 use Rattle.lisp_eval.proofs.DirectFound.{value_narrow, found_const, found_if, one_given, two_given, three_given, found_prim, found_call}
 use Rattle.lisp_eval.proofs.Directly.{shut_gives, shut_seen}

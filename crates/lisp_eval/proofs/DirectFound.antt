@@ -14,8 +14,8 @@ use Rattle.hons_arena.specs.declared.id.IdKind.TheVariants as kind
 use Rattle.lisp_eval.specs.Directs.{GivesAtOnce, GiveAtOnce, IsFound, AreGiven, OpensAtOnce}
 use Rattle.lisp_eval.specs.Narrow.{IsNarrow}
 use Rattle.lisp_eval.specs.Outside.{value_object, IsLiveValue}
-use Rattle.lisp_eval.specs.declared.direct.Found.{Found}
-use Rattle.lisp_eval.specs.declared.direct.Given.{Given}
+use Rattle.lisp_eval.specs.declared.attempt.Found.{Found}
+use Rattle.lisp_eval.specs.declared.attempt.Given.{Given}
 use Rattle.lisp_eval.specs.declared.value.Value.{Value}
 use Rattle.lisp_eval.specs.declared.value.Value.TheVariants as value
 use Rattle.lisp_eval.proofs.Directly.{var_gives, const_gives, if_gives, none_give, more_give, prim_gives, call_gives}

@@ -21,10 +21,10 @@ use Rattle.lisp_eval.specs.Outside.{value_object, IsLiveValue, locals_of}
 use Rattle.lisp_eval.specs.Sights.{Adds}
 use Rattle.lisp_eval.specs.States.{env_of}
 use Rattle.lisp_eval.specs.Within.{IsWithin}
-use Rattle.lisp_eval.specs.declared.direct.Given.{Given}
-use Rattle.lisp_eval.specs.declared.direct.Ids.{Ids}
-use Rattle.lisp_eval.specs.declared.direct.Scope.{Scope}
-use Rattle.lisp_eval.specs.declared.direct.Scope.TheVariants as scope
+use Rattle.lisp_eval.specs.declared.attempt.Given.{Given}
+use Rattle.lisp_eval.specs.declared.attempt.Ids.{Ids}
+use Rattle.lisp_eval.specs.declared.attempt.Scope.{Scope}
+use Rattle.lisp_eval.specs.declared.attempt.Scope.TheVariants as scope
 use Rattle.lisp_eval.specs.declared.frame.Binding.{Binding}
 use Rattle.lisp_eval.specs.declared.value.Local.{Local}
 use Rattle.lisp_eval.specs.declared.value.Value.{Value}

@@ -28,9 +28,9 @@ use Rattle.lisp_eval.specs.declared.ahead.Ahead.{Ahead}
 use Rattle.lisp_eval.specs.declared.ahead.Ahead.TheVariants as ahead
 use Rattle.lisp_eval.specs.declared.ahead.Step.{Step}
 use Rattle.lisp_eval.specs.declared.ahead.Step.TheVariants as step
-use Rattle.lisp_eval.specs.declared.direct.Found.{Found}
-use Rattle.lisp_eval.specs.declared.direct.Stop.{Stop}
-use Rattle.lisp_eval.specs.declared.direct.Stop.TheVariants as stop
+use Rattle.lisp_eval.specs.declared.attempt.Found.{Found}
+use Rattle.lisp_eval.specs.declared.attempt.Stop.{Stop}
+use Rattle.lisp_eval.specs.declared.attempt.Stop.TheVariants as stop
 use Rattle.lisp_eval.specs.declared.frame.Binding.{Binding}
 use Rattle.lisp_eval.specs.declared.value.Local.{Local}
 use Rattle.lisp_eval.specs.declared.value.Value.TheVariants as value

@@ -12,10 +12,10 @@ use Rattle.lisp_eval.specs.Directs.{GivesAtOnce, IsFound, AreGiven}
 use Rattle.lisp_eval.specs.Outside.{value_object, IsLiveValue}
 use Rattle.lisp_eval.specs.Sights.{Sees, Adds, Lacks}
 use Rattle.lisp_eval.specs.Zero.{IsZp, zp_number, zp_holds, zp_visits}
-use Rattle.lisp_eval.specs.declared.direct.Found.{Found}
-use Rattle.lisp_eval.specs.declared.direct.Given.{Given}
-use Rattle.lisp_eval.specs.declared.direct.Stop.{Stop}
-use Rattle.lisp_eval.specs.declared.direct.Stop.TheVariants as stop
+use Rattle.lisp_eval.specs.declared.attempt.Found.{Found}
+use Rattle.lisp_eval.specs.declared.attempt.Given.{Given}
+use Rattle.lisp_eval.specs.declared.attempt.Stop.{Stop}
+use Rattle.lisp_eval.specs.declared.attempt.Stop.TheVariants as stop
 use Rattle.lisp_eval.specs.declared.value.Value.{Value}
 use Rattle.lisp_eval.specs.declared.value.Value.TheVariants as value
 use Rattle.lisp_eval.proofs.Attempting.{tells_found, one_tells, first_refused, call_refused, call_tells}

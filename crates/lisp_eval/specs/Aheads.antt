@@ -9,7 +9,7 @@ use Rattle.gl_logic.specs.TermOf.{term_of}
 use Rattle.hons_arena.specs.Held.{Held}
 use Rattle.hons_arena.specs.Ids.{IsLive, IsIdOf}
 use Rattle.hons_arena.specs.declared.id.Id.{Id}
-use Rattle.lisp_eval.specs.Directs.{GivesAtOnce, GiveAtOnce, IsFound, OpensAtOnce}
+use Rattle.lisp_eval.specs.Directs.{scope_env, GivesAtOnce, GiveAtOnce, IsFound, OpensAtOnce}
 use Rattle.lisp_eval.specs.Leads.{LeadsTo}
 use Rattle.lisp_eval.specs.Outside.{value_object, IsLiveValue, locals_of}
 use Rattle.lisp_eval.specs.Sights.{Sees, SeeAll, Adds, Lacks}
@@ -19,8 +19,10 @@ use Rattle.lisp_eval.specs.declared.ahead.Ahead.{Ahead}
 use Rattle.lisp_eval.specs.declared.ahead.Ahead.TheVariants as ahead
 use Rattle.lisp_eval.specs.declared.ahead.Step.{Step}
 use Rattle.lisp_eval.specs.declared.ahead.Step.TheVariants as step
-use Rattle.lisp_eval.specs.declared.direct.Stop.{Stop}
-use Rattle.lisp_eval.specs.declared.direct.Stop.TheVariants as stop
+use Rattle.lisp_eval.specs.declared.attempt.Scope.{Scope}
+use Rattle.lisp_eval.specs.declared.attempt.Setting.{Setting}
+use Rattle.lisp_eval.specs.declared.attempt.Stop.{Stop}
+use Rattle.lisp_eval.specs.declared.attempt.Stop.TheVariants as stop
 use Rattle.lisp_eval.specs.declared.frame.Binding.{Binding}
 use Rattle.lisp_eval.specs.declared.value.Local.{Local}
 
@@ -95,6 +97,13 @@ module _ (definitions : List Definition) (functions : List ℕ) where
     pub adds : Adds (Sees definitions functions env t) old new
     pub goes : IfOk answer (AheadGoes env t left new.objects)
     pub lacks : IsErrOf answer stop.Full → Lacks (Sees definitions functions env t) new
+
+-- the same of a setting and a scope
+abbrev pub StepTellsIn : Setting → Scope → Exp → ℕ → Held → Held → List Local → Result Step Stop → Type 0
+StepTellsIn setting scope t left old new next answer = StepTells setting.world.now.definitions setting.functions.now (scope_env old.objects scope) t left old new next answer
+
+abbrev pub BindsFoundIn : Setting → Scope → List ℕ → Exps → ℕ → Held → Held → List Local → List Local → Result ℕ Stop → Type 0
+BindsFoundIn setting scope names ts left old new before after answer = BindsFound setting.world.now.definitions setting.functions.now (scope_env old.objects scope) names ts left old new before after answer
 
 -- the locals by ids, which are added to these
 pub record AreEntered (objects new : List Object) (locals : List Local) (before after : List Binding) : Type 0 where

@@ -9,15 +9,17 @@ use Rattle.hons_arena.specs.declared.id.Full.{Full}
 use Rattle.hons_arena.specs.declared.id.Id.{Id}
 use Rattle.hons_arena.specs.Held.{Held, AddsCellsOf, IsWhole, LacksCell}
 use Rattle.hons_arena.specs.Ids.{IsIdOf}
-use Rattle.lisp_eval.specs.Directs.{IsFound, AreGiven}
+use Rattle.lisp_eval.specs.Directs.{scope_env, IsFound, AreGiven}
 use Rattle.lisp_eval.specs.Outside.{value_object, IsLiveValue}
 use Rattle.lisp_eval.specs.Sights.{Sees, SeeAll, Adds, Lacks}
-use Rattle.lisp_eval.specs.declared.direct.Found.{Found}
-use Rattle.lisp_eval.specs.declared.direct.Given.{Given}
+use Rattle.lisp_eval.specs.declared.attempt.Found.{Found}
+use Rattle.lisp_eval.specs.declared.attempt.Given.{Given}
 use Rattle.lisp_eval.specs.Within.{IsIn}
-use Rattle.lisp_eval.specs.declared.direct.Ids.{Ids}
-use Rattle.lisp_eval.specs.declared.direct.Stop.{Stop}
-use Rattle.lisp_eval.specs.declared.direct.Stop.TheVariants as stop
+use Rattle.lisp_eval.specs.declared.attempt.Ids.{Ids}
+use Rattle.lisp_eval.specs.declared.attempt.Scope.{Scope}
+use Rattle.lisp_eval.specs.declared.attempt.Setting.{Setting}
+use Rattle.lisp_eval.specs.declared.attempt.Stop.{Stop}
+use Rattle.lisp_eval.specs.declared.attempt.Stop.TheVariants as stop
 use Rattle.lisp_eval.specs.declared.value.Value.{Value}
 
 -- lists with their tables
@@ -46,6 +48,13 @@ module _ (definitions : List Definition) (functions : List ℕ) where
     pub agree : Agree new.objects tables
     pub given : IfOk answer (AreGiven definitions functions new.objects env ts left)
     pub lacks : IsErrOf answer stop.Full → Lacks (SeeAll definitions functions env ts) new
+
+-- the same of a setting and a scope
+abbrev pub TellsIn : Setting → Scope → Exp → ℕ → Held → Held → Alists → Result Found Stop → Type 0
+TellsIn setting scope t left old new tables answer = Tells setting.world.now.definitions setting.functions.now (scope_env old.objects scope) t left old new tables answer
+
+abbrev pub TellsAllIn : Setting → Scope → Exps → ℕ → Held → Held → Alists → Result Given Stop → Type 0
+TellsAllIn setting scope ts left old new tables answer = TellsAll setting.world.now.definitions setting.functions.now (scope_env old.objects scope) ts left old new tables answer
 
 -- the answer is a value of this object, of which cells alone were added; Full only where one of them is lacking
 pub record Applies (object : Object) (old new : Held) (answer : Result Value Stop) : Type 0 where

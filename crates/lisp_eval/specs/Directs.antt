@@ -12,10 +12,10 @@ use Rattle.lisp_eval.specs.Outside.{value_object, IsLiveValue, locals_of}
 use Rattle.lisp_eval.specs.States.{env_of}
 use Rattle.lisp_eval.specs.Tables.{answered_in}
 use Rattle.lisp_eval.specs.Threads.{Thread, Threads, thread, threads}
-use Rattle.lisp_eval.specs.declared.direct.Found.{Found}
-use Rattle.lisp_eval.specs.declared.direct.Given.{Given}
-use Rattle.lisp_eval.specs.declared.direct.Scope.{Scope}
-use Rattle.lisp_eval.specs.declared.direct.Scope.TheVariants as scope
+use Rattle.lisp_eval.specs.declared.attempt.Found.{Found}
+use Rattle.lisp_eval.specs.declared.attempt.Given.{Given}
+use Rattle.lisp_eval.specs.declared.attempt.Scope.{Scope}
+use Rattle.lisp_eval.specs.declared.attempt.Scope.TheVariants as scope
 
 -- the environment of a scope
 abbrev pub scope_env : List Object → Scope → List (ℕ × Object)

@@ -6,13 +6,14 @@ ghost use Rattle.gl_logic.specs.Every.{Every};
 ghost use Rattle.gl_logic.specs.TermOf.{term_of, terms_of};
 ghost use Rattle.hons_arena.specs.Held.{IsWhole};
 ghost use Rattle.hons_arena.specs.Ids.{IsLive};
-ghost use Rattle.lisp_eval.specs.Aheads.{AheadTells, StepTells, MayOpen, BindsFound, EntersLocals, AreLiveLocals};
-ghost use Rattle.lisp_eval.specs.Directs.{scope_env, IsLiveScope};
+ghost use Rattle.lisp_eval.specs.Aheads.{AheadTells, StepTellsIn, MayOpen, BindsFoundIn, EntersLocals, AreLiveLocals};
+ghost use Rattle.lisp_eval.specs.Directs.{IsLiveScope};
 ghost use Rattle.lisp_eval.specs.Outside.{IsLiveValue};
 ghost use Rattle.lisp_eval.specs.States.{env_of};
 
+use crate::attempt::{Found, Scope, Setting, Stop};
 use crate::calls::{is_answered, is_memoized};
-use crate::direct::{Found, LEVELS, Scope, Setting, Stop, at_once};
+use crate::direct::{LEVELS, at_once};
 use crate::frame::Binding;
 use crate::value::Local;
 use fast_alists::FastAlists;
@@ -67,9 +68,7 @@ pub fn advance<'a>(
     let setting = Setting { world, functions };
     let mut here = Vec::new(alloc);
     let scope = Scope::Outer(env.as_ref().as_slice());
-    match take_step(
-        &setting, arena, alists, term, &scope, &mut here, left,
-    )? {
+    match take_step(&setting, arena, alists, term, &scope, &mut here, left)? {
         Step::Value(found) => Ok(Ahead::Value(found.value.enter(arena)?, found.left)),
         Step::Stays(inner, rest) => Ok(Ahead::Term(inner, env.clone()?, rest)),
         Step::Opens(body, rest) => {
@@ -121,7 +120,7 @@ fn take_step<'a>(
     requires whole { IsWhole arena.old }
     requires scope { IsLiveScope arena.old.objects scope.now }
     requires agree { Agree arena.old.objects alists.old }
-    ensures tells { StepTells setting.now.world.now.definitions setting.now.functions.now (scope_env arena.old.objects scope.now) (term_of term.now) left arena.old arena.new next.new.items result }
+    ensures tells { StepTellsIn setting.now scope.now (term_of term.now) left arena.old arena.new next.new.items result }
     ensures agree { Agree arena.new.objects alists.new }
 {
     if left == 0 {
@@ -129,15 +128,7 @@ fn take_step<'a>(
     }
     match term {
         Term::If(test, then, otherwise) => {
-            let found = at_once(
-                setting,
-                arena,
-                alists,
-                test,
-                scope,
-                LEVELS,
-                left - 1,
-            )?;
+            let found = at_once(setting, arena, alists, test, scope, LEVELS, left - 1)?;
             if found.value.is_nil(arena) {
                 Ok(Step::Stays(otherwise, found.left))
             } else {
@@ -197,7 +188,7 @@ fn bind_found(
     requires agree { Agree arena.old.objects alists.old }
     requires count { i + length terms.now ≡ length names.now }
     requires few { length names.now ≤ 16 }
-    ensures tells { BindsFound setting.now.world.now.definitions setting.now.functions.now (scope_env arena.old.objects scope.now) (drop i names.now) (terms_of terms.now) left arena.old arena.new next.old.items next.new.items result }
+    ensures tells { BindsFoundIn setting.now scope.now (drop i names.now) (terms_of terms.now) left arena.old arena.new next.old.items next.new.items result }
     ensures agree { Agree arena.new.objects alists.new }
 {
     match terms {

@@ -8,9 +8,9 @@ ghost use Rattle.gl_logic.specs.Quotients.{floor_ℤ, mod_ℤ};
 ghost use Rattle.hons_arena.specs.Held.{IsWhole};
 ghost use Rattle.lisp_eval.specs.Attempts.{Applies, value_found};
 ghost use Rattle.lisp_eval.specs.Outside.{value_object, IsLiveValue};
-ghost use Rattle.lisp_eval.specs.declared.direct.Stop.TheVariants as stop;
+ghost use Rattle.lisp_eval.specs.declared.attempt.Stop.TheVariants as stop;
 
-use crate::direct::{Found, Stop};
+use crate::attempt::{Found, Stop};
 use crate::primitives::{code, is_predicate, predicate};
 use crate::value::{Value, cons, integer_id};
 use gl_logic::{Prim, Tree, TreeKind};

@@ -1,151 +1,36 @@
 //! Terms that are evaluated at once, with no frame; cells and memory go to conses and to what tables answer.
 
-ghost use Rattle.std.specs.Prelude.{◌≡◌, ◌+◌, ◌<◌, List, IsTrue, Some, length, slice_get};
+ghost use Rattle.std.specs.Prelude.{◌+◌, ◌<◌, IsTrue};
 ghost use Rattle.fast_alists.specs.Tables.{Agree};
 ghost use Rattle.gl_logic.specs.Counts.{is_among};
-ghost use Rattle.gl_logic.specs.Environment.{look};
 ghost use Rattle.gl_logic.specs.Exp.{Call};
-ghost use Rattle.gl_logic.specs.Object.{Object};
 ghost use Rattle.gl_logic.specs.TermOf.{term_of, terms_of};
 ghost use Rattle.hons_arena.specs.Held.{IsWhole};
-ghost use Rattle.lisp_eval.specs.Attempts.{Tells, TellsAll, EntersThree, unary_term, binary_term};
-ghost use Rattle.lisp_eval.specs.Directs.{scope_env, IsLiveScope};
-ghost use Rattle.lisp_eval.specs.Outside.{value_object, local_in, IsLiveValue};
+ghost use Rattle.lisp_eval.specs.Attempts.{TellsIn, TellsAllIn, EntersThree, unary_term, binary_term};
+ghost use Rattle.lisp_eval.specs.Directs.{IsLiveScope};
+ghost use Rattle.lisp_eval.specs.Outside.{IsLiveValue};
 ghost use Rattle.lisp_eval.specs.Tables.{answered_in};
 ghost use Rattle.lisp_eval.specs.Zero.{IsZp};
-ghost use Rattle.lisp_eval.specs.declared.direct.Stop.TheVariants as stop;
 
 use crate::applied::{apply, constant_found};
-use crate::bindings::look;
+use crate::attempt::{Found, Given, Ids, NOTHING, Scope, Setting, Stop, local};
 use crate::calls::is_answered;
-use crate::frame::Binding;
 use crate::opening::opens_at_once;
 use crate::tables::answer;
-use crate::value::{Local, Value};
+use crate::value::Value;
 use crate::zero::{is_zp, zero_test};
 use fast_alists::{AlistFault, FastAlists};
-use gl_logic::{FnId, Names, Prim, Term, TextId, World};
-use hons_arena::{Full, HonsArena, Id};
-use std::alloc::{AllocError, AllocFailed};
+use gl_logic::{FnId, Prim, Term};
+use hons_arena::{Full, HonsArena};
 
 /// How deep a term that is evaluated at once may nest, with the bodies of the definitions that it opens.
 pub const LEVELS: u64 = 12;
 
-/// A world, and the functions whose calls are kept.
-#[derive(Clone, Copy)]
-pub struct Setting<'a> {
-    /// The world.
-    pub world: &'a World,
-    /// The numbers of the functions.
-    pub functions: &'a [u64],
-}
-
-/// The variables that a term may name.
-#[derive(Clone, Copy)]
-pub enum Scope<'a> {
-    /// Those of an environment of ids.
-    Outer(&'a [Binding]),
-    /// The formals of a definition that was opened at once.
-    Inner(&'a [Local]),
-}
-
-/// What a term gives at once.
-#[derive(Clone, Copy)]
-pub struct Found {
-    /// Its value.
-    pub value: Value,
-    /// How many visits are left.
-    pub left: u64,
-}
-
-/// The values of one to three arguments.
-#[derive(Clone, Copy)]
-pub struct Given {
-    /// That of the first.
-    pub first: Value,
-    /// That of the second, NIL where there is none.
-    pub second: Value,
-    /// That of the third, NIL where there is none.
-    pub third: Value,
-    /// How many visits are left.
-    pub left: u64,
-}
-
-/// The ids of such values.
-#[derive(Clone, Copy)]
-struct Ids {
-    first: Id,
-    second: Id,
-    third: Id,
-}
-
-/// Why a term gives nothing at once.
-#[derive(Clone, Copy, Debug, PartialEq, Eq)]
-pub enum Stop {
-    /// It is not of those that are evaluated at once, or its value is an integer outside 128 bits, or too few visits are left.
-    Beyond,
-    /// There is no cell left.
-    Full,
-    /// There is no memory left.
-    Memory,
-}
-
-impl From<Full> for Stop {
-    ghost from_gives = { λ _ e. e ≡ stop.Full };
-
-    fn from(_full: Full) -> Stop {
-        Stop::Full
-    }
-}
-
-impl From<AllocError> for Stop {
-    ghost from_gives = { λ _ e. e ≡ stop.Memory };
-
-    fn from(_error: AllocError) -> Stop {
-        Stop::Memory
-    }
-}
-
-impl<T: Drop> From<AllocFailed<T>> for Stop {
-    ghost from_gives = { λ _ e. e ≡ stop.Memory };
-
-    fn from(_error: AllocFailed<T>) -> Stop {
-        Stop::Memory
-    }
-}
-
-/// NIL, which an argument that is not there is.
-const NOTHING: Value = Value::Symbol(TextId { number: 0 });
-
-impl<'a> Scope<'a> {
-    /// The value of a variable, NIL where it has none.
-    fn value(self, name: TextId) -> Value
-        ensures value { (objects : List Object) → value_object objects result ≡ look (scope_env objects self.entry) name.number }
-        ensures live { (objects : List Object) → IsLiveScope objects self.entry → IsLiveValue objects result }
-    {
-        match self {
-            Scope::Outer(env) => Value::of(look(env, name)),
-            Scope::Inner(locals) => local_value(locals, name),
-        }
-    }
-}
-
-/// The value of a formal, NIL for any other name.
-fn local_value(locals: &[Local], name: TextId) -> Value
-    ensures { result ≡ local_in locals.now name.number }
-{
-    for local in locals {
-        if local.name.number == name.number {
-            return local.value;
-        }
-    }
-    NOTHING
-}
-
 /// The value of a term on the variables of a scope, and the visits that are left of so many; for a term of few levels that
-/// binds nothing, and opens no definitions but those that bind nothing and call nothing. Full only where a cons, or an
-/// integer of more than 64 bits, lacks a cell, Memory only where a table is refused it; where a table's answer lacks a cell, it is Beyond. Cells that were made
-/// stay, after a refusal too: each is of a value that the evaluation of the term speaks of.
+/// binds nothing, and opens no definitions but `zp` and those that bind nothing and call nothing. Full only where a cons,
+/// or an integer of more than 64 bits, lacks a cell, Memory only where a table is refused it; where a table's answer lacks a
+/// cell, it is Beyond. Cells that were made stay, after a refusal too: each is of a value that the evaluation of the term
+/// speaks of.
 ///
 /// Each kind of compound term has a function of its own, so that a visit has a small frame.
 #[cycle(at_once)]
@@ -162,7 +47,7 @@ pub fn at_once(
     requires whole { IsWhole arena.old }
     requires scope { IsLiveScope arena.old.objects scope.now }
     requires agree { Agree arena.old.objects alists.old }
-    ensures { Tells setting.now.world.now.definitions setting.now.functions.now (scope_env arena.old.objects scope.now) (term_of term.now) left arena.old arena.new alists.new result }
+    ensures { TellsIn setting.now scope.now (term_of term.now) left arena.old arena.new alists.new result }
 {
     if levels == 0 || left == 0 {
         return Err(Stop::Beyond);
@@ -197,19 +82,11 @@ fn branch(
     requires agree { Agree arena.old.objects alists.old }
     requires levels { 0 < levels }
     requires left { 0 < left }
-    ensures { Tells setting.now.world.now.definitions setting.now.functions.now (scope_env arena.old.objects scope.now) (term_of term.now) left arena.old arena.new alists.new result }
+    ensures { TellsIn setting.now scope.now (term_of term.now) left arena.old arena.new alists.new result }
 {
     match term {
         Term::If(test, then, otherwise) => {
-            let found = at_once(
-                setting,
-                arena,
-                alists,
-                test,
-                scope,
-                levels - 1,
-                left - 1,
-            )?;
+            let found = at_once(setting, arena, alists, test, scope, levels - 1, left - 1)?;
             if found.value.is_nil(arena) {
                 at_once(
                     setting,
@@ -221,15 +98,7 @@ fn branch(
                     found.left,
                 )
             } else {
-                at_once(
-                    setting,
-                    arena,
-                    alists,
-                    then,
-                    scope,
-                    levels - 1,
-                    found.left,
-                )
+                at_once(setting, arena, alists, then, scope, levels - 1, found.left)
             }
         }
         _ => Err(Stop::Beyond),
@@ -253,7 +122,7 @@ fn operation(
     requires agree { Agree arena.old.objects alists.old }
     requires levels { 0 < levels }
     requires left { 0 < left }
-    ensures { Tells setting.now.world.now.definitions setting.now.functions.now (scope_env arena.old.objects scope.now) (term_of term.now) left arena.old arena.new alists.new result }
+    ensures { TellsIn setting.now scope.now (term_of term.now) left arena.old arena.new alists.new result }
 {
     match term {
         Term::Prim(prim, terms) => {
@@ -264,8 +133,7 @@ fn operation(
                 )
             } else if terms.len() == 2 {
                 binary(
-                    setting, arena, alists, *prim, &terms[0], &terms[1], scope, levels,
-                    left,
+                    setting, arena, alists, *prim, &terms[0], &terms[1], scope, levels, left,
                 )
             } else {
                 Err(Stop::Beyond)
@@ -292,17 +160,9 @@ fn unary(
     requires agree { Agree arena.old.objects alists.old }
     requires levels { 0 < levels }
     requires left { 0 < left }
-    ensures { Tells setting.now.world.now.definitions setting.now.functions.now (scope_env arena.old.objects scope.now) (unary_term prim (term_of term.now)) left arena.old arena.new alists.new result }
+    ensures { TellsIn setting.now scope.now (unary_term prim (term_of term.now)) left arena.old arena.new alists.new result }
 {
-    let x = at_once(
-        setting,
-        arena,
-        alists,
-        term,
-        scope,
-        levels - 1,
-        left - 1,
-    )?;
+    let x = at_once(setting, arena, alists, term, scope, levels - 1, left - 1)?;
     let value = apply(arena, prim, x.value, NOTHING)?;
     Ok(Found {
         value,
@@ -328,26 +188,10 @@ fn binary(
     requires agree { Agree arena.old.objects alists.old }
     requires levels { 0 < levels }
     requires left { 0 < left }
-    ensures { Tells setting.now.world.now.definitions setting.now.functions.now (scope_env arena.old.objects scope.now) (binary_term prim (term_of first.now) (term_of second.now)) left arena.old arena.new alists.new result }
+    ensures { TellsIn setting.now scope.now (binary_term prim (term_of first.now) (term_of second.now)) left arena.old arena.new alists.new result }
 {
-    let x = at_once(
-        setting,
-        arena,
-        alists,
-        first,
-        scope,
-        levels - 1,
-        left - 1,
-    )?;
-    let y = at_once(
-        setting,
-        arena,
-        alists,
-        second,
-        scope,
-        levels - 1,
-        x.left,
-    )?;
+    let x = at_once(setting, arena, alists, first, scope, levels - 1, left - 1)?;
+    let y = at_once(setting, arena, alists, second, scope, levels - 1, x.left)?;
     let value = apply(arena, prim, x.value, y.value)?;
     Ok(Found {
         value,
@@ -372,7 +216,7 @@ fn opened(
     requires agree { Agree arena.old.objects alists.old }
     requires levels { 0 < levels }
     requires left { 0 < left }
-    ensures { Tells setting.now.world.now.definitions setting.now.functions.now (scope_env arena.old.objects scope.now) (term_of term.now) left arena.old arena.new alists.new result }
+    ensures { TellsIn setting.now scope.now (term_of term.now) left arena.old arena.new alists.new result }
 {
     match term {
         Term::Call(f, terms) => {
@@ -463,7 +307,7 @@ fn answered(
     requires scope { IsLiveScope arena.old.objects scope.now }
     requires agree { Agree arena.old.objects alists.old }
     requires answered { IsTrue (is_among (answered_in setting.now.world.now.definitions) f.number) }
-    ensures { Tells setting.now.world.now.definitions setting.now.functions.now (scope_env arena.old.objects scope.now) (Call f.number (terms_of terms.now)) (left + 1) arena.old arena.new alists.new result }
+    ensures { TellsIn setting.now scope.now (Call f.number (terms_of terms.now)) (left + 1) arena.old arena.new alists.new result }
 {
     let _count = setting.world.count();
     let given = arguments(setting, arena, alists, terms, scope, levels, left)?;
@@ -497,14 +341,12 @@ fn zero(
     requires scope { IsLiveScope arena.old.objects scope.now }
     requires agree { Agree arena.old.objects alists.old }
     requires zp { IsZp setting.now.world.now.definitions setting.now.functions.now f.number }
-    ensures { Tells setting.now.world.now.definitions setting.now.functions.now (scope_env arena.old.objects scope.now) (Call f.number (terms_of terms.now)) (left + 1) arena.old arena.new alists.new result }
+    ensures { TellsIn setting.now scope.now (Call f.number (terms_of terms.now)) (left + 1) arena.old arena.new alists.new result }
 {
     if terms.len() != 1 {
         return Err(Stop::Beyond);
     }
-    let x = at_once(
-        setting, arena, alists, &terms[0], scope, levels, left,
-    )?;
+    let x = at_once(setting, arena, alists, &terms[0], scope, levels, left)?;
     let test = zero_test(arena, x.value);
     if x.left < test.visits {
         return Err(Stop::Beyond);
@@ -548,12 +390,10 @@ fn arguments(
     requires whole { IsWhole arena.old }
     requires scope { IsLiveScope arena.old.objects scope.now }
     requires agree { Agree arena.old.objects alists.old }
-    ensures { TellsAll setting.now.world.now.definitions setting.now.functions.now (scope_env arena.old.objects scope.now) (terms_of terms.now) left arena.old arena.new alists.new result }
+    ensures { TellsAllIn setting.now scope.now (terms_of terms.now) left arena.old arena.new alists.new result }
 {
     if terms.len() == 1 {
-        let first = at_once(
-            setting, arena, alists, &terms[0], scope, levels, left,
-        )?;
+        let first = at_once(setting, arena, alists, &terms[0], scope, levels, left)?;
         Ok(Given {
             first: first.value,
             second: NOTHING,
@@ -561,12 +401,8 @@ fn arguments(
             left: first.left,
         })
     } else if terms.len() == 2 {
-        let first = at_once(
-            setting, arena, alists, &terms[0], scope, levels, left,
-        )?;
-        let second = at_once(
-            setting, arena, alists, &terms[1], scope, levels, first.left,
-        )?;
+        let first = at_once(setting, arena, alists, &terms[0], scope, levels, left)?;
+        let second = at_once(setting, arena, alists, &terms[1], scope, levels, first.left)?;
         Ok(Given {
             first: first.value,
             second: second.value,
@@ -574,12 +410,8 @@ fn arguments(
             left: second.left,
         })
     } else if terms.len() == 3 {
-        let first = at_once(
-            setting, arena, alists, &terms[0], scope, levels, left,
-        )?;
-        let second = at_once(
-            setting, arena, alists, &terms[1], scope, levels, first.left,
-        )?;
+        let first = at_once(setting, arena, alists, &terms[0], scope, levels, left)?;
+        let second = at_once(setting, arena, alists, &terms[1], scope, levels, first.left)?;
         let third = at_once(
             setting,
             arena,
@@ -597,17 +429,5 @@ fn arguments(
         })
     } else {
         Err(Stop::Beyond)
-    }
-}
-
-/// A formal with its value.
-fn local(formals: &Names, i: u64, value: Value) -> Local
-    requires { i < length formals.now }
-    ensures name { slice_get formals.now i ≡ Some result.name.number }
-    ensures value { result.value ≡ value }
-{
-    Local {
-        name: *formals.at(i),
-        value,
     }
 }

@@ -14,6 +14,7 @@
 
 mod ahead;
 mod applied;
+mod attempt;
 mod bindings;
 mod calls;
 mod constants;

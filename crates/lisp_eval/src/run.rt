@@ -11,9 +11,9 @@ ghost use Rattle.lisp_eval.specs.Nexts.{Answered, Stand};
 ghost use Rattle.lisp_eval.specs.States.{env_of};
 
 use crate::ahead::{Ahead, advance};
+use crate::attempt::Stop;
 use crate::bindings::{id_at, look};
 use crate::calls::{Known, bound, is_answered, look_up, open};
-use crate::direct::Stop;
 use crate::frame::{Binding, Focus, Work};
 use crate::primitives::{PrimFault, primitive};
 use crate::steps::{hand, visit};

@@ -2,7 +2,7 @@ use Rattle.std.proofs.Common.{rules, arith, ◌≡◌, ap, subst, ◌+◌, ◌-�
 use Rattle.gl_logic.specs.TermOf.{term_of, terms_of}
 use Rattle.lisp_eval.specs.Aheads.{BindsFound}
 use Rattle.lisp_eval.specs.Directs.{scope_env}
-use Rattle.lisp_eval.specs.declared.direct.Stop.TheVariants as stop
+use Rattle.lisp_eval.specs.declared.attempt.Stop.TheVariants as stop
 use Rattle.lisp_eval.specs.declared.value.Local.{Local}
 use Rattle.lisp_eval.proofs.StepsAhead.{first_apart, later_length, nothing_there, nothing_left, first_left, told, none_bound, first_stops, first_unheld, later_bound}
 use Rattle.lisp_eval.proofs.Entering.{scope_grown}

@@ -6,7 +6,7 @@ use Rattle.lisp_eval.specs.Aheads.{AreLiveLocals, EntersLocals, GoesInto}
 use Rattle.lisp_eval.specs.Outside.{locals_of}
 use Rattle.lisp_eval.specs.States.{env_of}
 use Rattle.lisp_eval.specs.declared.ahead.Step.TheVariants as step
-use Rattle.lisp_eval.specs.declared.direct.Stop.TheVariants as stop
+use Rattle.lisp_eval.specs.declared.attempt.Stop.TheVariants as stop
 use Rattle.lisp_eval.specs.declared.frame.Binding.{Binding}
 use Rattle.lisp_eval.specs.declared.value.Local.{Local}
 use Rattle.lisp_eval.proofs.Entering.{tables_on}

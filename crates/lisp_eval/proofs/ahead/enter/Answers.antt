@@ -1,5 +1,5 @@
 use Rattle.std.proofs.Common.{rules, ◌≡◌, Err}
-use Rattle.lisp_eval.specs.declared.direct.Stop.TheVariants as stop
+use Rattle.lisp_eval.specs.declared.attempt.Stop.TheVariants as stop
 use Rattle.lisp_eval.proofs.StepsAhead.{local_stops, local_unheld, local_entered}
 use Rattle.lisp_eval.proofs.ahead.enter.Goals as goal
 

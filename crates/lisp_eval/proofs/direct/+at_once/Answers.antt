@@ -14,7 +14,7 @@ use Rattle.lisp_eval.specs.Directs.{scope_env}
 use Rattle.lisp_eval.specs.Outside.{value_object}
 use Rattle.lisp_eval.specs.Sights.{Sees}
 use Rattle.lisp_eval.specs.Tables.{answered_in, table_value}
-use Rattle.lisp_eval.specs.declared.direct.Stop.TheVariants as stop
+use Rattle.lisp_eval.specs.declared.attempt.Stop.TheVariants as stop
 use Rattle.lisp_eval.specs.declared.value.Value.{Value}
 use Rattle.lisp_eval.specs.declared.value.Value.TheVariants as value
 use Rattle.lisp_eval.proofs.Attempting.{const_tells, tells_found, test_refused, branch_tells, first_refused, second_refused, third_refused, one_tells, two_tell, three_tell, operand_refused, unary_refused, unary_tells, second_operand_refused, binary_refused, binary_tells, call_refused, call_tells, entering_refused, answering_refused, answered_tells}

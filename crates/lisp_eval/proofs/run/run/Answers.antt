@@ -23,7 +23,7 @@ use Rattle.lisp_eval.specs.declared.frame.Focus as program
 use Rattle.lisp_eval.specs.declared.frame.Focus.TheVariants as focus
 use Rattle.lisp_eval.specs.declared.ahead.Ahead.{Ahead}
 use Rattle.lisp_eval.specs.declared.ahead.Ahead.TheVariants as ahead
-use Rattle.lisp_eval.specs.declared.direct.Stop.TheVariants as stop
+use Rattle.lisp_eval.specs.declared.attempt.Stop.TheVariants as stop
 use Rattle.lisp_eval.specs.declared.calls.Known.{Known}
 use Rattle.lisp_eval.specs.declared.calls.Known.TheVariants as known
 use Rattle.lisp_eval.specs.declared.primitives.PrimFault.{PrimFault}

@@ -4,11 +4,11 @@ use Rattle.hons_arena.specs.Ids.{object_at, IsLive}
 use Rattle.hons_arena.specs.declared.id.Id.{Id}
 use Rattle.lisp_eval.specs.Directs.{scope_env, IsLiveScope}
 use Rattle.lisp_eval.specs.Outside.{value_object, IsLiveValue}
-use Rattle.lisp_eval.specs.declared.direct.Scope.{Scope}
+use Rattle.lisp_eval.specs.declared.attempt.Scope.{Scope}
 use Rattle.lisp_eval.specs.declared.value.Value.{Value}
 use Rattle.lisp_eval.proofs.Environments.{look_is}
 use Rattle.lisp_eval.proofs.Locals.{local_is, local_live, binding_live}
-use Rattle.lisp_eval.proofs.direct.Scope.value.Goals as goal
+use Rattle.lisp_eval.proofs.attempt.Scope.value.Goals as goal
 
 pub returns-in-Outer-clause-value : goal.returns-in-Outer-clause-value
 returns-in-Outer-clause-value c objects =
