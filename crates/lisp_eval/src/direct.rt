@@ -220,8 +220,8 @@ fn opened(
 {
     match term {
         Term::Call(f, terms) => {
-            if is_answered(setting.world, *f) {
-                return answered(
+            if is_zp(setting.world, setting.functions, *f) {
+                return zero(
                     setting,
                     arena,
                     alists,
@@ -232,8 +232,8 @@ fn opened(
                     left - 1,
                 );
             }
-            if is_zp(setting.world, setting.functions, *f) {
-                return zero(
+            if is_answered(setting.world, *f) {
+                return answered(
                     setting,
                     arena,
                     alists,

@@ -4,7 +4,7 @@ ghost use Rattle.std.specs.Prelude.{◌≡◌, IsTrue};
 ghost use Rattle.lisp_eval.specs.Outside.{value_object, IsLiveValue};
 ghost use Rattle.lisp_eval.specs.Zero.{IsZp, zp_holds, zp_visits};
 
-use crate::calls::{is_answered, is_memoized};
+use crate::calls::is_memoized;
 use crate::value::Value;
 use gl_logic::{FnId, World};
 use hons_arena::{HonsArena, Kind};
@@ -35,7 +35,7 @@ pub fn is_zp(world: &World, functions: &[u64], f: FnId) -> bool
         return false;
     }
     let count = world.count();
-    if f.number >= count || is_memoized(functions, f) || is_answered(world, f) {
+    if f.number >= count || is_memoized(functions, f) {
         return false;
     }
     true
