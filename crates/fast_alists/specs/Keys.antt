@@ -1,8 +1,8 @@
 -- Whether two ids are equal, as a test, and what is hashed of one.
-use Rattle.std.specs.Prelude.{ℕ, Bool, ◌&&◌, ◌++◌, nat_eq}
+use Rattle.std.specs.Prelude.{ℕ, Bool, ◌&&◌, nat_eq}
 use Rattle.std.specs.Cmp.{IsEquivalence, nat_eq_equiv, on_equiv, and_equiv, unsigned_Decides}
 use Rattle.std.specs.Hash as fed
-use Rattle.std.specs.Hash.{HashWrites, Alike, same_Alike, on_Alike, and-Alike}
+use Rattle.std.specs.Hash.{HashWrites, Alike, same_Alike, on_Alike, second_alike}
 use Rattle.hons_arena.specs.declared.id.Id.{Id}
 use Rattle.hons_arena.specs.declared.id.IdKind.{IdKind}
 use Rattle.hons_arena.specs.declared.id.IdKind.TheVariants as kind
@@ -16,12 +16,13 @@ kind_number kind.Cell = 2
 abbrev pub id_eq : Id → Id → Bool
 id_eq a b = nat_eq (kind_number a.kind) (kind_number b.kind) && nat_eq a.number b.number
 
+-- the number alone: ids that differ in their kinds alone are fed alike, and equality tells them apart
 abbrev pub id_fed : Id → HashWrites
-id_fed a = fed.u8 (kind_number a.kind) ++ fed.u64 a.number
+id_fed a = fed.u64 a.number
 
 -- ---- the laws of equality and of hashing
 abbrev pub id_equiv : IsEquivalence id_eq
 id_equiv = and_equiv (on_equiv (λ a. kind_number a.kind) nat_eq_equiv) (on_equiv (λ a. a.number) nat_eq_equiv)
 
 abbrev pub id_alike : Alike id_eq id_fed
-id_alike = and-Alike (on_Alike (λ a. kind_number a.kind) (same_Alike fed.u8 unsigned_Decides)) (on_Alike (λ a. a.number) (same_Alike fed.u64 unsigned_Decides))
+id_alike = second_alike (λ a b. nat_eq (kind_number a.kind) (kind_number b.kind)) (on_Alike (λ a. a.number) (same_Alike fed.u64 unsigned_Decides))

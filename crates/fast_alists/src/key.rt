@@ -1,10 +1,9 @@
 //! An id as a key of a table.
 
-ghost use Rattle.std.specs.Prelude.{◌≡◌};
 ghost use Rattle.std.specs.Cmp.{partial_equiv_from_equiv};
-ghost use Rattle.fast_alists.specs.Keys.{id_eq, id_fed, kind_number, id_equiv, id_alike};
+ghost use Rattle.fast_alists.specs.Keys.{id_eq, id_fed, id_equiv, id_alike};
 
-use hons_arena::{Id, IdKind};
+use hons_arena::Id;
 use std::hash::{Hash, Hasher};
 use std::marker::Model;
 
@@ -44,18 +43,6 @@ impl Hash for Key {
     ghost respects_eq = { id_alike.fed };
 
     fn hash<H: Hasher>(&self, state: &mut H) {
-        state.write_u8(number_of_kind(self.id.kind));
         state.write_u64(self.id.number);
-    }
-}
-
-/// What stands for a kind in a hash.
-fn number_of_kind(kind: IdKind) -> u8
-    ensures { result ≡ kind_number kind }
-{
-    match kind {
-        IdKind::Symbol => 0,
-        IdKind::Text => 1,
-        IdKind::Cell => 2,
     }
 }
