@@ -56,9 +56,13 @@ TellsIn setting scope t left old new tables answer = Tells setting.world.now.def
 abbrev pub TellsAllIn : Setting → Scope → Exps → ℕ → Held → Held → Alists → Result Given Stop → Type 0
 TellsAllIn setting scope ts left old new tables answer = TellsAll setting.world.now.definitions setting.functions.now (scope_env old.objects scope) ts left old new tables answer
 
+-- a value of this object
+abbrev pub IsHere : List Object → Object → Value → Type 0
+IsHere objects object v = IsLiveValue objects v × (value_object objects v ≡ object)
+
 -- the answer is a value of this object, of which cells alone were added; Full only where one of them is lacking
 pub record Applies (object : Object) (old new : Held) (answer : Result Value Stop) : Type 0 where
-  pub value : IfOk answer (λ v. IsLiveValue new.objects v × (value_object new.objects v ≡ object))
+  pub value : IfOk answer (IsHere new.objects object)
   pub objects : AddsCellsOf object old.objects new.objects
   pub limit : new.limit ≡ old.limit
   pub whole : IsWhole new

@@ -1,17 +1,16 @@
 //! Values of constants and primitives, without a frame.
 
-ghost use Rattle.std.specs.Prelude.{◌≡◌, ◌-◌, ◌<◌, List, neg_ℤ, IfOk, IfSome, IsErrOf};
-ghost use Rattle.gl_logic.specs.Bitwise.{and_ℤ, or_ℤ, xor_ℤ};
-ghost use Rattle.gl_logic.specs.Object.{Object, Int, boolean_object};
+ghost use Rattle.std.specs.Prelude.{◌≡◌, ◌-◌, ◌<◌, IfOk, IsErrOf};
+ghost use Rattle.gl_logic.specs.Object.{Int};
 ghost use Rattle.gl_logic.specs.PrimValue.{prim_of};
-ghost use Rattle.gl_logic.specs.Quotients.{floor_ℤ, mod_ℤ};
 ghost use Rattle.hons_arena.specs.Held.{IsWhole};
-ghost use Rattle.lisp_eval.specs.Attempts.{Applies, value_found};
+ghost use Rattle.lisp_eval.specs.Attempts.{Applies, IsHere, value_found};
 ghost use Rattle.lisp_eval.specs.Outside.{value_object, IsLiveValue};
 ghost use Rattle.lisp_eval.specs.declared.attempt.Stop.TheVariants as stop;
 
 use crate::attempt::{Found, Stop};
 use crate::primitives::{code, is_predicate, predicate};
+use crate::small::small_value;
 use crate::value::{Value, cons, integer_id};
 use gl_logic::{Prim, Tree, TreeKind};
 use hons_arena::HonsArena;
@@ -58,131 +57,6 @@ fn integer_value(arena: &mut HonsArena, i: i128) -> Result<Value, Stop>
     }
 }
 
-/// What `mod` leaves by a divisor above zero; nothing by any other.
-#[inline(always)]
-fn small_modulo(a: i64, b: i64) -> Option<i64>
-    ensures { IfSome result (λ i. mod_ℤ a b ≡ i) }
-{
-    if 0 < b { Some(a.rem_euclid(b)) } else { None }
-}
-
-/// The quotient of a number by one above zero, rounded down; nothing of any other two integers.
-#[inline(always)]
-fn small_quotient(a: i64, b: i64) -> Option<i64>
-    ensures { IfSome result (λ i. floor_ℤ a b ≡ i) }
-{
-    if 0 <= a && 0 < b { Some(a / b) } else { None }
-}
-
-/// The bits that both of two numbers have; nothing where one is below zero.
-#[inline(always)]
-fn small_and(a: i64, b: i64) -> Option<i64>
-    ensures { IfSome result (λ i. and_ℤ a b ≡ i) }
-{
-    if 0 <= a && 0 <= b { Some(a & b) } else { None }
-}
-
-/// The bits that one of two numbers has or both have; nothing where one is below zero.
-#[inline(always)]
-#[tactic(auto, using(crate::proofs::SmallBits::or_of_63))]
-fn small_or(a: i64, b: i64) -> Option<i64>
-    ensures { IfSome result (λ i. or_ℤ a b ≡ i) }
-{
-    if 0 <= a && 0 <= b { Some(a | b) } else { None }
-}
-
-/// The bits that one alone of two numbers has; nothing where one is below zero.
-#[inline(always)]
-#[tactic(auto, using(crate::proofs::SmallBits::xor_of_63))]
-fn small_xor(a: i64, b: i64) -> Option<i64>
-    ensures { IfSome result (λ i. xor_ℤ a b ≡ i) }
-{
-    if 0 <= a && 0 <= b { Some(a ^ b) } else { None }
-}
-
-/// The integer that a primitive of two arguments gives of two integers, where it is found at once and is one of 64 bits.
-#[inline(always)]
-fn small_integer(prim: Prim, a: i64, b: i64) -> Option<i64>
-    ensures { IfSome result (λ i. prim_of prim (Int a) (Int b) ≡ Int i) }
-{
-    match prim {
-        Prim::BinaryPlus => a.checked_add(b),
-        Prim::BinaryTimes => a.checked_mul(b),
-        Prim::Mod => small_modulo(a, b),
-        Prim::Floor => small_quotient(a, b),
-        Prim::BinaryLogand => small_and(a, b),
-        Prim::BinaryLogior => small_or(a, b),
-        Prim::BinaryLogxor => small_xor(a, b),
-        _ => None,
-    }
-}
-
-/// Whether a test of two integers holds, where it is found at once.
-#[inline(always)]
-fn small_test(prim: Prim, a: i64, b: i64) -> Option<bool>
-    ensures { IfSome result (λ holds. prim_of prim (Int a) (Int b) ≡ boolean_object holds) }
-{
-    match prim {
-        Prim::Less => Some(a < b),
-        Prim::Equal => Some(a == b),
-        _ => None,
-    }
-}
-
-/// The value of a primitive of two arguments on two integers, where it is found at once.
-#[inline(always)]
-fn small_binary(prim: Prim, a: i64, b: i64) -> Option<Value>
-    ensures value { IfSome result (λ v. (objects : List Object) → value_object objects v ≡ prim_of prim (Int a) (Int b)) }
-    ensures live { IfSome result (λ v. (objects : List Object) → IsLiveValue objects v) }
-{
-    match small_integer(prim, a, b) {
-        Some(i) => Some(Value::Int(i)),
-        None => match small_test(prim, a, b) {
-            Some(holds) => Some(Value::truth(holds)),
-            None => None,
-        },
-    }
-}
-
-/// The negation of an integer, where it is one of 64 bits.
-#[inline(always)]
-fn small_minus(a: i64) -> Option<Value>
-    ensures value { IfSome result (λ v. (objects : List Object) → value_object objects v ≡ Int (neg_ℤ a)) }
-    ensures live { IfSome result (λ v. (objects : List Object) → IsLiveValue objects v) }
-{
-    match a.checked_neg() {
-        Some(i) => Some(Value::Int(i)),
-        None => None,
-    }
-}
-
-/// The value of a primitive of one argument on an integer, where it is found at once.
-#[inline(always)]
-fn small_unary(prim: Prim, a: i64) -> Option<Value>
-    ensures value { IfSome result (λ v. (objects : List Object) (y : Object) → value_object objects v ≡ prim_of prim (Int a) y) }
-    ensures live { IfSome result (λ v. (objects : List Object) → IsLiveValue objects v) }
-{
-    match prim {
-        Prim::UnaryMinus => small_minus(a),
-        Prim::Integerp => Some(Value::truth(true)),
-        Prim::Consp | Prim::Symbolp | Prim::Not => Some(Value::truth(false)),
-        _ => None,
-    }
-}
-
-/// The value of a primitive on an integer of 64 bits, and on two, where it is found at once; nothing for any other values.
-#[inline(always)]
-fn small_value(prim: Prim, x: Value, y: Value) -> Option<Value>
-    ensures value { IfSome result (λ v. (objects : List Object) → value_object objects v ≡ prim_of prim (value_object objects x) (value_object objects y)) }
-    ensures live { IfSome result (λ v. (objects : List Object) → IsLiveValue objects v) }
-{
-    match (x, y) {
-        (Value::Int(a), Value::Int(b)) => small_binary(prim, a, b),
-        (Value::Int(a), _) => small_unary(prim, a),
-        _ => None,
-    }
-}
-
 /// The value of a primitive. That of `code-char` is beyond this.
 pub fn apply(arena: &mut HonsArena, prim: Prim, x: Value, y: Value) -> Result<Value, Stop>
     requires whole { IsWhole arena.old }
@@ -209,7 +83,7 @@ pub fn apply(arena: &mut HonsArena, prim: Prim, x: Value, y: Value) -> Result<Va
 fn value_of(arena: &HonsArena, prim: Prim, x: Value, y: Value) -> Result<Value, Stop>
     requires x { IsLiveValue arena.now.objects x }
     requires y { IsLiveValue arena.now.objects y }
-    ensures value { IfOk result (λ v. IsLiveValue arena.now.objects v × (value_object arena.now.objects v ≡ prim_of prim (value_object arena.now.objects x) (value_object arena.now.objects y))) }
+    ensures value { IfOk result (IsHere arena.now.objects (prim_of prim (value_object arena.now.objects x) (value_object arena.now.objects y))) }
     ensures beyond { ¬ IsErrOf result stop.Full }
 {
     if is_predicate(prim) {

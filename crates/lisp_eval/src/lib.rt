@@ -28,6 +28,7 @@ mod machine;
 mod opening;
 mod primitives;
 mod run;
+mod small;
 mod steps;
 mod tables;
 mod value;
