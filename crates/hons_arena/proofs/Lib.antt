@@ -5,6 +5,7 @@ pub mod Elements
 pub mod Entering
 pub mod Homes
 pub mod Interned
+pub mod Newest
 pub mod Objects
 pub mod Pigeonhole
 pub mod Placing

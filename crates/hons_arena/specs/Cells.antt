@@ -1,5 +1,5 @@
 -- The objects that cells stand for, and what cells keep.
-use Rattle.std.specs.Prelude.{◌≡◌, ℕ, pos, ◌<◌, List, [], ◌∷◌, ◌++◌, length, get_or}
+use Rattle.std.specs.Prelude.{◌≡◌, ℕ, pos, ◌-◌, ◌<◌, List, [], ◌∷◌, ◌++◌, length, get_or}
 use Rattle.gl_logic.specs.Object.{Object, Int, Character, Cons}
 use Rattle.gl_logic.specs.Width.{Fits}
 use Rattle.hons_arena.specs.declared.cell.Cell.{Cell}
@@ -26,6 +26,10 @@ abbrev pub FitsBelow : ℕ → Cell → Type 0
 FitsBelow k (cell.Int z) = Fits z
 FitsBelow k (cell.Character n) = Unit {0}
 FitsBelow k (cell.Cons s t m n) = IsNumberBelow k s m × IsNumberBelow k t n
+
+-- a part of a cons is not among all cells but the newest of so many
+abbrev pub HasNewestPart : ℕ → Cell → Type 0
+HasNewestPart count c = ¬ FitsBelow (count - 1) c
 
 abbrev pub cell_at : List Cell → ℕ → Cell
 cell_at cells k = get_or cells k (cell.Int (pos 0))

@@ -9,7 +9,7 @@ ghost use Rattle.hons_arena.specs.Held.{Interns, IsWhole};
 use crate::cell::{Cell, of_parts, parts_of_cell, same_id};
 use crate::hash::home;
 use crate::id::{Full, Id, IdKind, Kind, Mark};
-use crate::probe::{Probe, end_of_walk};
+use crate::probe::{Probe, end_for};
 use crate::slots::{EMPTY, FIRST_SLOTS, make_empty, make_room, most, slot_with};
 use gl_logic::{NoMemory, TextId};
 use std::alloc::Global;
@@ -82,7 +82,7 @@ impl HonsArena {
         requires { FitsBelow (length self.old.objects) cell }
         ensures { Interns self.old self.new (cell_object self.old.objects cell) result }
     {
-        match end_of_walk(self.cells.as_slice(), self.slots.as_slice(), cell) {
+        match end_for(self.cells.as_slice(), self.slots.as_slice(), cell) {
             Probe::Found(number) => Ok(cell_id(number)),
             Probe::Empty(slot) => {
                 let number = self.cells.len() as u32;

@@ -1,7 +1,8 @@
 //! What a cell keeps.
 
-ghost use Rattle.std.specs.Prelude.{◌≡◌, ◌↔◌, IsTrue, MatchOption};
-ghost use Rattle.hons_arena.specs.Cells.{cons_cell, IsAtomCell};
+ghost use Rattle.std.specs.Prelude.{◌≡◌, ◌-◌, ◌↔◌, IsTrue, MatchOption};
+ghost use Rattle.hons_arena.specs.Cells.{cons_cell, HasNewestPart, IsAtomCell};
+ghost use Rattle.hons_arena.specs.Ids.{IsNumberBelow};
 
 use crate::id::{Id, IdKind};
 
@@ -54,4 +55,28 @@ pub fn same_cell(a: Cell, b: Cell) -> bool
     ensures { IsTrue result ↔ (a ≡ b) }
 {
     a == b
+}
+
+/// Whether a part of a cons is the newest of so many cells.
+#[inline(always)]
+pub fn has_newest_part(count: usize, cell: Cell) -> bool
+    ensures { IsTrue result → HasNewestPart count cell }
+{
+    match cell {
+        Cell::Cons(first_kind, rest_kind, first, rest) => {
+            is_newest(count, first_kind, first) || is_newest(count, rest_kind, rest)
+        }
+        _ => false,
+    }
+}
+
+/// Whether an id of this kind and number names the newest of so many cells.
+#[inline(always)]
+fn is_newest(count: usize, kind: IdKind, number: u64) -> bool
+    ensures { IsTrue result → ¬ IsNumberBelow (count - 1) kind number }
+{
+    match kind {
+        IdKind::Cell => number.wrapping_add(1) == count as u64,
+        _ => false,
+    }
 }

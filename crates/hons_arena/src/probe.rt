@@ -1,12 +1,13 @@
 //! Looking a cell up in the slot table.
 
 ghost use Rattle.std.specs.Prelude.{◌<◌, length};
+ghost use Rattle.hons_arena.specs.Cells.{IsInterned};
 ghost use Rattle.hons_arena.specs.Table.{IsTable};
 ghost use Rattle.hons_arena.specs.Probe.{IsEnd};
 
-use crate::cell::{Cell, same_cell};
+use crate::cell::{Cell, has_newest_part, same_cell};
 use crate::hash::home;
-use crate::slots::EMPTY;
+use crate::slots::{EMPTY, slot_with};
 
 /// Where the walk for a cell ends.
 #[derive(Drop)]
@@ -17,9 +18,24 @@ pub enum Probe {
     Empty(usize),
 }
 
+/// Where the walk for a cell ends. Each cell is behind its parts, so a cons with a part in the newest cell is not held: its
+/// walk compares it with no cell.
+#[inline(always)]
+pub fn end_for(cells: &[Cell], slots: &[u32], cell: Cell) -> Probe
+    requires table { IsTable cells.now slots.now }
+    requires room { length cells.now < length slots.now }
+    requires interned { IsInterned cells.now }
+    ensures { IsEnd cells.now slots.now cell result }
+{
+    if has_newest_part(cells.len(), cell) {
+        return Probe::Empty(slot_with(slots, home(cell, slots.len()), EMPTY));
+    }
+    end_of_walk(cells, slots, cell)
+}
+
 /// Walks from a cell's home to the cell, or to the first empty slot.
 #[inline(always)]
-pub fn end_of_walk(cells: &[Cell], slots: &[u32], cell: Cell) -> Probe
+fn end_of_walk(cells: &[Cell], slots: &[u32], cell: Cell) -> Probe
     requires table { IsTable cells.now slots.now }
     requires room { length cells.now < length slots.now }
     ensures { IsEnd cells.now slots.now cell result }
