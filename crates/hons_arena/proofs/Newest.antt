@@ -1,5 +1,5 @@
 -- A cons with a part in the newest cell is not held.
-use Rattle.std.proofs.Common.{arith, ◌≡◌, ◌∙◌, ℕ, ◌-◌, ◌<◌, List, length, subst}
+use Rattle.std.proofs.Common.{arith, ◌≡◌, ℕ, ◌-◌, ◌<◌, List, length, subst}
 use Rattle.hons_arena.specs.declared.cell.Cell.{Cell}
 use Rattle.hons_arena.specs.Cells.{cell_at, FitsBelow, HasNewestPart, IsInterned}
 use Rattle.hons_arena.specs.Hash.{home_of}

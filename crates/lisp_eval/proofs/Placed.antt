@@ -1,5 +1,5 @@
 -- A term without calls, and the same with its variables as places.
-use Rattle.std.proofs.Common.{◌≡◌, ◌∙◌, ap, refl, ℕ, Bool, true, false, ◌&&◌, eqb, List, [], ◌∷◌, Option}
+use Rattle.std.proofs.Common.{◌≡◌, ap, refl, ℕ, Bool, true, false, ◌&&◌, eqb, List, Option}
 use Rattle.std.specs.List.{position_or_len}
 use Rattle.std.proofs.lemmas.Bool.{and_parts}
 use Rattle.gl_logic.specs.Environment.{look}
@@ -9,7 +9,7 @@ use Rattle.gl_logic.specs.Object.{Object}
 use Rattle.gl_logic.specs.ObjectEq.{is_nil}
 use Rattle.gl_logic.specs.PrimValue.{prim_value}
 use Rattle.gl_logic.specs.Walk.{CallMade, then}
-use Rattle.lisp_eval.specs.Threads.{Thread, Threads, after, chained, closed, met, thread_by, threads_by}
+use Rattle.lisp_eval.specs.Threads.{Thread, after, chained, closed, met, thread_by, threads_by}
 
 -- no call, and no let
 abbrev mutual

@@ -1,14 +1,13 @@
 -- What the body of `zp` gives at once.
-use Rattle.std.proofs.Common.{◌≡◌, ◌∙◌, ap, sym, refl, subst, ℕ, zero, suc, ◌+◌, Bool, true, false, cond, eqb, List, [], ◌∷◌, length, arith, rules, Option, Some, None, slice_get}
-use Rattle.std.specs.Prelude.{IfSome, pos, negsuc, ℤ, int_le, int_lt}
+use Rattle.std.proofs.Common.{◌≡◌, ◌∙◌, ap, sym, refl, subst, ℕ, zero, suc, Bool, true, false, eqb, List, [], ◌∷◌, length, arith, rules, Some, slice_get}
+use Rattle.std.specs.Prelude.{pos, negsuc, int_le, int_lt}
 use Rattle.std.specs.List.{position_or_len}
 use Rattle.gl_logic.specs.Definition.{Definition}
 use Rattle.gl_logic.specs.Environment.{look}
-use Rattle.gl_logic.specs.Exp.{Exp, Exps, Var, Const, If, Prim, Call, Last, More}
+use Rattle.gl_logic.specs.Exp.{Exp, Var, Const, If, Prim, Last, More}
 use Rattle.gl_logic.specs.Ground.{ground}
 use Rattle.gl_logic.specs.IsGround.{placed, AreGround}
 use Rattle.gl_logic.specs.Object.{Object, Int, Character, Symbol, Text, Cons, nil, true_object, boolean_object}
-use Rattle.gl_logic.specs.ObjectEq.{is_nil}
 use Rattle.gl_logic.specs.PrimValue.{prim_value}
 use Rattle.gl_logic.specs.declared.prim.Primitive.TheVariants as prim
 use Rattle.gl_logic.proofs.Optional.{some_same}

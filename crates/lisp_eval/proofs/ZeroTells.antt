@@ -1,5 +1,5 @@
 -- What a call of `zp` gives at once, from what its argument gives.
-use Rattle.std.proofs.Common.{◌≡◌, ◌∙◌, ap, sym, refl, subst, ℕ, ◌+◌, ◌-◌, ◌<◌, ◌≤◌, arith, List, [], ◌∷◌, Some, slice_get, length, Result, Ok, Err, IsErr}
+use Rattle.std.proofs.Common.{◌≡◌, sym, refl, subst, ℕ, ◌+◌, ◌-◌, ◌<◌, ◌≤◌, arith, List, [], ◌∷◌, Some, slice_get, Result, Ok, Err, IsErr}
 use Rattle.std.specs.Prelude.{IsErrOf}
 use Rattle.gl_logic.specs.Definition.{Definition}
 use Rattle.gl_logic.specs.Exp.{Exp, Exps, Call, Last, More}
@@ -11,7 +11,7 @@ use Rattle.lisp_eval.specs.Attempts.{Alists, Tells, TellsAll}
 use Rattle.lisp_eval.specs.Directs.{GivesAtOnce, IsFound, AreGiven}
 use Rattle.lisp_eval.specs.Outside.{value_object, IsLiveValue}
 use Rattle.lisp_eval.specs.Sights.{Sees, Adds, Lacks}
-use Rattle.lisp_eval.specs.Zero.{IsZp, zp_number, zp_holds, zp_visits}
+use Rattle.lisp_eval.specs.Zero.{IsZp, zp_holds, zp_visits}
 use Rattle.lisp_eval.specs.declared.attempt.Found.{Found}
 use Rattle.lisp_eval.specs.declared.attempt.Given.{Given}
 use Rattle.lisp_eval.specs.declared.attempt.Stop.{Stop}
