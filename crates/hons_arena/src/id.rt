@@ -1,5 +1,9 @@
 //! What names an object of an arena, and what an arena answers.
 
+ghost use Rattle.std.specs.Prelude.{List};
+ghost use Rattle.gl_logic.specs.Object.{Object, nil};
+ghost use Rattle.hons_arena.specs.Ids.{IsIdOf};
+
 use gl_logic::TextId;
 
 /// What an id's number counts.
@@ -20,6 +24,18 @@ pub struct Id {
     pub kind: IdKind,
     /// The number of the text or of the cell.
     pub number: u64,
+}
+
+/// NIL, which has the same id in each arena.
+impl Default for Id {
+    ghost is_default = { λ id. (objects : List Object) → IsIdOf objects nil id };
+
+    fn default() -> Id {
+        Id {
+            kind: IdKind::Symbol,
+            number: 0,
+        }
+    }
 }
 
 /// What an object is, with the value of an atom.
