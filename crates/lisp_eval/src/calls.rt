@@ -8,10 +8,11 @@ ghost use Rattle.lisp_eval.specs.Nexts.{Opens, Binds};
 ghost use Rattle.lisp_eval.specs.Tables.{answered_in};
 
 use crate::bindings::bind;
-use crate::frame::{Binding, Focus, Frame};
+use crate::frame::{Binding, Focus, Frame, PLACES};
 use gl_logic::{FnId, Names, NoMemory, Term, World};
 use hons_arena::Id;
 use memo_tables::{MemoCall, MemoTables};
+use smallvec::SmallVec;
 use std::alloc::Global;
 use std::rc::Rc;
 
@@ -78,7 +79,7 @@ pub fn look_up(
 /// Opens a call: its body is visited, with the formals bound to the arguments.
 pub fn open<'a>(
     f: FnId,
-    args: Vec<Id>,
+    args: SmallVec<Id, PLACES>,
     keep: Option<MemoCall>,
     world: &'a World,
     alloc: Global,
@@ -102,7 +103,7 @@ pub fn open<'a>(
 pub fn bound<'a>(
     names: &'a Names,
     body: &'a Term,
-    values: Vec<Id>,
+    values: SmallVec<Id, PLACES>,
     outer: Rc<Vec<Binding>>,
     alloc: Global,
 ) -> Result<Focus<'a>, NoMemory>

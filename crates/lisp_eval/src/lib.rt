@@ -3,11 +3,14 @@
 //! A [`Machine`] begins with a world and the functions whose finished calls it keeps, takes inputs, and evaluates terms. It
 //! runs on a stack of frames of its own, so that no depth of definitions is too great for it. Each value is the id of an
 //! object in its arena. What needs no frame takes none: small terms are evaluated at once, and an evaluation goes on past
-//! each test, and into the body of each call, whose parts are found so; integers of 64 bits on the way take no cells. It
-//! counts a visit to a subterm when it makes it, and opens a call of a memoized function once for the same arguments. Its refusals
-//! tell the truth: Steps only where the memoized cost exceeds the limit, Cells only where the cells that were held and
-//! those of the values computed are more different objects than the arena has cells, Width only where some value leaves
-//! 128 bits.
+//! each test, and into the body of each call, whose parts are found so; integers of 64 bits on the way take no cells. Where
+//! frames are needed, a visit to a variable, a constant or a primitive takes no memory, but that the stack of frames grows
+//! to twice its room where it is full.
+//!
+//! The machine counts a visit to a subterm when it makes it, and opens a call of a memoized function once for the same
+//! arguments. Its refusals tell the truth: Steps only where the memoized cost exceeds the limit, Cells only where the cells
+//! that were held and those of the values computed are more different objects than the arena has cells, Width only where
+//! some value leaves 128 bits.
 //!
 //! What it takes is counted in `docs/BENCHMARKS.md`: the last rows of the theorems, and the evaluator's own.
 #![tactic(auto)]

@@ -7,18 +7,19 @@ ghost use Rattle.lisp_eval.specs.Compound.{IsCompound};
 ghost use Rattle.lisp_eval.specs.Kept.{KeepsCall};
 ghost use Rattle.lisp_eval.specs.Nexts.{Begins, Enters, Hands};
 
-use crate::frame::{Binding, Focus, Frame, Work};
+use crate::frame::{Binding, Focus, Frame, PLACES, Work};
 use crate::value::Value;
 use gl_logic::{NoMemory, Term};
 use hons_arena::{HonsArena, Id};
 use memo_tables::MemoTables;
+use smallvec::SmallVec;
 use std::alloc::Global;
 use std::rc::Rc;
 
 /// The first of some terms is visited, or the work is done.
 pub fn begin<'a>(
     work: Work<'a>,
-    done: Vec<Id>,
+    done: SmallVec<Id, PLACES>,
     terms: &'a [Term],
     env: Rc<Vec<Binding>>,
     frames: &mut Vec<Frame<'a>>,
@@ -54,7 +55,7 @@ pub fn visit<'a>(
         }
         Term::Prim(prim, terms) => begin(
             Work::Prim(*prim),
-            Vec::new(alloc),
+            SmallVec::new(alloc),
             terms.as_slice(),
             env,
             frames,
@@ -62,7 +63,7 @@ pub fn visit<'a>(
         Term::Call(f, terms) => {
             begin(
                 Work::Call(*f),
-                Vec::new(alloc),
+                SmallVec::new(alloc),
                 terms.as_slice(),
                 env,
                 frames,
@@ -70,7 +71,7 @@ pub fn visit<'a>(
         }
         Term::Let(names, terms, body) => begin(
             Work::Let(names, body),
-            Vec::new(alloc),
+            SmallVec::new(alloc),
             terms.as_slice(),
             env,
             frames,

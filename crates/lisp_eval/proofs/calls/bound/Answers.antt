@@ -8,5 +8,5 @@ use Rattle.lisp_eval.proofs.calls.bound.Goals as goal
 pub returns : goal.returns
 returns c = record {
   next = λ objects frames. bound_next objects c.args.names.now c.args.values.items c.args.outer.value.items c.in_ok-env.env.value.items (term_of c.args.body.now) (focus.Visit c.args.body c.in_ok-env.env) frames
-      (ap (λ v. v.items) c.in_ok-env.ensures.ok ∙ (c.in_ok-bind.ensures ∙ (λ j. bindings_of c.args.names.now (c.as_slice.ensures.value j) ++ (c.as_slice-2.ensures.value ∙ ap (λ v. v.items) c.as_ref.ensures) j))) refl;
+      (ap (λ v. v.items) c.in_ok-env.ensures.ok ∙ (c.in_ok-bind.ensures ∙ (λ j. bindings_of c.args.names.now (c.as_slice.ensures j) ++ (c.as_slice-2.ensures.value ∙ ap (λ v. v.items) c.as_ref.ensures) j))) refl;
 }

@@ -187,22 +187,22 @@ pub primitive-requires-clause-x : goal.primitive-requires-clause-x
 primitive-requires-clause-x c =
     let l = c.loop-focus in
     let s = apply_state (goal.at.primitive-requires-clause-x c).In-Apply in
-    let x : c.id_at-x.result ≡ id_or_nil c.in-Apply.values.items 0 = c.id_at-x.ensures ∙ ap (λ xs. id_or_nil xs 0) c.as_slice-in-Prim.ensures.value in
+    let x : c.id_at-x.result ≡ id_or_nil c.in-Apply.values.items 0 = c.id_at-x.ensures ∙ ap (λ xs. id_or_nil xs 0) c.as_slice-in-Prim.ensures in
     subst (λ (i : Id). IsLive l.arena.objects i) (sym x) (arg_live _ _ _ _ _ _ _ _ _ _ _ _ _ s 0)
 
 pub primitive-requires-clause-y : goal.primitive-requires-clause-y
 primitive-requires-clause-y c =
     let l = c.loop-focus in
     let s = apply_state (goal.at.primitive-requires-clause-y c).In-Apply in
-    let y : c.id_at-y.result ≡ id_or_nil c.in-Apply.values.items 1 = c.id_at-y.ensures ∙ ap (λ xs. id_or_nil xs 1) c.as_slice-in-Prim-2.ensures.value in
+    let y : c.id_at-y.result ≡ id_or_nil c.in-Apply.values.items 1 = c.id_at-y.ensures ∙ ap (λ xs. id_or_nil xs 1) c.as_slice-in-Prim-2.ensures in
     subst (λ (i : Id). IsLive l.arena.objects i) (sym y) (arg_live _ _ _ _ _ _ _ _ _ _ _ _ _ s 1)
 
 pub returns-in-Err-Wide-clause-answer : goal.returns-in-Err-Wide-clause-answer
 returns-in-Err-Wide-clause-answer c =
     let l = c.loop-focus in
     let s = apply_state (goal.at.returns-in-Err-Wide-clause-answer c).In-Apply in
-    let x : c.id_at-x.result ≡ id_or_nil c.in-Apply.values.items 0 = c.id_at-x.ensures ∙ ap (λ xs. id_or_nil xs 0) c.as_slice-in-Prim.ensures.value in
-    let y : c.id_at-y.result ≡ id_or_nil c.in-Apply.values.items 1 = c.id_at-y.ensures ∙ ap (λ xs. id_or_nil xs 1) c.as_slice-in-Prim-2.ensures.value in
+    let x : c.id_at-x.result ≡ id_or_nil c.in-Apply.values.items 0 = c.id_at-x.ensures ∙ ap (λ xs. id_or_nil xs 0) c.as_slice-in-Prim.ensures in
+    let y : c.id_at-y.result ≡ id_or_nil c.in-Apply.values.items 1 = c.id_at-y.ensures ∙ ap (λ xs. id_or_nil xs 1) c.as_slice-in-Prim-2.ensures in
     let g = subst (λ (v : Object). Gives l.arena c.primitive.new.arena v c.primitive.result) (λ j. prim_of c.in-Prim.p (object_at l.arena.objects (x j)) (object_at l.arena.objects (y j))) c.primitive.ensures in
     let wide : c.primitive.result ≡ Err fault.Wide = search rules in
     prim_wide _ _ _ _ _ _ _ _ _ _ _ _ _ s c.in-Prim.p c.in-Prim.is (g.wide wide)
@@ -211,21 +211,40 @@ pub returns-in-Err-Full-primitive-clause-answer : goal.returns-in-Err-Full-primi
 returns-in-Err-Full-primitive-clause-answer c =
     let l = c.loop-focus in
     let s = apply_state (goal.at.returns-in-Err-Full-primitive-clause-answer c).In-Apply in
-    let x : c.id_at-x.result ≡ id_or_nil c.in-Apply.values.items 0 = c.id_at-x.ensures ∙ ap (λ xs. id_or_nil xs 0) c.as_slice-in-Prim.ensures.value in
-    let y : c.id_at-y.result ≡ id_or_nil c.in-Apply.values.items 1 = c.id_at-y.ensures ∙ ap (λ xs. id_or_nil xs 1) c.as_slice-in-Prim-2.ensures.value in
+    let x : c.id_at-x.result ≡ id_or_nil c.in-Apply.values.items 0 = c.id_at-x.ensures ∙ ap (λ xs. id_or_nil xs 0) c.as_slice-in-Prim.ensures in
+    let y : c.id_at-y.result ≡ id_or_nil c.in-Apply.values.items 1 = c.id_at-y.ensures ∙ ap (λ xs. id_or_nil xs 1) c.as_slice-in-Prim-2.ensures in
     let g = subst (λ (v : Object). Gives l.arena c.primitive.new.arena v c.primitive.result) (λ j. prim_of c.in-Prim.p (object_at l.arena.objects (x j)) (object_at l.arena.objects (y j))) c.primitive.ensures in
     let full : c.primitive.result ≡ Err fault.Full = search rules in
     let v = prim_of c.in-Prim.p (object_at l.arena.objects (id_or_nil c.in-Apply.values.items 0)) (object_at l.arena.objects (id_or_nil c.in-Apply.values.items 1)) in
     crowded_at _ _ _ _ l.arena.limit c.args.arena.now.limit l.invariant.limit
     (prim_crowded _ _ _ _ _ _ _ _ _ _ _ _ _ s c.in-Prim.p c.in-Prim.is l.arena refl (lacks_itself l.arena v (g.cell full) (g.full full)) l.invariant.whole.different)
 
-pub loop-focus-preserved-in-Apply : goal.loop-focus-preserved-in-Apply
-loop-focus-preserved-in-Apply c =
+pub loop-focus-preserved-in-Ok-primitive : goal.loop-focus-preserved-in-Ok-primitive
+loop-focus-preserved-in-Ok-primitive c =
     let l = c.loop-focus in
     let st = c.args.arena.now.objects in
-    let s = apply_state (goal.at.loop-focus-preserved-in-Apply c).In-Apply in
-    let x : c.id_at-x.result ≡ id_or_nil c.in-Apply.values.items 0 = c.id_at-x.ensures ∙ ap (λ xs. id_or_nil xs 0) c.as_slice-in-Prim.ensures.value in
-    let y : c.id_at-y.result ≡ id_or_nil c.in-Apply.values.items 1 = c.id_at-y.ensures ∙ ap (λ xs. id_or_nil xs 1) c.as_slice-in-Prim-2.ensures.value in
+    let s = apply_state (goal.at.loop-focus-preserved-in-Ok-primitive c).In-Apply in
+    let x : c.id_at-x.result ≡ id_or_nil c.in-Apply.values.items 0 = c.id_at-x.ensures ∙ ap (λ xs. id_or_nil xs 0) c.as_slice-in-Prim.ensures in
+    let y : c.id_at-y.result ≡ id_or_nil c.in-Apply.values.items 1 = c.id_at-y.ensures ∙ ap (λ xs. id_or_nil xs 1) c.as_slice-in-Prim-2.ensures in
+    let g = subst (λ (v : Object). Gives l.arena c.primitive.new.arena v c.primitive.result) (λ j. prim_of c.in-Prim.p (object_at l.arena.objects (x j)) (object_at l.arena.objects (y j))) c.primitive.ensures in
+    let v = prim_of c.in-Prim.p (object_at l.arena.objects (id_or_nil c.in-Apply.values.items 0)) (object_at l.arena.objects (id_or_nil c.in-Apply.values.items 1)) in
+    let ok : c.primitive.result ≡ Ok c.in-Ok-primitive.id = search rules in
+    let given = subst (λ (r : Result Id PrimFault). Gives l.arena c.primitive.new.arena v r) ok g in
+    record {
+      state = prim_next _ _ _ _ _ _ _ _ _ _ _ _ _ s c.in-Prim.p c.in-Prim.is c.primitive.new.arena.objects c.in-Ok-primitive.id given.id given.objects (whole_narrow c.primitive.new.arena (given.whole l.invariant.whole) c.in-Ok-primitive.id given.id.0);
+      grown = grown_more v st l.arena.objects c.primitive.new.arena.objects l.invariant.grown given.objects;
+      whole = given.whole l.invariant.whole;
+      alists = tables_stay v l.arena.objects c.primitive.new.arena.objects given.objects l.alists l.invariant.alists;
+      limit = given.limit ∙ l.invariant.limit;
+    }
+
+pub loop-focus-preserved-in-Ok-primitive-2 : goal.loop-focus-preserved-in-Ok-primitive-2
+loop-focus-preserved-in-Ok-primitive-2 c =
+    let l = c.loop-focus in
+    let st = c.args.arena.now.objects in
+    let s = apply_state (goal.at.loop-focus-preserved-in-Ok-primitive-2 c).In-Apply in
+    let x : c.id_at-x.result ≡ id_or_nil c.in-Apply.values.items 0 = c.id_at-x.ensures ∙ ap (λ xs. id_or_nil xs 0) c.as_slice-in-Prim.ensures in
+    let y : c.id_at-y.result ≡ id_or_nil c.in-Apply.values.items 1 = c.id_at-y.ensures ∙ ap (λ xs. id_or_nil xs 1) c.as_slice-in-Prim-2.ensures in
     let g = subst (λ (v : Object). Gives l.arena c.primitive.new.arena v c.primitive.result) (λ j. prim_of c.in-Prim.p (object_at l.arena.objects (x j)) (object_at l.arena.objects (y j))) c.primitive.ensures in
     let v = prim_of c.in-Prim.p (object_at l.arena.objects (id_or_nil c.in-Apply.values.items 0)) (object_at l.arena.objects (id_or_nil c.in-Apply.values.items 1)) in
     let ok : c.primitive.result ≡ Ok c.in-Ok-primitive.id = search rules in
@@ -242,19 +261,19 @@ pub answer-requires-clause-x : goal.answer-requires-clause-x
 answer-requires-clause-x c =
     let l = c.loop-focus in
     let s = apply_state (goal.at.answer-requires-clause-x c).In-Apply in
-    subst (λ (xs : List Id). IsLive l.arena.objects (id_or_nil xs 0)) (sym c.as_slice-then-is_answered.ensures.value) (arg_live _ _ _ _ _ _ _ _ _ _ _ _ _ s 0)
+    subst (λ (xs : List Id). IsLive l.arena.objects (id_or_nil xs 0)) (sym c.as_slice-then-is_answered.ensures) (arg_live _ _ _ _ _ _ _ _ _ _ _ _ _ s 0)
 
 pub answer-requires-clause-y : goal.answer-requires-clause-y
 answer-requires-clause-y c =
     let l = c.loop-focus in
     let s = apply_state (goal.at.answer-requires-clause-y c).In-Apply in
-    subst (λ (xs : List Id). IsLive l.arena.objects (id_or_nil xs 1)) (sym c.as_slice-then-is_answered.ensures.value) (arg_live _ _ _ _ _ _ _ _ _ _ _ _ _ s 1)
+    subst (λ (xs : List Id). IsLive l.arena.objects (id_or_nil xs 1)) (sym c.as_slice-then-is_answered.ensures) (arg_live _ _ _ _ _ _ _ _ _ _ _ _ _ s 1)
 
 pub answer-requires-clause-z : goal.answer-requires-clause-z
 answer-requires-clause-z c =
     let l = c.loop-focus in
     let s = apply_state (goal.at.answer-requires-clause-z c).In-Apply in
-    subst (λ (xs : List Id). IsLive l.arena.objects (id_or_nil xs 2)) (sym c.as_slice-then-is_answered.ensures.value) (arg_live _ _ _ _ _ _ _ _ _ _ _ _ _ s 2)
+    subst (λ (xs : List Id). IsLive l.arena.objects (id_or_nil xs 2)) (sym c.as_slice-then-is_answered.ensures) (arg_live _ _ _ _ _ _ _ _ _ _ _ _ _ s 2)
 
 pub returns-in-Err-Full-answer-clause-answer : goal.returns-in-Err-Full-answer-clause-answer
 returns-in-Err-Full-answer-clause-answer c =
@@ -262,19 +281,19 @@ returns-in-Err-Full-answer-clause-answer c =
     let w = c.args.world.now in
     let s = apply_state (goal.at.returns-in-Err-Full-answer-clause-answer c).In-Apply in
     let table : is_among (answered_in w.definitions) c.in-Call.f.number ≡ true = sym c.is_answered.ensures ∙ c.if-is_answered.true in
-    let makes = subst (λ (xs : List Id). Makes l.arena c.answer.new.arena (answer_object l.arena.objects c.in-Call.f.number xs) c.answer.result) c.as_slice-then-is_answered.ensures.value c.answer.ensures.makes in
+    let makes = subst (λ (xs : List Id). Makes l.arena c.answer.new.arena (answer_object l.arena.objects c.in-Call.f.number xs) c.answer.result) c.as_slice-then-is_answered.ensures c.answer.ensures.makes in
     let full : c.answer.result ≡ Err alist_fault.Full = search rules in
     crowded_at _ _ _ _ l.arena.limit c.args.arena.now.limit l.invariant.limit
     (answered_crowded _ _ _ _ _ _ _ _ _ _ _ _ _ s c.in-Call.f c.in-Call.is table l.arena refl (makes.full full) l.invariant.whole.different)
 
-pub loop-focus-preserved-then-is_answered : goal.loop-focus-preserved-then-is_answered
-loop-focus-preserved-then-is_answered c =
+pub loop-focus-preserved-in-Ok-answer : goal.loop-focus-preserved-in-Ok-answer
+loop-focus-preserved-in-Ok-answer c =
     let l = c.loop-focus in
     let w = c.args.world.now in
     let st = c.args.arena.now.objects in
-    let s = apply_state (goal.at.loop-focus-preserved-then-is_answered c).In-Apply in
+    let s = apply_state (goal.at.loop-focus-preserved-in-Ok-answer c).In-Apply in
     let table : is_among (answered_in w.definitions) c.in-Call.f.number ≡ true = sym c.is_answered.ensures ∙ c.if-is_answered.true in
-    let makes = subst (λ (xs : List Id). Makes l.arena c.answer.new.arena (answer_object l.arena.objects c.in-Call.f.number xs) c.answer.result) c.as_slice-then-is_answered.ensures.value c.answer.ensures.makes in
+    let makes = subst (λ (xs : List Id). Makes l.arena c.answer.new.arena (answer_object l.arena.objects c.in-Call.f.number xs) c.answer.result) c.as_slice-then-is_answered.ensures c.answer.ensures.makes in
     let ok : c.answer.result ≡ Ok c.in-Ok-answer.id = search rules in
     let given = subst (λ (r : Result Id AlistFault). Makes l.arena c.answer.new.arena (answer_object l.arena.objects c.in-Call.f.number c.in-Apply.values.items) r) ok makes in
     let v = answer_object l.arena.objects c.in-Call.f.number c.in-Apply.values.items in
@@ -287,12 +306,47 @@ loop-focus-preserved-then-is_answered c =
       limit = given.limit ∙ l.invariant.limit;
     }
 
-pub loop-focus-preserved-in-Value-branch-3 : goal.loop-focus-preserved-in-Value-branch-3
-loop-focus-preserved-in-Value-branch-3 c =
+pub loop-focus-preserved-in-Ok-answer-2 : goal.loop-focus-preserved-in-Ok-answer-2
+loop-focus-preserved-in-Ok-answer-2 c =
+    let l = c.loop-focus in
+    let w = c.args.world.now in
+    let st = c.args.arena.now.objects in
+    let s = apply_state (goal.at.loop-focus-preserved-in-Ok-answer-2 c).In-Apply in
+    let table : is_among (answered_in w.definitions) c.in-Call.f.number ≡ true = sym c.is_answered.ensures ∙ c.if-is_answered.true in
+    let makes = subst (λ (xs : List Id). Makes l.arena c.answer.new.arena (answer_object l.arena.objects c.in-Call.f.number xs) c.answer.result) c.as_slice-then-is_answered.ensures c.answer.ensures.makes in
+    let ok : c.answer.result ≡ Ok c.in-Ok-answer.id = search rules in
+    let given = subst (λ (r : Result Id AlistFault). Makes l.arena c.answer.new.arena (answer_object l.arena.objects c.in-Call.f.number c.in-Apply.values.items) r) ok makes in
+    let v = answer_object l.arena.objects c.in-Call.f.number c.in-Apply.values.items in
+    record {
+      state = answered_next _ _ _ _ _ _ _ _ _ _ _ _ _ s c.in-Call.f c.in-Call.is table c.answer.new.arena.objects c.in-Ok-answer.id given.id given.objects
+          (whole_narrow c.answer.new.arena c.in-Ok-answer.ensures.whole c.in-Ok-answer.id given.id.0);
+      grown = grown_more v st l.arena.objects c.answer.new.arena.objects l.invariant.grown given.objects;
+      whole = c.in-Ok-answer.ensures.whole;
+      alists = c.in-Ok-answer.ensures.agree;
+      limit = given.limit ∙ l.invariant.limit;
+    }
+
+pub loop-focus-preserved-in-Value-2 : goal.loop-focus-preserved-in-Value-2
+loop-focus-preserved-in-Value-2 c =
     let l = c.loop-focus in
     let fs = c.args.functions.now in
-    let s = apply_state (goal.at.loop-focus-preserved-in-Value-branch-3 c).In-Apply in
-    let call = subst (λ (xs : List Id). IsKnown fs l.memos (record { function = c.in-Call.f.number; arguments = xs }) (known.Value c.in-Value-2.id)) c.as_slice-else-is_answered.ensures.value (subst (λ (k : Known). IsKnown fs l.memos (record { function = c.in-Call.f.number; arguments = c.as_slice-else-is_answered.result.now }) k) c.in-Value-2.is c.in_ok-id-in-Call.ensures) in
+    let s = apply_state (goal.at.loop-focus-preserved-in-Value-2 c).In-Apply in
+    let call = subst (λ (xs : List Id). IsKnown fs l.memos (record { function = c.in-Call.f.number; arguments = xs }) (known.Value c.in-Value-2.id)) c.as_slice-else-is_answered.ensures (subst (λ (k : Known). IsKnown fs l.memos (record { function = c.in-Call.f.number; arguments = c.as_slice-else-is_answered.result.now }) k) c.in-Value-2.is c.in_ok-id-in-Call.ensures) in
+    record {
+      state = kept_next _ _ _ _ _ _ _ _ _ _ _ _ _ s c.in-Call.f c.in-Call.is c.in-Value-2.id call.0 call.1
+          (whole_narrow l.arena l.invariant.whole c.in-Value-2.id (kept_live _ _ _ _ _ _ _ _ _ _ _ _ _ s c.in-Call.f c.in-Call.is c.in-Value-2.id call.0 call.1));
+      grown = l.invariant.grown;
+      whole = l.invariant.whole;
+      alists = l.invariant.alists;
+      limit = l.invariant.limit;
+    }
+
+pub loop-focus-preserved-in-Value-2-2 : goal.loop-focus-preserved-in-Value-2-2
+loop-focus-preserved-in-Value-2-2 c =
+    let l = c.loop-focus in
+    let fs = c.args.functions.now in
+    let s = apply_state (goal.at.loop-focus-preserved-in-Value-2-2 c).In-Apply in
+    let call = subst (λ (xs : List Id). IsKnown fs l.memos (record { function = c.in-Call.f.number; arguments = xs }) (known.Value c.in-Value-2.id)) c.as_slice-else-is_answered.ensures (subst (λ (k : Known). IsKnown fs l.memos (record { function = c.in-Call.f.number; arguments = c.as_slice-else-is_answered.result.now }) k) c.in-Value-2.is c.in_ok-id-in-Call.ensures) in
     record {
       state = kept_next _ _ _ _ _ _ _ _ _ _ _ _ _ s c.in-Call.f c.in-Call.is c.in-Value-2.id call.0 call.1
           (whole_narrow l.arena l.invariant.whole c.in-Value-2.id (kept_live _ _ _ _ _ _ _ _ _ _ _ _ _ s c.in-Call.f c.in-Call.is c.in-Value-2.id call.0 call.1));
@@ -312,7 +366,7 @@ loop-focus-preserved-in-Opens-1 c =
     let l = c.loop-focus in
     let fs = c.args.functions.now in
     let s = apply_state (goal.at.loop-focus-preserved-in-Opens-1 c).In-Apply in
-    let call = subst (λ (xs : List Id). IsKnown fs l.memos (record { function = c.in-Call.f.number; arguments = xs }) (known.Opens c.in-Opens.keep)) c.as_slice-else-is_answered.ensures.value (subst (λ (k : Known). IsKnown fs l.memos (record { function = c.in-Call.f.number; arguments = c.as_slice-else-is_answered.result.now }) k) c.in-Opens.is c.in_ok-id-in-Call.ensures) in
+    let call = subst (λ (xs : List Id). IsKnown fs l.memos (record { function = c.in-Call.f.number; arguments = xs }) (known.Opens c.in-Opens.keep)) c.as_slice-else-is_answered.ensures (subst (λ (k : Known). IsKnown fs l.memos (record { function = c.in-Call.f.number; arguments = c.as_slice-else-is_answered.result.now }) k) c.in-Opens.is c.in_ok-id-in-Call.ensures) in
     let d = call_definition _ _ _ _ _ _ _ _ _ _ _ _ _ s c.in-Call.f c.in-Call.is in
     record {
       state = opens_known _ _ _ _ _ _ _ _ _ _ _ _ _ s c.in-Call.f c.in-Call.is (sym c.is_answered.ensures ∙ c.if-is_answered.false) l.invariant.whole.ids d.0 d.1 c.in-Opens.keep call c.in_ok-focus-in-Opens.focus c.open.new.frames.items (λ all. c.in_ok-focus-in-Opens.ensures.next all d.0 d.1);

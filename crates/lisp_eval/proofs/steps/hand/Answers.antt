@@ -15,4 +15,4 @@ returns-in-Arguments-clause-next c more =
     let env = env_of objects c.in-Arguments.env.value.items in
     subst (λ (g : Frame). IfOk c.begin.result (λ f. IsNext objects (handed (frame_of objects g) v) c.args.frames.now.items f c.begin.new.frames.items)) (sym c.in-Arguments.is)
     (argument_next objects (work_of env c.in-Arguments.work) c.in-Arguments.done.items c.push.new.self.items c.args.value v (terms_of c.in-Arguments.terms.now) env c.args.frames.now.items c.begin.new.frames.items c.begin.result
-    c.in_ok-push-in-Arguments.ensures.items (stays_at c.args.arena.now.objects more c.args.value c.requires.live) (c.begin.ensures.next objects))
+    c.in_ok-push-in-Arguments.ensures.ok (stays_at c.args.arena.now.objects more c.args.value c.requires.live) (c.begin.ensures.next objects))
