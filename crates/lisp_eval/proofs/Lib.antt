@@ -14,6 +14,7 @@ pub mod Followed
 pub mod Goes
 pub mod Going
 pub mod Grown
+pub mod IntegerGives
 pub mod Law
 pub mod Leads
 pub mod Levels

@@ -9,6 +9,7 @@ pub mod Costs
 pub mod Directs
 pub mod Frames
 pub mod Gives
+pub mod Integers
 pub mod Kept
 pub mod Leads
 pub mod Lending

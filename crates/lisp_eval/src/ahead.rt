@@ -7,6 +7,7 @@ ghost use Rattle.gl_logic.specs.TermOf.{term_of, terms_of};
 ghost use Rattle.hons_arena.specs.Held.{IsWhole};
 ghost use Rattle.hons_arena.specs.Ids.{IsLive};
 ghost use Rattle.lisp_eval.specs.Aheads.{AheadTells, StepTellsIn, MayOpen, BindsFoundIn, EntersLocals, AreLiveLocals};
+ghost use Rattle.lisp_eval.specs.Attempts.{TellsIn};
 ghost use Rattle.lisp_eval.specs.Directs.{IsLiveScope};
 ghost use Rattle.lisp_eval.specs.Outside.{IsLiveValue};
 ghost use Rattle.lisp_eval.specs.States.{env_of};
@@ -15,6 +16,7 @@ use crate::attempt::{Found, Scope, Setting, Stop};
 use crate::calls::{is_answered, is_memoized};
 use crate::direct::{LEVELS, at_once};
 use crate::frame::Binding;
+use crate::integers::integer_in;
 use crate::value::Local;
 use fast_alists::FastAlists;
 use gl_logic::{FnId, Names, Term, World};
@@ -170,6 +172,27 @@ fn goes_into(world: &World, functions: &[u64], f: FnId, terms: &[Term]) -> bool
     count <= FORMALS && count == terms.len() as u64
 }
 
+/// What an argument gives at once: a term over integers is found with no more than its variables.
+#[inline(always)]
+fn argument(
+    setting: &Setting,
+    arena: &mut HonsArena,
+    alists: &mut FastAlists,
+    term: &Term,
+    scope: &Scope,
+    left: u64,
+) -> Result<Found, Stop>
+    requires whole { IsWhole arena.old }
+    requires scope { IsLiveScope arena.old.objects scope.now }
+    requires agree { Agree arena.old.objects alists.old }
+    ensures { TellsIn setting.now scope.now (term_of term.now) left arena.old arena.new alists.new result }
+{
+    match integer_in(term, scope, left) {
+        Some(found) => Ok(found),
+        None => at_once(setting, arena, alists, term, scope, LEVELS, left),
+    }
+}
+
 /// Adds the names from a place on, each with the value of its term; the visits that are left.
 #[cycle(bind_found)]
 fn bind_found(
@@ -194,7 +217,7 @@ fn bind_found(
     match terms {
         [] => Ok(left),
         [term, later @ ..] => {
-            let found = at_once(setting, arena, alists, term, scope, LEVELS, left)?;
+            let found = argument(setting, arena, alists, term, scope, left)?;
             next.push(Local {
                 name: *names.at(i),
                 value: found.value,

@@ -117,7 +117,8 @@ impl<'a> Scope<'a> {
 }
 
 /// The value of a formal, NIL for any other name.
-fn local_value(locals: &[Local], name: TextId) -> Value
+#[inline(always)]
+pub fn local_value(locals: &[Local], name: TextId) -> Value
     ensures { result ≡ local_in locals.now name.number }
 {
     for local in locals {

@@ -26,6 +26,7 @@ mod env;
 mod eval;
 mod fault;
 mod frame;
+mod integers;
 pub mod laws;
 mod machine;
 mod opening;

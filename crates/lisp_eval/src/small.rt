@@ -5,6 +5,7 @@ ghost use Rattle.gl_logic.specs.Bitwise.{and_ℤ, or_ℤ, xor_ℤ};
 ghost use Rattle.gl_logic.specs.Object.{Object, Int, boolean_object};
 ghost use Rattle.gl_logic.specs.PrimValue.{prim_of};
 ghost use Rattle.gl_logic.specs.Quotients.{floor_ℤ, mod_ℤ};
+ghost use Rattle.lisp_eval.specs.Narrow.{IsNarrow};
 ghost use Rattle.lisp_eval.specs.Outside.{value_object, IsLiveValue};
 
 use crate::value::Value;
@@ -52,10 +53,26 @@ fn small_xor(a: i64, b: i64) -> Option<i64>
     if 0 <= a && 0 <= b { Some(a ^ b) } else { None }
 }
 
+/// Whether a primitive of two arguments may give such an integer.
+#[inline(always)]
+pub fn is_small_operation(prim: Prim) -> bool {
+    match prim {
+        Prim::BinaryPlus
+        | Prim::BinaryTimes
+        | Prim::Mod
+        | Prim::Floor
+        | Prim::BinaryLogand
+        | Prim::BinaryLogior
+        | Prim::BinaryLogxor => true,
+        _ => false,
+    }
+}
+
 /// The integer that a primitive of two arguments gives of two integers, where it is found at once and is one of 64 bits.
 #[inline(always)]
-fn small_integer(prim: Prim, a: i64, b: i64) -> Option<i64>
-    ensures { IfSome result (λ i. prim_of prim (Int a) (Int b) ≡ Int i) }
+pub fn small_integer(prim: Prim, a: i64, b: i64) -> Option<i64>
+    ensures value { IfSome result (λ i. prim_of prim (Int a) (Int b) ≡ Int i) }
+    ensures narrow { IfSome result (λ i. IsNarrow (Int i)) }
 {
     match prim {
         Prim::BinaryPlus => a.checked_add(b),
@@ -71,7 +88,7 @@ fn small_integer(prim: Prim, a: i64, b: i64) -> Option<i64>
 
 /// Whether a test of two integers holds, where it is found at once.
 #[inline(always)]
-fn small_test(prim: Prim, a: i64, b: i64) -> Option<bool>
+pub fn small_test(prim: Prim, a: i64, b: i64) -> Option<bool>
     ensures { IfSome result (λ holds. prim_of prim (Int a) (Int b) ≡ boolean_object holds) }
 {
     match prim {
@@ -93,6 +110,27 @@ fn small_binary(prim: Prim, a: i64, b: i64) -> Option<Value>
             Some(holds) => Some(Value::truth(holds)),
             None => None,
         },
+    }
+}
+
+/// Whether a primitive of one argument may give such an integer.
+#[inline(always)]
+pub fn is_opposite(prim: Prim) -> bool {
+    match prim {
+        Prim::UnaryMinus => true,
+        _ => false,
+    }
+}
+
+/// The integer that a primitive of one argument gives of an integer, where it is one of 64 bits.
+#[inline(always)]
+pub fn small_opposite(prim: Prim, a: i64) -> Option<i64>
+    ensures value { IfSome result (λ i. (y : Object) → prim_of prim (Int a) y ≡ Int i) }
+    ensures narrow { IfSome result (λ i. IsNarrow (Int i)) }
+{
+    match prim {
+        Prim::UnaryMinus => a.checked_neg(),
+        _ => None,
     }
 }
 

@@ -20,7 +20,7 @@ returns-in_err-found-in-len1-up-clause-tells t c =
     let same = ap terms_of (first_apart c.args.terms.now c.term-item.result (omega (arith, c.in-len1-up.len_at_least)) c.term-item.is) in
     let e = c.in_err-found-in-len1-up.field-0.0 in
     let is : c.from_residual.result ≡ Err e = search rules in
-    first_stops c.args.setting.now.world.now.definitions c.args.setting.now.functions.now (scope_env c.args.arena.now.objects c.args.scope.now) (terms_of c.args.terms.now) (term_of c.term-item.result) (terms_of later) same c.args.left (drop c.args.i c.args.names.now) c.args.arena.now c.at_once.new.arena c.args.next.now.items
+    first_stops c.args.setting.now.world.now.definitions c.args.setting.now.functions.now (scope_env c.args.arena.now.objects c.args.scope.now) (terms_of c.args.terms.now) (term_of c.term-item.result) (terms_of later) same c.args.left (drop c.args.i c.args.names.now) c.args.arena.now c.argument.new.arena c.args.next.now.items
     e c.args.next.now.items c.from_residual.result is (told c.in_err-found-in-len1-up.ensures)
 
 pub returns-in_err-push-in-len1-up-clause-tells : goal.returns-in_err-push-in-len1-up-clause-tells
@@ -29,8 +29,8 @@ returns-in_err-push-in-len1-up-clause-tells t c =
     let same = ap terms_of (first_apart c.args.terms.now c.term-item.result (omega (arith, c.in-len1-up.len_at_least)) c.term-item.is) in
     let answer = c.from_residual-in_err-push-in-len1-up.result in
     let is : answer ≡ Err stop.Memory = search rules in
-    first_unheld c.args.setting.now.world.now.definitions c.args.setting.now.functions.now (scope_env c.args.arena.now.objects c.args.scope.now) (terms_of c.args.terms.now) (term_of c.term-item.result) (terms_of later) same c.args.left (drop c.args.i c.args.names.now) c.args.arena.now c.at_once.new.arena c.args.next.now.items
-    c.at_once.result c.push.new.self.items answer is (told c.at_once.ensures)
+    first_unheld c.args.setting.now.world.now.definitions c.args.setting.now.functions.now (scope_env c.args.arena.now.objects c.args.scope.now) (terms_of c.args.terms.now) (term_of c.term-item.result) (terms_of later) same c.args.left (drop c.args.i c.args.names.now) c.args.arena.now c.argument.new.arena c.args.next.now.items
+    c.argument.result c.push.new.self.items answer is (told c.argument.ensures)
 
 pub overflow_add-i : goal.overflow_add-i
 overflow_add-i t c = omega (arith, c.requires.count, c.requires.few, c.in-len1-up.len_at_least)
@@ -38,21 +38,21 @@ overflow_add-i t c = omega (arith, c.requires.count, c.requires.few, c.in-len1-u
 pub bind_found-requires : goal.bind_found-requires
 bind_found-requires t c =
     let n = later_length c.args.terms.now (omega (arith, c.in-len1-up.len_at_least)) in
-    let here = scope_grown c.args.arena.now.objects c.at_once.new.arena.objects c.at_once.ensures.adds.grown c.args.scope.now c.requires.scope in
-    (omega (arith, n, c.decreases), (c.at_once.ensures.adds.whole, (here.0, (c.at_once.ensures.agree, (omega (arith, n, c.requires.count), c.requires.few)))))
+    let here = scope_grown c.args.arena.now.objects c.argument.new.arena.objects c.argument.ensures.adds.grown c.args.scope.now c.requires.scope in
+    (omega (arith, n, c.decreases), (c.argument.ensures.adds.whole, (here.0, (c.argument.ensures.agree, (omega (arith, n, c.requires.count), c.requires.few)))))
 
 pub returns-in_ok-push-in-len1-up-clause-tells : goal.returns-in_ok-push-in-len1-up-clause-tells
 returns-in_ok-push-in-len1-up-clause-tells t c =
     let ds = c.args.setting.now.world.now.definitions in
     let fs = c.args.setting.now.functions.now in
     let old = c.args.arena.now in
-    let mid = c.at_once.new.arena in
+    let mid = c.argument.new.arena in
     let new = c.bind_found.new.arena in
     let found = c.in_ok-found-in-len1-up.found in
     let l : Local = record { name = c.at.result.now; value = found.value } in
     let later = take (length c.args.terms.now - 1) (drop 1 c.args.terms.now) in
     let same = ap terms_of (first_apart c.args.terms.now c.term-item.result (omega (arith, c.in-len1-up.len_at_least)) c.term-item.is) in
-    let env_same = (scope_grown old.objects mid.objects c.at_once.ensures.adds.grown c.args.scope.now c.requires.scope).1 in
+    let env_same = (scope_grown old.objects mid.objects c.argument.ensures.adds.grown c.args.scope.now c.requires.scope).1 in
     let rest = subst (λ env. BindsFound ds fs env (drop (c.args.i + 1) c.args.names.now) (terms_of later) found.left mid new c.push.new.self.items c.bind_found.new.next.items c.bind_found.result) env_same c.bind_found.ensures.tells in
     let behind = subst (λ (ls : List Local). BindsFound ds fs (scope_env old.objects c.args.scope.now) (drop (c.args.i + 1) c.args.names.now) (terms_of later) found.left mid new ls c.bind_found.new.next.items c.bind_found.result) c.in_ok-push-in-len1-up.ensures.items rest in
     later_bound ds fs (scope_env old.objects c.args.scope.now) (terms_of c.args.terms.now) (term_of c.term-item.result) (terms_of later) same c.args.left (drop c.args.i c.args.names.now) old mid c.args.next.now.items

@@ -1,0 +1,144 @@
+//! Terms over integers of 64 bits alone, which need no arena.
+
+ghost use Rattle.std.specs.Prelude.{◌≡◌, List, IfSome};
+ghost use Rattle.gl_logic.specs.Environment.{look};
+ghost use Rattle.gl_logic.specs.Object.{Object, Int};
+ghost use Rattle.gl_logic.specs.TermOf.{term_of};
+ghost use Rattle.lisp_eval.specs.Attempts.{unary_term, binary_term};
+ghost use Rattle.lisp_eval.specs.Integers.{GivesInteger, IsFoundAnywhere};
+ghost use Rattle.lisp_eval.specs.Narrow.{IsNarrow};
+ghost use Rattle.lisp_eval.specs.Outside.{locals_of};
+
+use crate::attempt::{Found, Scope, local_value};
+use crate::direct::LEVELS;
+use crate::small::{is_opposite, is_small_operation, small_integer, small_opposite};
+use crate::value::{Local, Value};
+use gl_logic::{Prim, Term, TextId, Tree, TreeKind};
+
+/// What a term over integers gives on the variables of a scope, where they are locals; nothing for any other term or scope.
+#[inline(always)]
+pub fn integer_in(term: &Term, scope: &Scope, left: u64) -> Option<Found>
+    ensures { IfSome result (IsFoundAnywhere scope.now (term_of term.now) left) }
+{
+    match scope {
+        Scope::Inner(locals) => {
+            let mut rest = left;
+            let i = integer_at_once(term, locals, LEVELS, &mut rest)?;
+            Some(Found {
+                value: Value::Int(i),
+                left: rest,
+            })
+        }
+        Scope::Outer(_) => None,
+    }
+}
+
+/// The integer that a term gives at once, where its variables, its constants and each value on the way are integers of 64
+/// bits; as many visits less are left then. Nothing for any other term, for more levels, and where too few visits are left.
+#[cycle(integer_at_once)]
+#[inline(always)]
+pub fn integer_at_once(term: &Term, locals: &[Local], levels: u64, left: &mut u64) -> Option<i64>
+    ensures { IfSome result (GivesInteger locals.now (term_of term.now) left.old left.new) }
+{
+    match term {
+        Term::Var(name) => {
+            if *left == 0 {
+                return None;
+            }
+            *left -= 1;
+            local_integer(locals, *name)
+        }
+        Term::Const(tree) => {
+            if *left == 0 {
+                return None;
+            }
+            *left -= 1;
+            small_constant(tree)
+        }
+        _ => operation(term, locals, levels, left),
+    }
+}
+
+/// What a primitive gives; nothing for any other term.
+#[cycle(integer_at_once)]
+#[inline(never)]
+fn operation(term: &Term, locals: &[Local], levels: u64, left: &mut u64) -> Option<i64>
+    ensures { IfSome result (GivesInteger locals.now (term_of term.now) left.old left.new) }
+{
+    match term {
+        Term::Prim(prim, terms) => {
+            let terms = terms.as_slice();
+            if terms.len() == 1 {
+                unary(*prim, &terms[0], locals, levels, left)
+            } else if terms.len() == 2 {
+                binary(*prim, &terms[0], &terms[1], locals, levels, left)
+            } else {
+                None
+            }
+        }
+        _ => None,
+    }
+}
+
+/// What a primitive of one argument gives.
+#[cycle(integer_at_once)]
+#[inline(always)]
+fn unary(prim: Prim, term: &Term, locals: &[Local], levels: u64, left: &mut u64) -> Option<i64>
+    ensures { IfSome result (GivesInteger locals.now (unary_term prim (term_of term.now)) left.old left.new) }
+{
+    if levels == 0 || *left == 0 || !is_opposite(prim) {
+        return None;
+    }
+    *left -= 1;
+    let a = integer_at_once(term, locals, levels - 1, left)?;
+    small_opposite(prim, a)
+}
+
+/// What a primitive of two arguments gives.
+#[cycle(integer_at_once)]
+#[inline(always)]
+fn binary(
+    prim: Prim,
+    first: &Term,
+    second: &Term,
+    locals: &[Local],
+    levels: u64,
+    left: &mut u64,
+) -> Option<i64>
+    ensures { IfSome result (GivesInteger locals.now (binary_term prim (term_of first.now) (term_of second.now)) left.old left.new) }
+{
+    if levels == 0 || *left == 0 || !is_small_operation(prim) {
+        return None;
+    }
+    *left -= 1;
+    let a = integer_at_once(first, locals, levels - 1, left)?;
+    let b = integer_at_once(second, locals, levels - 1, left)?;
+    small_integer(prim, a, b)
+}
+
+/// A constant that is an integer of 64 bits; nothing for any other.
+#[inline(always)]
+fn small_constant(tree: &Tree) -> Option<i64>
+    ensures value { IfSome result (λ i. tree.now ≡ Int i) }
+    ensures narrow { IfSome result (λ i. IsNarrow (Int i)) }
+{
+    match tree.kind() {
+        TreeKind::Int(i) => match i64::try_from(i) {
+            Ok(small) => Some(small),
+            Err(_) => None,
+        },
+        _ => None,
+    }
+}
+
+/// The integer that a local is; nothing where it is none, and for any other name.
+#[inline(always)]
+fn local_integer(locals: &[Local], name: TextId) -> Option<i64>
+    ensures value { IfSome result (λ i. (objects : List Object) → look (locals_of objects locals.now) name.number ≡ Int i) }
+    ensures narrow { IfSome result (λ i. IsNarrow (Int i)) }
+{
+    match local_value(locals, name) {
+        Value::Int(i) => Some(i),
+        _ => None,
+    }
+}
