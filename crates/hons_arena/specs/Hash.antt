@@ -1,29 +1,48 @@
 -- Where the walk for a cell begins: a number made of the cell's own words.
-use Rattle.std.specs.Prelude.{ℕ, ◌+◌, ◌*◌, ◌/◌, ◌%◌, ◌^◌, bit_xor}
+use Rattle.std.specs.Prelude.{ℕ, ◌+◌, ◌-◌, ◌*◌, ◌/◌, ◌%◌, ◌^◌, min, bit_xor}
 use Rattle.std.specs.Int.{w128, cast_unsigned}
 use Rattle.hons_arena.specs.declared.cell.Cell.{Cell}
 use Rattle.hons_arena.specs.declared.cell.Cell.TheVariants as cell
 use Rattle.hons_arena.specs.declared.id.IdKind.{IdKind}
 use Rattle.hons_arena.specs.declared.id.IdKind.TheVariants as kind
 
--- a word mixed into a hash, as the finalizer of splitmix64 does
+-- a word mixed into a hash, by the two products of splitmix64
 unfoldable pub mixed : ℕ → ℕ → ℕ
 mixed h w =
-    let whole = bit_xor h w in
-    let first = bit_xor whole (whole / 2 ^ 30) * 0xbf58476d1ce4e5b9 % 2 ^ 64 in
-    let second = bit_xor first (first / 2 ^ 27) * 0x94d049bb133111eb % 2 ^ 64 in
-    bit_xor second (second / 2 ^ 31)
+    let first = bit_xor h w * 0xbf58476d1ce4e5b9 % 2 ^ 64 in
+    let second = bit_xor first (first / 2 ^ 32) * 0x94d049bb133111eb % 2 ^ 64 in
+    bit_xor second (second / 2 ^ 32)
+
+abbrev pub factor : ℕ
+factor = 0x9e3779b97f4a7c15
 
 abbrev pub tag_of : IdKind → ℕ
-tag_of kind.Symbol = 0x9e3779b97f4a7c15
+tag_of kind.Symbol = factor
 tag_of kind.Text = 0xd1b54a32d192ed03
 tag_of kind.Cell = 0x8cb92ba72f3d8dd7
 
-unfoldable pub hash_of : Cell → ℕ
-hash_of (cell.Int z) = mixed (mixed 1 (cast_unsigned w128 z % 2 ^ 64)) (cast_unsigned w128 z / 2 ^ 64)
-hash_of (cell.Character n) = mixed 2 n
-hash_of (cell.Cons s t m n) = mixed ((mixed (tag_of s) m + tag_of t) % 2 ^ 64) n
+-- the difference of two words, one less, times a factor
+unfoldable pub apart : ℕ → ℕ → ℕ → ℕ
+apart m n k = (m + (0xffffffffffffffff - n)) % 2 ^ 64 * k % 2 ^ 64
 
--- the hash's share of so many slots
+-- a word's last four bits, each turned or not by the hash of its other bits behind a half
+abbrev pub lined : ℕ → ℕ → ℕ
+lined half w = bit_xor (mixed half (w / 16)) (w % 16)
+
+-- of a cons: by the first part where the second is a symbol or string, else by the second behind the parts' difference
+unfoldable pub hash_of_parts : IdKind → IdKind → ℕ → ℕ → ℕ
+hash_of_parts s kind.Symbol m n = lined ((n * tag_of s % 2 ^ 64 + tag_of kind.Symbol) % 2 ^ 64) m
+hash_of_parts s kind.Text m n = lined ((n * tag_of s % 2 ^ 64 + tag_of kind.Text) % 2 ^ 64) m
+hash_of_parts s kind.Cell m n = lined ((apart m n (tag_of s) + tag_of kind.Cell) % 2 ^ 64) n
+
+-- of an integer: its last three bits, in every second place
+unfoldable pub hash_of : Cell → ℕ
+hash_of (cell.Int z) =
+    let low = cast_unsigned w128 z % 2 ^ 64 in
+    bit_xor (mixed (cast_unsigned w128 z / 2 ^ 64 * factor % 2 ^ 64) (low / 8)) (low % 8 * 2)
+hash_of (cell.Character n) = mixed factor n
+hash_of (cell.Cons s t m n) = hash_of_parts s t m n
+
+-- the hash's share of so many slots, in whole blocks of sixteen, and its last four bits in the block
 abbrev pub home_of : ℕ → Cell → ℕ
-home_of m c = hash_of c * m / 2 ^ 64
+home_of m c = min (hash_of c * (m / 16) / 2 ^ 64 * 16 + hash_of c % 16) (m - 1)
