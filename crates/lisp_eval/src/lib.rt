@@ -4,7 +4,7 @@
 //! runs on a stack of frames of its own, so that no depth of definitions is too great for it. Each value is the id of an
 //! object in its arena. What needs no frame takes none: small terms are evaluated at once, and an evaluation goes on past
 //! each test, and into the body of each call, whose parts are found so; integers of 64 bits on the way take no cells. Where
-//! frames are needed, a visit to a variable, a constant or a primitive takes no memory, but that the stack of frames grows
+//! frames are needed, a visit to a variable, a constant, an `if` or a primitive takes no memory, but that their stack grows
 //! to twice its room where it is full.
 //!
 //! The machine counts a visit to a subterm when it makes it, and opens a call of a memoized function once for the same
