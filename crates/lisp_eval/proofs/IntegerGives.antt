@@ -1,15 +1,15 @@
 -- What terms over integers give, from what their parts give.
-use Rattle.std.proofs.Common.{◌≡◌, ◌∙◌, ap, sym, refl, subst, ℕ, ◌+◌, ◌-◌, ◌<◌, ℤ, List, [], ◌∷◌, Option, None, Some, Ok, IfSome, arith}
+use Rattle.std.proofs.Common.{◌≡◌, ◌∙◌, ap, sym, subst, ℕ, ◌+◌, ◌-◌, ℤ, List, [], ◌∷◌, Option, None, Some, Ok, IfSome, arith}
 use Rattle.gl_logic.specs.Definition.{Definition}
 use Rattle.gl_logic.specs.Environment.{look}
-use Rattle.gl_logic.specs.Exp.{Exp, Exps, Var, Const, Prim, Last, More}
+use Rattle.gl_logic.specs.Exp.{Exp, Var, Const, Prim, Last, More}
 use Rattle.gl_logic.specs.Object.{Object, Int, nil}
 use Rattle.gl_logic.specs.PrimValue.{prim_of}
 use Rattle.fast_alists.specs.Tables.{Agree}
 use Rattle.hons_arena.specs.Held.{Held, IsWhole}
 use Rattle.lisp_eval.specs.Attempts.{Alists, Tells, unary_term, binary_term}
-use Rattle.lisp_eval.specs.Directs.{GivesAtOnce, GiveAtOnce, scope_env}
-use Rattle.lisp_eval.specs.Integers.{GivesInteger, IsFoundAnywhere}
+use Rattle.lisp_eval.specs.Directs.{GivesAtOnce, GiveAtOnce, IsFound, scope_env}
+use Rattle.lisp_eval.specs.Integers.{GivesInteger, IsFoundAnywhere, IsFoundOn}
 use Rattle.lisp_eval.specs.Narrow.{IsNarrow}
 use Rattle.lisp_eval.specs.Outside.{locals_of}
 use Rattle.lisp_eval.specs.Sights.{Sees}
@@ -95,5 +95,9 @@ integer_found s locals e t left rest i x same g ds fs objects = record {
 }
 
 -- nothing is added then
-pub anywhere_tells : (ds : List Definition) (fs : List ℕ) (s : Scope) (t : Exp) (left : ℕ) (held : Held) (tables : Alists) (f : Found) → IsWhole held → Agree held.objects tables → IsFoundAnywhere s t left f → Tells ds fs (scope_env held.objects s) t left held held tables (Ok f)
-anywhere_tells ds fs s t left held tables f whole agree h = tells_found ds fs (scope_env held.objects s) t left held held tables f (adds_none (Sees ds fs (scope_env held.objects s) t) held whole) agree (h ds fs held.objects)
+pub here_tells : (ds : List Definition) (fs : List ℕ) (s : Scope) (t : Exp) (left : ℕ) (held : Held) (tables : Alists) (f : Found) → IsWhole held → Agree held.objects tables → IsFound ds fs held.objects (scope_env held.objects s) t left f → Tells ds fs (scope_env held.objects s) t left held held tables (Ok f)
+here_tells ds fs s t left held tables f whole agree h = tells_found ds fs (scope_env held.objects s) t left held held tables f (adds_none (Sees ds fs (scope_env held.objects s) t) held whole) agree h
+
+-- on a scope of locals
+pub found_on : (ds : List Definition) (fs : List ℕ) (s : Scope) (locals : _) → s ≡ scope.Inner locals → (t : Exp) (left : ℕ) (f : Found) → IsFoundOn ds fs locals.now t left f → (objects : List Object) → IsFound ds fs objects (scope_env objects s) t left f
+found_on ds fs s locals e t left f h objects = subst (λ (z : Scope). IsFound ds fs objects (scope_env objects z) t left f) (sym e) (h objects)

@@ -45,4 +45,5 @@ pub mod Within
 pub mod Worked
 pub mod Placed
 pub mod ZeroGives
+pub mod ZeroOver
 pub mod ZeroTells

@@ -20,3 +20,7 @@ pub record GivesInteger (locals : List Local) (t : Exp) (before after : ℕ) (i 
 -- in any world, and whatever the objects of an arena are
 abbrev pub IsFoundAnywhere : Scope → Exp → ℕ → Found → Type 0
 IsFoundAnywhere scope t left f = (definitions : List Definition) (functions : List ℕ) (objects : List Object) → IsFound definitions functions objects (scope_env objects scope) t left f
+
+-- in this world, whatever the objects of an arena are
+abbrev pub IsFoundOn : List Definition → List ℕ → List Local → Exp → ℕ → Found → Type 0
+IsFoundOn definitions functions locals t left f = (objects : List Object) → IsFound definitions functions objects (locals_of objects locals) t left f

@@ -16,7 +16,7 @@ use crate::attempt::{Found, Scope, Setting, Stop};
 use crate::calls::{is_answered, is_memoized};
 use crate::direct::{LEVELS, at_once};
 use crate::frame::Binding;
-use crate::integers::integer_in;
+use crate::integers::{integer_in, zp_on};
 use crate::value::Local;
 use fast_alists::FastAlists;
 use gl_logic::{FnId, Names, Term, World};
@@ -130,7 +130,7 @@ fn take_step<'a>(
     }
     match term {
         Term::If(test, then, otherwise) => {
-            let found = at_once(setting, arena, alists, test, scope, LEVELS, left - 1)?;
+            let found = test_value(setting, arena, alists, test, scope, left - 1)?;
             if found.value.is_nil(arena) {
                 Ok(Step::Stays(otherwise, found.left))
             } else {
@@ -191,6 +191,29 @@ fn argument(
         Some(found) => Ok(found),
         None => at_once(setting, arena, alists, term, scope, LEVELS, left),
     }
+}
+
+/// What a test gives at once: a call of `zp` on a term over integers is found with no more than its variables.
+#[inline(always)]
+fn test_value(
+    setting: &Setting,
+    arena: &mut HonsArena,
+    alists: &mut FastAlists,
+    term: &Term,
+    scope: &Scope,
+    left: u64,
+) -> Result<Found, Stop>
+    requires whole { IsWhole arena.old }
+    requires scope { IsLiveScope arena.old.objects scope.now }
+    requires agree { Agree arena.old.objects alists.old }
+    ensures { TellsIn setting.now scope.now (term_of term.now) left arena.old arena.new alists.new result }
+{
+    if let Scope::Inner(locals) = scope {
+        if let Some(found) = zp_on(setting.world, setting.functions, term, locals, left) {
+            return Ok(found);
+        }
+    }
+    at_once(setting, arena, alists, term, scope, LEVELS, left)
 }
 
 /// Adds the names from a place on, each with the value of its term; the visits that are left.

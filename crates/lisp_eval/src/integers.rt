@@ -5,7 +5,7 @@ ghost use Rattle.gl_logic.specs.Environment.{look};
 ghost use Rattle.gl_logic.specs.Object.{Object, Int};
 ghost use Rattle.gl_logic.specs.TermOf.{term_of};
 ghost use Rattle.lisp_eval.specs.Attempts.{unary_term, binary_term};
-ghost use Rattle.lisp_eval.specs.Integers.{GivesInteger, IsFoundAnywhere};
+ghost use Rattle.lisp_eval.specs.Integers.{GivesInteger, IsFoundAnywhere, IsFoundOn};
 ghost use Rattle.lisp_eval.specs.Narrow.{IsNarrow};
 ghost use Rattle.lisp_eval.specs.Outside.{locals_of};
 
@@ -13,7 +13,8 @@ use crate::attempt::{Found, Scope, local_value};
 use crate::direct::LEVELS;
 use crate::small::{is_opposite, is_small_operation, small_integer, small_opposite};
 use crate::value::{Local, Value};
-use gl_logic::{Prim, Term, TextId, Tree, TreeKind};
+use crate::zero::{ON_INTEGERS, is_zero, is_zp};
+use gl_logic::{Prim, Term, TextId, Tree, TreeKind, World};
 
 /// What a term over integers gives on the variables of a scope, where they are locals; nothing for any other term or scope.
 #[inline(always)]
@@ -30,6 +31,37 @@ pub fn integer_in(term: &Term, scope: &Scope, left: u64) -> Option<Found>
             })
         }
         Scope::Outer(_) => None,
+    }
+}
+
+/// What a call of `zp` on a term over integers gives on locals; nothing for any other term.
+#[inline(always)]
+pub fn zp_on(
+    world: &World,
+    functions: &[u64],
+    term: &Term,
+    locals: &[Local],
+    left: u64,
+) -> Option<Found>
+    ensures { IfSome result (IsFoundOn world.now.definitions functions.now locals.now (term_of term.now) left) }
+{
+    match term {
+        Term::Call(f, terms) => {
+            let terms = terms.as_slice();
+            if left == 0 || terms.len() != 1 || !is_zp(world, functions, *f) {
+                return None;
+            }
+            let mut rest = left - 1;
+            let i = integer_at_once(&terms[0], locals, LEVELS, &mut rest)?;
+            if rest < ON_INTEGERS {
+                return None;
+            }
+            Some(Found {
+                value: Value::truth(is_zero(i)),
+                left: rest - ON_INTEGERS,
+            })
+        }
+        _ => None,
     }
 }
 

@@ -3,9 +3,9 @@
 //! A [`Machine`] begins with a world and the functions whose finished calls it keeps, takes inputs, and evaluates terms. It
 //! runs on a stack of frames of its own, so that no depth of definitions is too great for it. Each value is the id of an
 //! object in its arena. What needs no frame takes none: small terms are evaluated at once, and an evaluation goes on past
-//! each test, and into the body of each call, whose parts are found so; integers of 64 bits on the way take no cells. Where
-//! frames are needed, a visit to a variable, a constant, an `if` or a primitive takes no memory, but that their stack grows
-//! to twice its room where it is full.
+//! each test, and into the body of each call, whose parts are found so; integers of 64 bits on the way take no cells, and a
+//! term over them alone is found with no more than its variables. Where frames are needed, a visit to a variable, a constant,
+//! an `if` or a primitive takes no memory, but that their stack grows to twice its room where it is full.
 //!
 //! The machine counts a visit to a subterm when it makes it, and opens a call of a memoized function once for the same
 //! arguments. Its refusals tell the truth: Steps only where the memoized cost exceeds the limit, Cells only where the cells

@@ -1,6 +1,7 @@
 //! `zp`, whose value and visits are known without a walk of its body.
 
 ghost use Rattle.std.specs.Prelude.{◌≡◌, IsTrue};
+ghost use Rattle.gl_logic.specs.Object.{Int};
 ghost use Rattle.lisp_eval.specs.Outside.{value_object, IsLiveValue};
 ghost use Rattle.lisp_eval.specs.Zero.{IsZp, zp_holds, zp_visits};
 
@@ -13,7 +14,7 @@ use hons_arena::{HonsArena, Kind};
 const ZP: u64 = 7;
 
 /// The visits to the body of `zp` on an integer.
-const ON_INTEGERS: u64 = 7;
+pub const ON_INTEGERS: u64 = 7;
 
 /// The visits to the body of `zp` on any other object.
 const ON_OTHERS: u64 = 4;
@@ -57,4 +58,12 @@ pub fn zero_test(arena: &HonsArena, x: Value) -> ZeroTest
             visits: ON_OTHERS,
         },
     }
+}
+
+/// Whether `zp` gives T of an integer of 64 bits.
+#[inline(always)]
+pub fn is_zero(i: i64) -> bool
+    ensures { result ≡ zp_holds (Int i) }
+{
+    i <= 0
 }

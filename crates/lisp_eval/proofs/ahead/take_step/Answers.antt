@@ -18,8 +18,8 @@ returns-in_err-found-in-If-clause-tells c =
     let e = c.in_err-found-in-If.field-0.0 in
     let here : c.deref.result.now ≡ i.test.value = search rules in
     let is : c.from_residual.result ≡ Err e = search rules in
-    test_stops ds fs env (term_of c.args.term.now) (term_of i.test.value) (term_of i.then.value) (term_of i.otherwise.value) (ap term_of i.is ∙ if_term i.test i.then i.otherwise) c.args.left old c.at_once.new.arena c.args.next.now.items
-    e c.from_residual.result is (subst (λ (u : Term). Told ds fs env (term_of u) (c.args.left - 1) old c.at_once.new.arena (Err e)) here (told c.in_err-found-in-If.ensures))
+    test_stops ds fs env (term_of c.args.term.now) (term_of i.test.value) (term_of i.then.value) (term_of i.otherwise.value) (ap term_of i.is ∙ if_term i.test i.then i.otherwise) c.args.left old c.test_value.new.arena c.args.next.now.items
+    e c.from_residual.result is (subst (λ (u : Term). Told ds fs env (term_of u) (c.args.left - 1) old c.test_value.new.arena (Err e)) here (told c.in_err-found-in-If.ensures))
 
 pub returns-then-is_nil-clause-tells : goal.returns-then-is_nil-clause-tells
 returns-then-is_nil-clause-tells c =
@@ -31,8 +31,8 @@ returns-then-is_nil-clause-tells c =
     let f = c.in_ok-found-in-If.found in
     let here : c.deref.result.now ≡ i.test.value = search rules in
     let part : c.deref-then-is_nil.result.now ≡ i.otherwise.value = search rules in
-    test_goes ds fs env (term_of c.args.term.now) (term_of i.test.value) (term_of i.then.value) (term_of i.otherwise.value) (ap term_of i.is ∙ if_term i.test i.then i.otherwise) c.args.left old c.at_once.new.arena c.args.next.now.items
-    f true c.deref-then-is_nil.result (subst (λ (u : Term). Told ds fs env (term_of u) (c.args.left - 1) old c.at_once.new.arena (Ok f)) here (told c.in_ok-found-in-If.ensures)) (sym c.is_nil.ensures ∙ c.if-is_nil.true) (ap term_of part)
+    test_goes ds fs env (term_of c.args.term.now) (term_of i.test.value) (term_of i.then.value) (term_of i.otherwise.value) (ap term_of i.is ∙ if_term i.test i.then i.otherwise) c.args.left old c.test_value.new.arena c.args.next.now.items
+    f true c.deref-then-is_nil.result (subst (λ (u : Term). Told ds fs env (term_of u) (c.args.left - 1) old c.test_value.new.arena (Ok f)) here (told c.in_ok-found-in-If.ensures)) (sym c.is_nil.ensures ∙ c.if-is_nil.true) (ap term_of part)
 
 pub returns-else-is_nil-clause-tells : goal.returns-else-is_nil-clause-tells
 returns-else-is_nil-clause-tells c =
@@ -44,8 +44,8 @@ returns-else-is_nil-clause-tells c =
     let f = c.in_ok-found-in-If.found in
     let here : c.deref.result.now ≡ i.test.value = search rules in
     let part : c.deref-else-is_nil.result.now ≡ i.then.value = search rules in
-    test_goes ds fs env (term_of c.args.term.now) (term_of i.test.value) (term_of i.then.value) (term_of i.otherwise.value) (ap term_of i.is ∙ if_term i.test i.then i.otherwise) c.args.left old c.at_once.new.arena c.args.next.now.items
-    f false c.deref-else-is_nil.result (subst (λ (u : Term). Told ds fs env (term_of u) (c.args.left - 1) old c.at_once.new.arena (Ok f)) here (told c.in_ok-found-in-If.ensures)) (sym c.is_nil.ensures ∙ c.if-is_nil.false) (ap term_of part)
+    test_goes ds fs env (term_of c.args.term.now) (term_of i.test.value) (term_of i.then.value) (term_of i.otherwise.value) (ap term_of i.is ∙ if_term i.test i.then i.otherwise) c.args.left old c.test_value.new.arena c.args.next.now.items
+    f false c.deref-else-is_nil.result (subst (λ (u : Term). Told ds fs env (term_of u) (c.args.left - 1) old c.test_value.new.arena (Ok f)) here (told c.in_ok-found-in-If.ensures)) (sym c.is_nil.ensures ∙ c.if-is_nil.false) (ap term_of part)
 
 pub bind_found-requires-clause-count : goal.bind_found-requires-clause-count
 bind_found-requires-clause-count c =
