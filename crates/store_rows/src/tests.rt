@@ -3,5 +3,6 @@
 mod clauses;
 mod diagrams;
 mod edge_lists;
+mod gates;
 mod graphs;
 mod searches;

@@ -4,10 +4,9 @@
 use bdd_store::Bdd;
 use bdd_store::node::{FALSE, TRUE};
 use bfr_store::{Bits, Decision, Edge, exclusive_or, or};
-use gl_logic::{Assignment, NoMemory};
-use std::alloc::{AllocError, Global};
+use gl_logic::Assignment;
+use std::alloc::Global;
 use std::process::Abort;
-use std::test::Fail;
 
 fn variable(rt: &impl Abort, store: &mut Bdd, k: u32) -> Edge {
     assert!(rt; k < 1024);
@@ -15,8 +14,7 @@ fn variable(rt: &impl Abort, store: &mut Bdd, k: u32) -> Edge {
 }
 
 fn conjunction(rt: &impl Abort, store: &mut Bdd, x: Edge, y: Edge) -> Edge {
-    assert!(rt; store.is_live(x));
-    assert!(rt; store.is_live(y));
+    assert!(rt; store.is_live(x) && store.is_live(y));
     store.and(x, y).expect(rt, "no room for a conjunction")
 }
 
@@ -26,21 +24,17 @@ fn complement(rt: &impl Abort, store: &Bdd, x: Edge) -> Edge {
 }
 
 fn disjunction(rt: &impl Abort, store: &mut Bdd, x: Edge, y: Edge) -> Edge {
-    assert!(rt; store.is_live(x));
-    assert!(rt; store.is_live(y));
+    assert!(rt; store.is_live(x) && store.is_live(y));
     or(store, x, y).expect(rt, "no room for a disjunction")
 }
 
 fn difference(rt: &impl Abort, store: &mut Bdd, x: Edge, y: Edge) -> Edge {
-    assert!(rt; store.is_live(x));
-    assert!(rt; store.is_live(y));
+    assert!(rt; store.is_live(x) && store.is_live(y));
     exclusive_or(store, x, y).expect(rt, "no room for an exclusive or")
 }
 
 fn choice(rt: &impl Abort, store: &mut Bdd, t: Edge, x: Edge, y: Edge) -> Edge {
-    assert!(rt; store.is_live(t));
-    assert!(rt; store.is_live(x));
-    assert!(rt; store.is_live(y));
+    assert!(rt; store.is_live(t) && store.is_live(x) && store.is_live(y));
     store.ite(t, x, y).expect(rt, "no room for a choice")
 }
 
@@ -64,39 +58,27 @@ fn borrow_of(rt: &impl Abort, store: &mut Bdd, x: Edge, y: Edge, borrow: Edge) -
 }
 
 /// What is decided of an edge. An assignment that is found makes it true.
-fn decision(
-    rt: &impl Abort,
-    alloc: Global,
-    store: &mut Bdd,
-    e: Edge,
-) -> Result<Decision, NoMemory> {
+fn decision(rt: &impl Abort, alloc: Global, store: &mut Bdd, e: Edge) -> Decision {
     assert!(rt; store.is_live(e));
-    let mut out = Assignment::new(alloc, store.width())?;
-    let found = store.decide(e, &mut out)?;
+    let mut out = Assignment::new(alloc, store.width()).expect(rt, "no memory");
+    let found = store.decide(e, &mut out).expect(rt, "no memory");
     assert!(rt; found != Decision::Sometimes || store.value(e, &out));
-    Ok(found)
+    found
 }
 
 /// Whether the edge is false where all variables are, and true where variable `k` alone is true.
-fn follows_variable(
-    rt: &impl Abort,
-    alloc: Global,
-    store: &mut Bdd,
-    e: Edge,
-    k: u32,
-) -> Result<bool, NoMemory> {
-    assert!(rt; store.is_live(e));
+fn follows_variable(rt: &impl Abort, alloc: Global, store: &mut Bdd, e: Edge, k: u32) -> bool {
     let width = store.width();
-    assert!(rt; k < width);
-    let mut a = Assignment::new(alloc, width)?;
+    assert!(rt; store.is_live(e) && k < width);
+    let mut a = Assignment::new(alloc, width).expect(rt, "no memory");
     let without = store.value(e, &a);
     a.set(k, true);
-    Ok(!without && store.value(e, &a))
+    !without && store.value(e, &a)
 }
 
 #[test]
-fn conjunctions_in_two_orders(rt: HostRuntime) -> Result<(), Fail> {
-    let mut store = Bdd::new(rt.alloc(), 1000)?;
+fn conjunctions_in_two_orders(rt: HostRuntime) {
+    let mut store = Bdd::new(rt.alloc(), 1000).expect(&rt, "no memory");
     let x = variable(&rt, &mut store, 0);
     let y = variable(&rt, &mut store, 1);
     let again = variable(&rt, &mut store, 0);
@@ -104,23 +86,21 @@ fn conjunctions_in_two_orders(rt: HostRuntime) -> Result<(), Fail> {
     let one_way = conjunction(&rt, &mut store, x, y);
     let other_way = conjunction(&rt, &mut store, y, x);
     assert!(rt; one_way == other_way);
-    Ok(())
 }
 
 #[test]
-fn decisions(rt: HostRuntime) -> Result<(), Fail> {
-    let mut store = Bdd::new(rt.alloc(), 1000)?;
+fn decisions(rt: HostRuntime) {
+    let mut store = Bdd::new(rt.alloc(), 1000).expect(&rt, "no memory");
     let x = variable(&rt, &mut store, 0);
     let y = variable(&rt, &mut store, 1);
     let not_x = complement(&rt, &store, x);
     let never = conjunction(&rt, &mut store, x, not_x);
     assert!(rt; never == store.constant(false));
-    assert!(rt; decision(&rt, rt.alloc(), &mut store, never)? == Decision::Never);
+    assert!(rt; decision(&rt, rt.alloc(), &mut store, never) == Decision::Never);
     let not_y = complement(&rt, &store, y);
     let sometimes = conjunction(&rt, &mut store, x, not_y);
-    assert!(rt; decision(&rt, rt.alloc(), &mut store, sometimes)? == Decision::Sometimes);
-    assert!(rt; follows_variable(&rt, rt.alloc(), &mut store, sometimes, 0)?);
-    Ok(())
+    assert!(rt; decision(&rt, rt.alloc(), &mut store, sometimes) == Decision::Sometimes);
+    assert!(rt; follows_variable(&rt, rt.alloc(), &mut store, sometimes, 0));
 }
 
 /// Whether a truth table is true at a place.
@@ -173,8 +153,8 @@ fn by_places(rt: &impl Abort, store: &mut Bdd, table: u32) -> Edge {
 }
 
 #[test]
-fn functions_of_three_variables(rt: HostRuntime) -> Result<(), Fail> {
-    let mut store = Bdd::new(rt.alloc(), 1000)?;
+fn functions_of_three_variables(rt: HostRuntime) {
+    let mut store = Bdd::new(rt.alloc(), 1000).expect(&rt, "no memory");
     for table in 0..256u32 {
         let one_way = by_choices(&rt, &mut store, table);
         let other_way = by_places(&rt, &mut store, table);
@@ -182,7 +162,6 @@ fn functions_of_three_variables(rt: HostRuntime) -> Result<(), Fail> {
     }
     // Of the 256 functions each node stands for two, one a complement, and the constant's node for two more.
     assert!(rt; store.count() == 127);
-    Ok(())
 }
 
 /// Whether `x + y` is `z`, in words of `bits` bits whose variables alternate with the most significant first: by the sum,
@@ -212,14 +191,15 @@ fn equalities(rt: &impl Abort, store: &mut Bdd, bits: u32) -> (Edge, Edge) {
 }
 
 #[test]
-fn adders(rt: HostRuntime) -> Result<(), Fail> {
+fn adders(rt: HostRuntime) {
     for (bits, most) in [(16, 16_000), (64, 20_000)] {
-        let mut store = Bdd::new(rt.alloc(), 1_000_000)?;
+        let mut store = Bdd::new(rt.alloc(), 1_000_000).expect(&rt, "no memory");
         let (by_sum, by_difference) = equalities(&rt, &mut store, bits);
-        assert_eq!(rt; by_sum, by_difference);
-        assert!(rt; store.count() < most);
+        assert!(rt;
+            by_sum == by_difference && store.count() < most,
+            "{bits} bits"
+        );
     }
-    Ok(())
 }
 
 /// The edge at this place of a word, or the constant false past its end.
@@ -228,20 +208,37 @@ fn bit(word: &Vec<Edge>, i: usize) -> Edge {
 }
 
 /// The sum of two words, as long as the first.
-fn add(
+fn add(rt: &impl Abort, alloc: Global, store: &mut Bdd, x: &Vec<Edge>, y: &Vec<Edge>) -> Vec<Edge> {
+    let mut sum = Vec::new(alloc);
+    let mut carry = FALSE;
+    for i in 0..x.len() {
+        let (first, second) = (bit(x, i), bit(y, i));
+        let digit = sum_of(rt, store, first, second, carry);
+        sum.push(digit).expect(rt, "no memory");
+        carry = carry_of(rt, store, first, second, carry);
+    }
+    sum
+}
+
+/// The row of sixteen bits that bit `i` of the first word selects.
+fn row(
     rt: &impl Abort,
     alloc: Global,
     store: &mut Bdd,
     x: &Vec<Edge>,
     y: &Vec<Edge>,
-) -> Result<Vec<Edge>, AllocError> {
-    let mut sum = Vec::new(alloc);
-    let mut carry = FALSE;
-    for i in 0..x.len() {
-        sum.push(sum_of(rt, store, bit(x, i), bit(y, i), carry))?;
-        carry = carry_of(rt, store, bit(x, i), bit(y, i), carry);
+    i: usize,
+) -> Vec<Edge> {
+    let mut row = Vec::new(alloc);
+    for k in 0..16usize {
+        let here = if k < i {
+            FALSE
+        } else {
+            conjunction(rt, store, bit(x, i), bit(y, k - i))
+        };
+        row.push(here).expect(rt, "no memory");
     }
-    Ok(sum)
+    row
 }
 
 /// The product of two words of eight bits, as the sum of the rows that the bits of the first select.
@@ -251,45 +248,42 @@ fn product(
     store: &mut Bdd,
     x: &Vec<Edge>,
     y: &Vec<Edge>,
-) -> Result<Vec<Edge>, AllocError> {
-    let mut whole = Vec::new(alloc);
-    for _ in 0..16 {
-        whole.push(FALSE)?;
-    }
+) -> Vec<Edge> {
+    let mut whole = [FALSE; 16].to_vec(alloc).expect(rt, "no memory");
     for i in 0..8usize {
-        let mut row = Vec::new(alloc);
-        for k in 0..16usize {
-            let here = if k < i {
-                FALSE
-            } else {
-                conjunction(rt, store, bit(x, i), bit(y, k - i))
-            };
-            row.push(here)?;
-        }
-        whole = add(rt, alloc, store, &whole, &row)?;
+        let row = row(rt, alloc, store, x, y, i);
+        whole = add(rt, alloc, store, &whole, &row);
     }
-    Ok(whole)
+    whole
+}
+
+/// The word of the eight variables 2k, or of the eight 2k + 1.
+fn word(rt: &impl Abort, alloc: Global, store: &mut Bdd, odd: bool) -> Vec<Edge> {
+    let mut word = Vec::new(alloc);
+    for k in 0..8 {
+        let v = variable(rt, store, if odd { 2 * k + 1 } else { 2 * k });
+        word.push(v).expect(rt, "no memory");
+    }
+    word
 }
 
 #[test]
-fn multipliers(rt: HostRuntime) -> Result<(), Fail> {
-    let mut store = Bdd::new(rt.alloc(), 1_000_000)?;
-    let mut x = Vec::new(rt.alloc());
-    let mut y = Vec::new(rt.alloc());
-    for k in 0..8 {
-        x.push(variable(&rt, &mut store, 2 * k))?;
-        y.push(variable(&rt, &mut store, 2 * k + 1))?;
+fn multipliers(rt: HostRuntime) {
+    let mut store = Bdd::new(rt.alloc(), 1_000_000).expect(&rt, "no memory");
+    for k in 0..16 {
+        let _made = variable(&rt, &mut store, k);
     }
-    let one_way = product(&rt, rt.alloc(), &mut store, &x, &y)?;
-    let other_way = product(&rt, rt.alloc(), &mut store, &y, &x)?;
+    let x = word(&rt, rt.alloc(), &mut store, false);
+    let y = word(&rt, rt.alloc(), &mut store, true);
+    let one_way = product(&rt, rt.alloc(), &mut store, &x, &y);
+    let other_way = product(&rt, rt.alloc(), &mut store, &y, &x);
     assert!(rt; one_way.len() == 16 && one_way == other_way);
-    Ok(())
 }
 
 /// As many variables as a theorem may have, on one way down: each call goes as deep as there are variables.
 #[test]
-fn many_variables(rt: HostRuntime) -> Result<(), Fail> {
-    let mut store = Bdd::new(rt.alloc(), 100_000)?;
+fn many_variables(rt: HostRuntime) {
+    let mut store = Bdd::new(rt.alloc(), 100_000).expect(&rt, "no memory");
     let mut all = TRUE;
     let mut none = TRUE;
     for k in (0..512u32).rev() {
@@ -301,15 +295,14 @@ fn many_variables(rt: HostRuntime) -> Result<(), Fail> {
     let one_way = conjunction(&rt, &mut store, all, none);
     let other_way = choice(&rt, &mut store, none, all, FALSE);
     assert!(rt; one_way == other_way && store.width() == 1024);
-    assert!(rt; decision(&rt, rt.alloc(), &mut store, one_way)? == Decision::Sometimes);
-    Ok(())
+    assert!(rt; decision(&rt, rt.alloc(), &mut store, one_way) == Decision::Sometimes);
 }
 
 /// Fills a small store with exclusive ors until it is full. What was made before keeps its meaning, and the count
 /// stands at the limit.
 #[test]
-fn limit_reached(rt: HostRuntime) -> Result<(), Fail> {
-    let mut store = Bdd::new(rt.alloc(), 60)?;
+fn limit_reached(rt: HostRuntime) {
+    let mut store = Bdd::new(rt.alloc(), 60).expect(&rt, "no memory");
     for k in 0..13u32 {
         let _made = variable(&rt, &mut store, k);
     }
@@ -327,7 +320,6 @@ fn limit_reached(rt: HostRuntime) -> Result<(), Fail> {
     assert!(rt; refusals > 0 && store.count() == 60);
     for k in 0..13u32 {
         let v = variable(&rt, &mut store, k);
-        assert!(rt; follows_variable(&rt, rt.alloc(), &mut store, v, k)?, "{k}");
+        assert!(rt; follows_variable(&rt, rt.alloc(), &mut store, v, k), "{k}");
     }
-    Ok(())
 }

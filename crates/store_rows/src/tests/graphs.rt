@@ -1,28 +1,12 @@
 //! What no clause says: that calls succeed with ample memory, what they answer on functions that are known from outside,
 //! and that a new store costs little.
 
+use super::gates::{complement, conjunction, variable};
 use aig_store::{Aig, AigNode};
 use bfr_store::Edge;
-use gl_logic::{Assignment, NoMemory};
+use gl_logic::Assignment;
 use std::alloc::Global;
 use std::process::Abort;
-use std::test::Fail;
-
-fn variable(rt: &impl Abort, store: &mut Aig, k: u32) -> Edge {
-    assert!(rt; k < 1_000_000);
-    store.var(k).expect(rt, "no room for a variable")
-}
-
-fn conjunction(rt: &impl Abort, store: &mut Aig, x: Edge, y: Edge) -> Edge {
-    assert!(rt; store.is_live(x));
-    assert!(rt; store.is_live(y));
-    store.and(x, y).expect(rt, "no room for a conjunction")
-}
-
-fn complement(rt: &impl Abort, store: &Aig, x: Edge) -> Edge {
-    assert!(rt; store.is_live(x));
-    store.not(x)
-}
 
 fn disjunction(rt: &impl Abort, store: &mut Aig, x: Edge, y: Edge) -> Edge {
     let not_x = complement(rt, store, x);
@@ -32,9 +16,7 @@ fn disjunction(rt: &impl Abort, store: &mut Aig, x: Edge, y: Edge) -> Edge {
 }
 
 fn choice(rt: &impl Abort, store: &mut Aig, t: Edge, x: Edge, y: Edge) -> Edge {
-    assert!(rt; store.is_live(t));
-    assert!(rt; store.is_live(x));
-    assert!(rt; store.is_live(y));
+    assert!(rt; store.is_live(t) && store.is_live(x) && store.is_live(y));
     store.ite(t, x, y).expect(rt, "no room for a choice")
 }
 
@@ -43,22 +25,26 @@ fn is_true_at(table: u32, place: u32) -> bool {
     place < 32 && (table >> place) % 2 == 1
 }
 
+/// What an edge over three variables says at a place of its truth table.
+fn value_at(rt: &impl Abort, alloc: Global, store: &mut Aig, e: Edge, place: u32) -> bool {
+    let mut a = Assignment::new(alloc, 3).expect(rt, "no memory");
+    a.set(0, place / 4 == 1);
+    a.set(1, place / 2 % 2 == 1);
+    a.set(2, place % 2 == 1);
+    assert!(rt; store.width() == 3 && store.is_live(e));
+    store.value(e, &a)
+}
+
 /// The truth table of a function of three variables, by its value under each assignment. The last variable is the one
 /// that changes from place to place.
-fn table_of(rt: &impl Abort, alloc: Global, store: &mut Aig, e: Edge) -> Result<u32, NoMemory> {
+fn table_of(rt: &impl Abort, alloc: Global, store: &mut Aig, e: Edge) -> u32 {
     let mut table = 0u32;
     for place in 0..8u32 {
-        let mut a = Assignment::new(alloc, 3)?;
-        a.set(0, place / 4 == 1);
-        a.set(1, place / 2 % 2 == 1);
-        a.set(2, place % 2 == 1);
-        assert!(rt; store.width() == 3);
-        assert!(rt; store.is_live(e));
-        if store.value(e, &a) {
+        if value_at(rt, alloc, store, e, place) {
             table |= 1 << place;
         }
     }
-    Ok(table)
+    table
 }
 
 /// What a truth table of three variables says where the first two are fixed: the part that begins at this place.
@@ -106,30 +92,24 @@ fn by_places(rt: &impl Abort, store: &mut Aig, table: u32) -> Edge {
 }
 
 #[test]
-fn functions_of_three_variables(rt: HostRuntime) -> Result<(), Fail> {
-    let mut store = Aig::new(rt.alloc(), 10_000)?;
+fn functions_of_three_variables(rt: HostRuntime) {
+    let mut store = Aig::new(rt.alloc(), 10_000).expect(&rt, "no memory");
     for k in 0..3 {
         let _made = variable(&rt, &mut store, k);
     }
     for table in 0..256u32 {
         let one_way = by_choices(&rt, &mut store, table);
         let other_way = by_places(&rt, &mut store, table);
-        assert!(rt;
-            table_of(&rt, rt.alloc(), &mut store, one_way)? == table,
-            "{table}"
-        );
-        assert!(rt;
-            table_of(&rt, rt.alloc(), &mut store, other_way)? == table,
-            "{table}"
-        );
+        let one_table = table_of(&rt, rt.alloc(), &mut store, one_way);
+        let other_table = table_of(&rt, rt.alloc(), &mut store, other_way);
+        assert!(rt; one_table == table && other_table == table, "{table}");
     }
-    Ok(())
 }
 
 /// The constant, equal and complement cases, and one conjunction in two orders.
 #[test]
-fn conjunctions(rt: HostRuntime) -> Result<(), Fail> {
-    let mut store = Aig::new(rt.alloc(), 1000)?;
+fn conjunctions(rt: HostRuntime) {
+    let mut store = Aig::new(rt.alloc(), 1000).expect(&rt, "no memory");
     let always = store.constant(true);
     let never = store.constant(false);
     let x = variable(&rt, &mut store, 0);
@@ -152,102 +132,84 @@ fn conjunctions(rt: HostRuntime) -> Result<(), Fail> {
     let one_way = conjunction(&rt, &mut store, x, y);
     let other_way = conjunction(&rt, &mut store, y, x);
     assert!(rt; one_way == other_way && store.count() == 3);
-    Ok(())
+}
+
+/// Compares the node of an edge, whether the edge is its complement, and the node's number.
+fn check_parts(rt: &impl Abort, store: &Aig, e: Edge, node: AigNode, flips: bool, number: u32) {
+    assert!(rt; store.is_live(e));
+    let is_node = store.node_of(e) == node;
+    assert!(rt; is_node && store.is_complemented(e) == flips && store.number_of(e) == number);
 }
 
 #[test]
-fn parts_of_edges(rt: HostRuntime) -> Result<(), Fail> {
-    let mut store = Aig::new(rt.alloc(), 1000)?;
+fn parts_of_edges(rt: HostRuntime) {
+    let mut store = Aig::new(rt.alloc(), 1000).expect(&rt, "no memory");
     let x = variable(&rt, &mut store, 0);
     let y = variable(&rt, &mut store, 7);
     let not_y = complement(&rt, &store, y);
     let both = conjunction(&rt, &mut store, not_y, x);
     let e = complement(&rt, &store, both);
-    assert!(rt; store.is_live(e));
-    assert!(rt; store.node_of(e) == AigNode::And(x, not_y));
-    assert!(rt; store.is_complemented(e) && store.number_of(e) == 3);
-    assert!(rt; store.is_live(not_y));
-    assert!(rt; store.node_of(not_y) == AigNode::Var(7));
-    assert!(rt; store.is_complemented(not_y) && store.number_of(not_y) == 2);
+    check_parts(&rt, &store, e, AigNode::And(x, not_y), true, 3);
+    check_parts(&rt, &store, not_y, AigNode::Var(7), true, 2);
     let never = store.constant(false);
-    assert!(rt; store.is_live(never));
-    assert!(rt; store.node_of(never) == AigNode::Constant);
-    assert!(rt; store.is_complemented(never) && store.number_of(never) == 0);
-    Ok(())
+    check_parts(&rt, &store, never, AigNode::Constant, true, 0);
 }
 
 /// A full store still answers what it holds.
 #[test]
-fn limit_reached(rt: HostRuntime) -> Result<(), Fail> {
-    let mut store = Aig::new(rt.alloc(), 4)?;
+fn limit_reached(rt: HostRuntime) {
+    let mut store = Aig::new(rt.alloc(), 4).expect(&rt, "no memory");
     let x = variable(&rt, &mut store, 0);
     let y = variable(&rt, &mut store, 1);
     let z = variable(&rt, &mut store, 2);
     let both = conjunction(&rt, &mut store, x, y);
-    assert!(rt; store.count() == 4);
-    assert!(rt; store.is_live(both));
-    assert!(rt; store.is_live(z));
+    assert!(rt; store.count() == 4 && store.is_live(both) && store.is_live(z));
     assert!(rt; store.and(both, z).is_err());
     assert!(rt; store.var(3).is_err());
     assert!(rt; store.width() == 3);
     assert!(rt; conjunction(&rt, &mut store, y, x) == both);
     assert!(rt; variable(&rt, &mut store, 2) == z);
-    assert!(rt; table_of(&rt, rt.alloc(), &mut store, both)? == 0b1100_0000);
-    Ok(())
+    assert!(rt; table_of(&rt, rt.alloc(), &mut store, both) == 0b1100_0000);
 }
 
 /// What an edge says where no variable is true.
-fn value_at_none(
-    rt: &impl Abort,
-    alloc: Global,
-    store: &mut Aig,
-    e: Edge,
-) -> Result<bool, NoMemory> {
+fn value_at_none(rt: &impl Abort, alloc: Global, store: &mut Aig, e: Edge) -> bool {
     assert!(rt; store.is_live(e));
-    let a = Assignment::new(alloc, store.width())?;
-    Ok(store.value(e, &a))
+    let a = Assignment::new(alloc, store.width()).expect(rt, "no memory");
+    store.value(e, &a)
 }
 
 /// What an edge says where this variable alone is true.
-fn value_at_one(
-    rt: &impl Abort,
-    alloc: Global,
-    store: &mut Aig,
-    e: Edge,
-    k: u32,
-) -> Result<bool, NoMemory> {
-    assert!(rt; store.is_live(e));
+fn value_at_one(rt: &impl Abort, alloc: Global, store: &mut Aig, e: Edge, k: u32) -> bool {
     let width = store.width();
-    assert!(rt; k < width);
-    let mut a = Assignment::new(alloc, width)?;
+    assert!(rt; store.is_live(e) && k < width);
+    let mut a = Assignment::new(alloc, width).expect(rt, "no memory");
     a.set(k, true);
-    Ok(store.value(e, &a))
+    store.value(e, &a)
 }
 
 /// A conjunction as deep as it has variables: the walk takes no stack of calls, and the table of nodes grows.
 #[test]
-fn deep_conjunction(rt: HostRuntime) -> Result<(), Fail> {
-    let mut store = Aig::new(rt.alloc(), 300_000)?;
+fn deep_conjunction(rt: HostRuntime) {
+    let mut store = Aig::new(rt.alloc(), 300_000).expect(&rt, "no memory");
     let mut none = store.constant(true);
     for k in 0..100_000u32 {
         let v = literal(&rt, &mut store, k, false);
         none = conjunction(&rt, &mut store, v, none);
     }
     assert!(rt; store.count() == 199_999);
-    assert!(rt; value_at_none(&rt, rt.alloc(), &mut store, none)?);
+    assert!(rt; value_at_none(&rt, rt.alloc(), &mut store, none));
     for k in [0, 50_000, 99_999] {
-        assert!(rt; !value_at_one(&rt, rt.alloc(), &mut store, none, k)?, "{k}");
+        assert!(rt; !value_at_one(&rt, rt.alloc(), &mut store, none, k), "{k}");
     }
-    Ok(())
 }
 
 /// A new store costs nothing in proportion to its limit.
 #[test]
-fn large_limits(rt: HostRuntime) -> Result<(), Fail> {
+fn large_limits(rt: HostRuntime) {
     for _ in 0..1000 {
-        let mut store = Aig::new(rt.alloc(), 4_000_000)?;
+        let mut store = Aig::new(rt.alloc(), 4_000_000).expect(&rt, "no memory");
         let x = variable(&rt, &mut store, 0);
-        assert!(rt; value_at_one(&rt, rt.alloc(), &mut store, x, 0)?);
+        assert!(rt; value_at_one(&rt, rt.alloc(), &mut store, x, 0));
     }
-    Ok(())
 }
