@@ -1,7 +1,7 @@
 //! What no clause says: that calls succeed, and when they stop at the very limit. The counts are those of the walk that
 //! visits each subterm.
 
-ghost use Rattle.std.specs.Prelude.{◌≡◌, ◌≤◌, [], ◌∷◌, IfOk, pos};
+ghost use Rattle.std.specs.Prelude.{◌≡◌, ◌≤◌, [], ◌∷◌, pos};
 ghost use Rattle.gl_logic.specs.DefinitionOf.{definition_of};
 ghost use Rattle.gl_logic.specs.Exp.{Last, More};
 ghost use Rattle.gl_logic.specs.Exp as exp;
@@ -13,57 +13,80 @@ ghost use Rattle.lisp_eval.specs.Machines.{AreFunctionsOf, Fits};
 ghost use Rattle.gl_logic.specs.declared.prim.Primitive.TheVariants as prim;
 
 use gl_base::limits::Limits;
-use gl_logic::{Def, FnId, Names, NoMemory, Prim, Term, TextId, Tree, World};
+use gl_logic::{Def, FnId, Names, Prim, Term, TextId, Tree, World};
 use hons_arena::{HonsArena, Kind};
 use lisp_eval::{Env, EvalFault, Machine};
 use shape_spec::FnSet;
 use std::alloc::Global;
 use std::process::Abort;
-use std::test::Fail;
 
-// (defun atom (x) (not (consp x))), where x has number 5
-fn atom(alloc: Global) -> Result<Def, NoMemory>
-    ensures { IfOk result (λ d. definition_of d ≡ atom_definition) }
+// the application of a primitive to one term
+fn applied(rt: &impl Abort, alloc: Global, prim: Prim, term: Term) -> Term
+    ensures { term_of result ≡ exp.Prim prim (More (term_of term) Last) }
 {
-    let mut formals = Names::new(alloc);
-    formals.push(TextId { number: 5 })?;
-    let mut inner = Vec::new(alloc);
-    inner.push(Term::Var(TextId { number: 5 }))?;
-    let mut outer = Vec::new(alloc);
-    outer.push(Term::Prim(Prim::Consp, inner))?;
-    Ok(Def {
-        name: TextId { number: 9 },
-        formals,
-        body: Term::Prim(Prim::Not, outer),
-        measure: None,
-    })
+    let mut args = Vec::new(alloc);
+    args.push(term).expect(rt, "no memory");
+    Term::Prim(prim, args)
 }
 
-fn atoms(alloc: Global) -> Result<World, NoMemory>
-    ensures { IfOk result (λ w. w.definitions ≡ atom_definition ∷ []) }
+// the application of a primitive to two terms
+fn of_two(rt: &impl Abort, alloc: Global, prim: Prim, first: Term, second: Term) -> Term
+    ensures { term_of result ≡ exp.Prim prim (More (term_of first) (More (term_of second) Last)) }
 {
-    let mut world = World::new(alloc)?;
-    world.push(atom(alloc)?)?;
-    Ok(world)
+    let mut args = Vec::new(alloc);
+    args.push(first).expect(rt, "no memory");
+    args.push(second).expect(rt, "no memory");
+    Term::Prim(prim, args)
+}
+
+// (defun atom (x) (not (consp x))), where x has number 5
+fn atom(rt: &impl Abort, alloc: Global) -> Def
+    ensures { definition_of result ≡ atom_definition }
+{
+    let mut formals = Names::new(alloc);
+    formals.push(TextId { number: 5 }).expect(rt, "no memory");
+    let inner = applied(rt, alloc, Prim::Consp, Term::Var(TextId { number: 5 }));
+    Def {
+        name: TextId { number: 9 },
+        formals,
+        body: applied(rt, alloc, Prim::Not, inner),
+        measure: None,
+    }
+}
+
+// adds that definition to a world without definitions
+fn take(rt: &impl Abort, world: &mut World, def: Def)
+    requires none { world.old.definitions ≡ [] }
+    requires atom { definition_of def ≡ atom_definition }
+    ensures { world.new.definitions ≡ atom_definition ∷ [] }
+{
+    world.push(def).expect(rt, "no memory");
+}
+
+fn atoms(rt: &impl Abort, alloc: Global) -> World
+    ensures { result.definitions ≡ atom_definition ∷ [] }
+{
+    let mut world = World::new(alloc).expect(rt, "no memory");
+    take(rt, &mut world, atom(rt, alloc));
+    world
 }
 
 // (atom '7)
-fn atom_of_seven(alloc: Global) -> Result<Term, NoMemory>
-    ensures { IfOk result (λ t. term_of t ≡ exp.Call 0 (More (exp.Const (Int (pos 7))) Last)) }
+fn atom_of_seven(rt: &impl Abort, alloc: Global) -> Term
+    ensures { term_of result ≡ exp.Call 0 (More (exp.Const (Int (pos 7))) Last) }
 {
     let mut args = Vec::new(alloc);
-    args.push(Term::Const(Tree::int(7)))?;
-    Ok(Term::Call(FnId { number: 0 }, args))
+    args.push(Term::Const(Tree::int(7))).expect(rt, "no memory");
+    Term::Call(FnId { number: 0 }, args)
 }
 
 // (cons (atom '7) (atom '7))
-fn both(alloc: Global) -> Result<Term, NoMemory>
-    ensures { IfOk result (λ t. term_of t ≡ exp.Prim prim.Cons (More (exp.Call 0 (More (exp.Const (Int (pos 7))) Last)) (More (exp.Call 0 (More (exp.Const (Int (pos 7))) Last)) Last))) }
+fn both(rt: &impl Abort, alloc: Global) -> Term
+    ensures { term_of result ≡ exp.Prim prim.Cons (More (exp.Call 0 (More (exp.Const (Int (pos 7))) Last)) (More (exp.Call 0 (More (exp.Const (Int (pos 7))) Last)) Last)) }
 {
-    let mut args = Vec::new(alloc);
-    args.push(atom_of_seven(alloc)?)?;
-    args.push(atom_of_seven(alloc)?)?;
-    Ok(Term::Prim(Prim::Cons, args))
+    let first = atom_of_seven(rt, alloc);
+    let second = atom_of_seven(rt, alloc);
+    of_two(rt, alloc, Prim::Cons, first, second)
 }
 
 // the usual limits, but for the steps
@@ -84,30 +107,33 @@ fn limits_of(steps: u32) -> Limits
 
 // what the term is, where x has number 5 and this value
 fn kind_of_value(
+    rt: &impl Abort,
     alloc: Global,
     machine: &mut Machine,
     world: &World,
     term: &Term,
     x: &Tree,
-) -> Result<Result<Kind, EvalFault>, NoMemory>
+) -> Result<Kind, EvalFault>
     requires fits { Fits world.now machine.old }
     requires term { IsTermOf world.now.definitions (term_of term.now) }
 {
     match machine.input(x) {
         Ok(value) => {
             let mut env = Env::new(alloc);
-            env.push(TextId { number: 5 }, value)?;
+            env.push(TextId { number: 5 }, value)
+                .expect(rt, "no memory");
             match machine.eval(world, term, &env) {
-                Ok(id) => Ok(Ok(machine.arena().kind(id))),
-                Err(fault) => Ok(Err(fault)),
+                Ok(id) => Ok(machine.arena().kind(id)),
+                Err(fault) => Err(fault),
             }
         }
-        Err(fault) => Ok(Err(fault)),
+        Err(fault) => Err(fault),
     }
 }
 
 // the same, in a machine with so many cells
 fn kind_within(
+    rt: &impl Abort,
     alloc: Global,
     world: &World,
     term: &Term,
@@ -115,117 +141,106 @@ fn kind_within(
     memoized: &FnSet,
     steps: u32,
     cells: u32,
-) -> Result<Result<Kind, EvalFault>, NoMemory>
+) -> Result<Kind, EvalFault>
     requires term { IsTermOf world.now.definitions (term_of term.now) }
     requires functions { AreFunctionsOf world.now memoized.now }
     requires some { 1 ≤ steps }
     requires most { steps ≤ 99999999 }
 {
-    let mut machine = Machine::new(alloc, &limits_of(steps))?;
-    *machine.arena_mut() = HonsArena::new(alloc, cells)?;
+    let mut machine = Machine::new(alloc, &limits_of(steps)).expect(rt, "no memory");
+    *machine.arena_mut() = HonsArena::new(alloc, cells).expect(rt, "no memory");
     match machine.begin(world, memoized) {
-        Ok(()) => kind_of_value(alloc, &mut machine, world, term, x),
-        Err(fault) => Ok(Err(fault)),
+        Ok(()) => kind_of_value(rt, alloc, &mut machine, world, term, x),
+        Err(fault) => Err(fault),
     }
 }
 
-// rows: the limits, and what comes
-fn all_rows<R: Abort>(
-    rt: &R,
+// rows: the limits, the value of x, and what comes
+fn all_rows(
+    rt: &impl Abort,
     alloc: Global,
     world: &World,
     term: &Term,
     memoized: &FnSet,
-    rows: &[(u32, u32, Result<Kind, EvalFault>)],
-) -> Result<(), Fail>
+    rows: &[(u32, u32, Option<i128>, Result<Kind, EvalFault>)],
+)
     requires term { IsTermOf world.now.definitions (term_of term.now) }
     requires functions { AreFunctionsOf world.now memoized.now }
 {
-    for (steps, cells, wanted) in rows {
+    for (steps, cells, x, wanted) in rows {
         let fits = *steps >= 1 && *steps <= 99_999_999;
         assert!(rt; fits);
-        let x = Tree::symbol(TextId { number: 0 });
-        assert!(rt; kind_within(alloc, world, term, &x, memoized, *steps, *cells)? == *wanted);
+        let x = value_of(*x);
+        let kind = kind_within(rt, alloc, world, term, &x, memoized, *steps, *cells);
+        assert!(rt; kind == *wanted, "{steps} {cells}");
     }
-    Ok(())
+}
+
+// an integer, or the symbol whose name has number 0
+fn value_of(x: Option<i128>) -> Tree {
+    match x {
+        Some(x) => Tree::int(x),
+        None => Tree::symbol(TextId { number: 0 }),
+    }
 }
 
 // the first function alone
-fn first_alone(alloc: Global) -> Result<FnSet, NoMemory>
-    ensures { IfOk result (λ s. s ≡ 0 ∷ []) }
+fn first_alone(rt: &impl Abort, alloc: Global) -> FnSet
+    ensures { result ≡ 0 ∷ [] }
 {
     let mut functions = FnSet::new(alloc);
-    functions.push(FnId { number: 0 })?;
-    Ok(functions)
+    functions.push(FnId { number: 0 }).expect(rt, "no memory");
+    functions
 }
 
 #[test]
-fn limits(rt: HostRuntime) -> Result<(), Fail> {
-    let world = atoms(rt.alloc())?;
-    let term = both(rt.alloc())?;
-    let kept = first_alone(rt.alloc())?;
-    let rows: [(u32, u32, Result<Kind, EvalFault>); 3] = [
-        (8, 2, Ok(Kind::Cons)),
-        (7, 2, Err(EvalFault::Steps)),
-        (8, 1, Err(EvalFault::Cells)),
+fn limits(rt: HostRuntime) {
+    let world = atoms(&rt, rt.alloc());
+    let term = both(&rt, rt.alloc());
+    let kept = first_alone(&rt, rt.alloc());
+    let rows = [
+        (8, 2, None, Ok(Kind::Cons)),
+        (7, 2, None, Err(EvalFault::Steps)),
+        (8, 1, None, Err(EvalFault::Cells)),
     ];
-    all_rows(&rt, rt.alloc(), &world, &term, &kept, &rows)?;
+    all_rows(&rt, rt.alloc(), &world, &term, &kept, &rows);
     let none = FnSet::new(rt.alloc());
-    let rows: [(u32, u32, Result<Kind, EvalFault>); 2] = [
-        (11, 2, Ok(Kind::Cons)),
-        (10, 2, Err(EvalFault::Steps)),
+    let rows = [
+        (11, 2, None, Ok(Kind::Cons)),
+        (10, 2, None, Err(EvalFault::Steps)),
     ];
-    all_rows(&rt, rt.alloc(), &world, &term, &none, &rows)
+    all_rows(&rt, rt.alloc(), &world, &term, &none, &rows);
 }
 
 // (binary-+ x '1)
-fn next(alloc: Global) -> Result<Term, NoMemory>
-    ensures { IfOk result (λ t. term_of t ≡ exp.Prim prim.BinaryPlus (More (exp.Var 5) (More (exp.Const (Int (pos 1))) Last))) }
+fn next(rt: &impl Abort, alloc: Global) -> Term
+    ensures { term_of result ≡ exp.Prim prim.BinaryPlus (More (exp.Var 5) (More (exp.Const (Int (pos 1))) Last)) }
 {
-    let mut args = Vec::new(alloc);
-    args.push(Term::Var(TextId { number: 5 }))?;
-    args.push(Term::Const(Tree::int(1)))?;
-    Ok(Term::Prim(Prim::BinaryPlus, args))
-}
-
-// rows: the value of x, and what comes
-fn rows_of_x<R: Abort>(
-    rt: &R,
-    alloc: Global,
-    world: &World,
-    term: &Term,
-    rows: &[(i128, Result<Kind, EvalFault>)],
-) -> Result<(), Fail>
-    requires { IsTermOf world.now.definitions (term_of term.now) }
-{
-    let none = FnSet::new(alloc);
-    for (x, wanted) in rows {
-        assert!(rt; kind_within(alloc, world, term, &Tree::int(*x), &none, 3, 3)? == *wanted);
-    }
-    Ok(())
+    let x = Term::Var(TextId { number: 5 });
+    of_two(rt, alloc, Prim::BinaryPlus, x, Term::Const(Tree::int(1)))
 }
 
 #[test]
-fn width(rt: HostRuntime) -> Result<(), Fail> {
-    let world = atoms(rt.alloc())?;
-    let term = next(rt.alloc())?;
-    let rows: [(i128, Result<Kind, EvalFault>); 2] = [
-        (41, Ok(Kind::Int(42))),
-        (i128::MAX, Err(EvalFault::Width)),
+fn width(rt: HostRuntime) {
+    let world = atoms(&rt, rt.alloc());
+    let term = next(&rt, rt.alloc());
+    let rows = [
+        (3, 3, Some(41), Ok(Kind::Int(42))),
+        (3, 3, Some(i128::MAX), Err(EvalFault::Width)),
     ];
-    rows_of_x(&rt, rt.alloc(), &world, &term, &rows)
+    let none = FnSet::new(rt.alloc());
+    all_rows(&rt, rt.alloc(), &world, &term, &none, &rows);
 }
 
 #[test]
-fn back_to_a_mark(rt: HostRuntime) -> Result<(), Fail> {
-    let world = atoms(rt.alloc())?;
-    let mut machine = Machine::new(rt.alloc(), &limits_of(10))?;
-    let kept = first_alone(rt.alloc())?;
+fn back_to_a_mark(rt: HostRuntime) {
+    let world = atoms(&rt, rt.alloc());
+    let mut machine = Machine::new(rt.alloc(), &limits_of(10)).expect(&rt, "no memory");
+    let kept = first_alone(&rt, rt.alloc());
     assert!(rt; machine.begin(&world, &kept).is_ok());
     let mark = machine.mark();
     assert!(rt; machine.input(&Tree::int(7)).is_ok());
     assert!(rt; machine.arena().count() == 1);
     machine.back(mark);
     assert!(rt; machine.arena().count() == 0);
-    Ok(())
 }
