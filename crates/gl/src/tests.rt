@@ -10,7 +10,6 @@ mod node_counts;
 mod phases;
 mod plain_circuits;
 mod prefixes;
-mod probes;
 mod readings;
 mod refusals;
 mod rows;

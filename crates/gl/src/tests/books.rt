@@ -2,7 +2,7 @@
 
 ghost use Rattle.std.specs.Prelude.{◌<◌, Some};
 
-use super::rows::{FaultRow, each_fault_gives, each_gives, shelf_of, texts_of, words_in};
+use super::rows::{FaultRow, all_give, each_fault_gives, shelf_of, texts_of, words_in};
 use crate::run::run;
 use gl_base::failed::Failed;
 use gl_base::memory_shelf::MemoryShelf;
@@ -23,98 +23,96 @@ const FIRST_LINES: &str = "VALUE A\nDONE proved=0 vacuous=0 refuted=0 undecided=
 
 const NO_LINES: &str = "DONE proved=0 vacuous=0 refuted=0 undecided=0\n";
 
-/// Books, their lines but for the last, and the codes of their statuses.
-const VALUES: [(&str, &str, u8); 13] = [
-    (FIRST_BOOK, "VALUE A\n", 0),
-    ("(value-triple (equal (cons 1 nil) '(1)))", "VALUE T\n", 0),
-    ("", "", 0),
-    ("\n \n", "", 0),
-    (
-        "(VALUE-triple 007)(value-triple -12)",
-        "VALUE 7\nVALUE -12\n",
-        0,
-    ),
-    (
-        "(value-triple t) (value-triple nil) (value-triple ())",
-        "VALUE T\nVALUE NIL\nVALUE NIL\n",
-        0,
-    ),
-    (
-        "(value-triple '(1 (b-2 c) () -0 'd))",
-        "VALUE (1 (B-2 C) NIL 0 (QUOTE D))\n",
-        0,
-    ),
-    ("(value-triple (cons 1 (cons 2 3)))", "VALUE (1 2 . 3)\n", 0),
-    (
-        "(value-triple (cdr '(1 2)))(value-triple (cdr 5))",
-        "VALUE (2)\nVALUE NIL\n",
-        0,
-    ),
-    (
-        "(value-triple (if (equal 'x 'y) 1 (if 0 2 3)))",
-        "VALUE 2\n",
-        0,
-    ),
-    (
-        "(value-triple '(a . (#\\Space \"q\\\"r\" :k -0)))",
-        "VALUE (A #\\Space \"q\\\"r\" :K 0)\n",
-        0,
-    ),
-    (
-        "(value-triple -170141183460469231731687303715884105728)",
-        "VALUE -170141183460469231731687303715884105728\n",
-        0,
-    ),
-    (
-        "; one\n(value-triple #| two #| three |# |# 1) ; and no end",
-        "VALUE 1\n",
-        0,
-    ),
-];
+/// Values, and then theorems, the last of 1,024 indices.
+const BOOKS: &str = r#"
+== b
+(value-triple (car (cons 'a 2)))
+=> 0
+VALUE A
+DONE proved=0 vacuous=0 refuted=0 undecided=0
+== b
+(value-triple (equal (cons 1 nil) '(1)))=> 0
+VALUE T
+DONE proved=0 vacuous=0 refuted=0 undecided=0
+== b
+=> 0
+DONE proved=0 vacuous=0 refuted=0 undecided=0
+== b
+
+ 
+=> 0
+DONE proved=0 vacuous=0 refuted=0 undecided=0
+== b
+(VALUE-triple 007)(value-triple -12)=> 0
+VALUE 7
+VALUE -12
+DONE proved=0 vacuous=0 refuted=0 undecided=0
+== b
+(value-triple t) (value-triple nil) (value-triple ())=> 0
+VALUE T
+VALUE NIL
+VALUE NIL
+DONE proved=0 vacuous=0 refuted=0 undecided=0
+== b
+(value-triple '(1 (b-2 c) () -0 'd))=> 0
+VALUE (1 (B-2 C) NIL 0 (QUOTE D))
+DONE proved=0 vacuous=0 refuted=0 undecided=0
+== b
+(value-triple (cons 1 (cons 2 3)))=> 0
+VALUE (1 2 . 3)
+DONE proved=0 vacuous=0 refuted=0 undecided=0
+== b
+(value-triple (cdr '(1 2)))(value-triple (cdr 5))=> 0
+VALUE (2)
+VALUE NIL
+DONE proved=0 vacuous=0 refuted=0 undecided=0
+== b
+(value-triple (if (equal 'x 'y) 1 (if 0 2 3)))=> 0
+VALUE 2
+DONE proved=0 vacuous=0 refuted=0 undecided=0
+== b
+(value-triple '(a . (#\Space "q\"r" :k -0)))=> 0
+VALUE (A #\Space "q\"r" :K 0)
+DONE proved=0 vacuous=0 refuted=0 undecided=0
+== b
+(value-triple -170141183460469231731687303715884105728)=> 0
+VALUE -170141183460469231731687303715884105728
+DONE proved=0 vacuous=0 refuted=0 undecided=0
+== b
+; one
+(value-triple #| two #| three |# |# 1) ; and no end=> 0
+VALUE 1
+DONE proved=0 vacuous=0 refuted=0 undecided=0
+== b
+(def-gl-thm small :hyp (unsigned-byte-p 4 x) :concl (< x 15) :g-bindings (auto-bindings (:nat x 4)))=> 1
+REFUTED SMALL
+  X = 15
+DONE proved=0 vacuous=0 refuted=1 undecided=0
+== b
+(def-gl-thm short :hyp (unsigned-byte-p 8 x) :concl (< x 256) :g-bindings (auto-bindings (:nat x 7)))=> 3
+UNDECIDED SHORT uncovered X
+DONE proved=0 vacuous=0 refuted=0 undecided=1
+== b
+(def-gl-thm short :hyp (unsigned-byte-p 8 x) :concl (< x 256) :g-bindings (auto-bindings (:nat x 8)))=> 0
+PROVED SHORT
+DONE proved=1 vacuous=0 refuted=0 undecided=0
+== b
+(def-gl-thm none :hyp (if (unsigned-byte-p 2 x) (< x 0) nil) :concl (equal x 7) :g-bindings (auto-bindings (:nat x 2)))=> 0
+VACUOUS NONE
+DONE proved=0 vacuous=1 refuted=0 undecided=0
+== b
+(def-gl-thm wide :hyp (unsigned-byte-p 12 x) :concl (< x 4096) :g-bindings (auto-bindings (:nat x 12)))=> 0
+PROVED WIDE
+DONE proved=1 vacuous=0 refuted=0 undecided=0
+== b
+(def-gl-thm n :hyp t :concl t :g-bindings (auto-bindings (:nat a 127) (:nat b 127) (:nat c 127) (:nat d 127) (:nat e 127) (:nat f 127) (:nat g 127) (:nat h 127)))=> 0
+PROVED N
+DONE proved=1 vacuous=0 refuted=0 undecided=0
+"#;
 
 #[test]
-fn books_of_values(rt: HostRuntime) -> Result<(), Fail> {
-    each_gives(&rt, &VALUES, NO_LINES)
-}
-
-/// Books, their lines, and the codes of their statuses.
-const THEOREMS: [(&str, &str, u8); 6] = [
-    (
-        "(def-gl-thm small :hyp (unsigned-byte-p 4 x) :concl (< x 15) :g-bindings (auto-bindings (:nat x 4)))",
-        "REFUTED SMALL\n  X = 15\nDONE proved=0 vacuous=0 refuted=1 undecided=0\n",
-        1,
-    ),
-    (
-        "(def-gl-thm short :hyp (unsigned-byte-p 8 x) :concl (< x 256) :g-bindings (auto-bindings (:nat x 7)))",
-        "UNDECIDED SHORT uncovered X\nDONE proved=0 vacuous=0 refuted=0 undecided=1\n",
-        3,
-    ),
-    (
-        "(def-gl-thm short :hyp (unsigned-byte-p 8 x) :concl (< x 256) :g-bindings (auto-bindings (:nat x 8)))",
-        "PROVED SHORT\nDONE proved=1 vacuous=0 refuted=0 undecided=0\n",
-        0,
-    ),
-    (
-        "(def-gl-thm none :hyp (if (unsigned-byte-p 2 x) (< x 0) nil) :concl (equal x 7) :g-bindings (auto-bindings (:nat x 2)))",
-        "VACUOUS NONE\nDONE proved=0 vacuous=1 refuted=0 undecided=0\n",
-        0,
-    ),
-    (
-        "(def-gl-thm wide :hyp (unsigned-byte-p 12 x) :concl (< x 4096) :g-bindings (auto-bindings (:nat x 12)))",
-        "PROVED WIDE\nDONE proved=1 vacuous=0 refuted=0 undecided=0\n",
-        0,
-    ),
-    // 1,024 indices
-    (
-        "(def-gl-thm n :hyp t :concl t :g-bindings (auto-bindings (:nat a 127) (:nat b 127) (:nat c 127) (:nat d 127) (:nat e 127) (:nat f 127) (:nat g 127) (:nat h 127)))",
-        "PROVED N\nDONE proved=1 vacuous=0 refuted=0 undecided=0\n",
-        0,
-    ),
-];
-
-#[test]
-fn books_of_theorems(rt: HostRuntime) -> Result<(), Fail> {
-    each_gives(&rt, &THEOREMS, "")
+fn books_of_values_and_theorems(rt: HostRuntime) -> Result<(), Fail> {
+    all_give(&rt, BOOKS)
 }
 
 /// The calls of a run are the open, the bytes and the end; and no text has the last name.

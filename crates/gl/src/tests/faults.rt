@@ -1,6 +1,6 @@
 //! Calls of the outside that fail, in a book with every event and every verdict.
 
-use super::rows::{Fails, Given, outcome};
+use super::rows::{Fails, gives};
 use std::alloc::AllocError;
 use std::process::Abort;
 use std::test::Fail;
@@ -38,53 +38,50 @@ const BOOK: &str = "(in-package \"ACL2\")\n\
 (value-triple 1)\n\
 ";
 
-/// The lines of its transcript.
-const LINES: [&str; 32] = [
-    "DEFUN DOWN (ACL2-COUNT N)\n",
-    "DEFUN EV (ACL2-COUNT N)\n",
-    "DEFUN OD (ACL2-COUNT N)\n",
-    "DEFUN FIB (NFIX N)\n",
-    "DEFCONST *C* 5\n",
-    "VALUE 0\n",
-    "VALUE undecided width\n",
-    "ASSERT ok\n",
-    "ASSERT nil\n",
-    "MEMOIZE FIB\n",
-    "VALUE 102334155\n",
-    "UNMEMOIZE FIB\n",
-    "REDUNDANT DOWN\n",
-    "PROVED PROVED\n",
-    "VACUOUS VACUOUS\n",
-    "REFUTED REFUTED\n",
-    "  X = 15\n",
-    "UNDECIDED UNCOVERED uncovered X\n",
-    "UNDECIDED CLOCK clock concl\n",
-    "  X = 3\n",
-    "UNDECIDED WIDTH width concl\n",
-    "  X = 2\n",
-    "UNDECIDED STEPS steps concl\n",
-    "  X = 25\n",
-    "UNDECIDED CELLS cells concl\n",
-    "  X = 2000\n",
-    "UNDECIDED NODES nodes\n",
-    "MODE SAT\n",
-    "UNDECIDED CLAUSES clauses\n",
-    "MODE BDD\n",
-    "REFUSED 27 1 V6\n",
-    "DONE proved=1 vacuous=1 refuted=1 undecided=8\n",
-];
+/// Its transcript.
+const LINES: &str = "\
+DEFUN DOWN (ACL2-COUNT N)
+DEFUN EV (ACL2-COUNT N)
+DEFUN OD (ACL2-COUNT N)
+DEFUN FIB (NFIX N)
+DEFCONST *C* 5
+VALUE 0
+VALUE undecided width
+ASSERT ok
+ASSERT nil
+MEMOIZE FIB
+VALUE 102334155
+UNMEMOIZE FIB
+REDUNDANT DOWN
+PROVED PROVED
+VACUOUS VACUOUS
+REFUTED REFUTED
+  X = 15
+UNDECIDED UNCOVERED uncovered X
+UNDECIDED CLOCK clock concl
+  X = 3
+UNDECIDED WIDTH width concl
+  X = 2
+UNDECIDED STEPS steps concl
+  X = 25
+UNDECIDED CELLS cells concl
+  X = 2000
+UNDECIDED NODES nodes
+MODE SAT
+UNDECIDED CLAUSES clauses
+MODE BDD
+REFUSED 27 1 V6
+DONE proved=1 vacuous=1 refuted=1 undecided=8
+";
 
 /// The number of the line of a theorem that ran out of nodes, and of one that ran out of clauses, from 1.
 const STALLED: [u64; 2] = [27, 29];
 
 /// The first lines, so many.
-fn put_lines(text: &mut Vec<u8>, taken: u64) -> Result<(), AllocError> {
-    let mut number: u64 = 0;
-    for line in &LINES {
-        number = number.saturating_add(1);
-        if number <= taken {
-            text.extend_from_slice(line.as_bytes())?;
-        }
+fn put_lines(text: &mut Vec<u8>, taken: usize) -> Result<(), AllocError> {
+    for line in LINES.lines().take(taken) {
+        text.extend_from_slice(line.as_bytes())?;
+        text.push(b'\n')?;
     }
     Ok(())
 }
@@ -105,36 +102,19 @@ fn stalls_by(sink_call: u64) -> usize {
 fn fails<R: AllocGlobal + Threads + Sync + Abort>(
     rt: &R,
     calls: Fails,
-    taken: u64,
+    taken: usize,
     status: u8,
 ) -> Result<(), Fail> {
-    let book = BOOK.as_bytes().to_vec(rt.alloc())?;
-    let given = outcome(rt, WORDS, book, 2000, calls)?;
     let mut want = Vec::new(rt.alloc());
     put_lines(&mut want, taken)?;
-    compare(rt, &given, want.as_slice(), calls, status);
-    Ok(())
-}
-
-fn compare(rt: &impl Abort, given: &Given, want: &[u8], calls: Fails, status: u8) {
-    let (shelf_call, sink_call) = calls;
-    let (code, stalls) = (given.code, given.stalls);
-    assert_eq!(rt; given.bytes(), want, "{shelf_call}, {sink_call}");
-    assert!(rt;
-        code == status && stalls == stalls_by(sink_call),
-        "{shelf_call}, {sink_call}: status {code}, {stalls} stalls"
-    );
-}
-
-#[test]
-fn each_call_fails_once(rt: HostRuntime) -> Result<(), Fail> {
-    try_calls(&rt)
+    let want = (want.as_slice(), status, stalls_by(calls.1));
+    gives(rt, (WORDS, BOOK, calls), want)
 }
 
 fn try_calls<R: AllocGlobal + Threads + Sync + Abort>(rt: &R) -> Result<(), Fail> {
     // the calls of the sink: each line, and the flush
-    for call in 1..34 {
-        fails(rt, (0, call), call - 1, 5)?;
+    for taken in 0..33usize {
+        fails(rt, (0, taken as u64 + 1), taken, 5)?;
     }
     fails(rt, (0, 34), 32, 2)?;
     // the calls of the shelf: open, the bytes, the end
@@ -142,4 +122,9 @@ fn try_calls<R: AllocGlobal + Threads + Sync + Abort>(rt: &R) -> Result<(), Fail
         fails(rt, (call, 0), 0, 4)?;
     }
     Ok(())
+}
+
+#[test]
+fn each_call_fails_once(rt: HostRuntime) -> Result<(), Fail> {
+    try_calls(&rt)
 }

@@ -1,93 +1,76 @@
 //! Books at the ends of limits.
 
-use super::rows::each_gives;
-use std::alloc::AllocError;
-use std::process::Abort;
+use super::rows::all_give;
 use std::test::Fail;
-use std::thread::Threads;
 
-/// What stands in front, a part and how often, a second part as often, and what stands behind; what is written; and the code
-/// of the status.
-type Row = (
-    &'static str,
-    &'static str,
-    usize,
-    &'static str,
-    &'static str,
-    &'static str,
-    u8,
-);
-
-const NONE: &str = "DONE proved=0 vacuous=0 refuted=0 undecided=0\n";
-
-const ROWS: [Row; 6] = [
-    ("", "(", 1000, ")", "\n", "REFUSED 1 1 V1\n", 2),
-    ("", "(", 1001, ")", "\n", "REFUSED 1 1001 S8\n", 2),
-    (
-        "(value-triple (+",
-        " 1",
-        2000,
-        "",
-        "))\n",
-        "VALUE 2000\n",
-        0,
-    ),
-    (
-        "(value-triple (+",
-        " 1",
-        2001,
-        "",
-        "))\n",
-        "REFUSED 1 1 V12\n",
-        2,
-    ),
-    (
-        "(value-triple (and (and (and",
-        " 1",
-        2000,
-        "",
-        "))))\n",
-        "VALUE 1\n",
-        0,
-    ),
-    (
-        "(value-triple (cond",
-        " (nil 1)",
-        1999,
-        "",
-        "))\n",
-        "VALUE NIL\n",
-        0,
-    ),
-];
-
-/// Puts a part so many times.
-fn put_parts(book: &mut String, part: &str, count: usize) -> Result<(), AllocError> {
-    for _ in 0..count {
-        book.push_str(part)?;
-    }
-    Ok(())
-}
-
-/// Puts a row's book.
-fn put_book(book: &mut String, row: &Row) -> Result<(), AllocError> {
-    let (front, part, count, other, last, _, _) = *row;
-    book.push_str(front)?;
-    put_parts(book, part, count)?;
-    put_parts(book, other, count)?;
-    book.push_str(last)
-}
-
-fn try_rows<R: AllocGlobal + Threads + Sync + Abort>(rt: &R, rows: &[Row]) -> Result<(), Fail> {
-    for row in rows {
-        let mut book = String::new(rt.alloc());
-        put_book(&mut book, row)?;
-        each_gives(rt, &[(book.as_str(), row.5, row.6)], NONE)?;
-    }
-    Ok(())
-}
+/// Parentheses inside one another, of which those of the form count and the quote does too; subterms; bytes; and leaves of a
+/// printed list: 999,999 elements and the NIL behind them are a million. Such lists take more cells than a run usually has.
+const ENDS: &str = r#"
+== b
+{1000 (}{1000 )}
+=> 2
+REFUSED 1 1 V1
+DONE proved=0 vacuous=0 refuted=0 undecided=0
+== b
+{1001 (}{1001 )}
+=> 2
+REFUSED 1 1001 S8
+DONE proved=0 vacuous=0 refuted=0 undecided=0
+== b
+(value-triple '{998 (}{998 )})=> 0
+VALUE {997 (}NIL{997 )}
+DONE proved=0 vacuous=0 refuted=0 undecided=0
+== b
+(value-triple '{999 (}{999 )})=> 2
+REFUSED 1 1014 S8
+DONE proved=0 vacuous=0 refuted=0 undecided=0
+== b
+(value-triple (+{2000  1}))
+=> 0
+VALUE 2000
+DONE proved=0 vacuous=0 refuted=0 undecided=0
+== b
+(value-triple (+{2001  1}))
+=> 2
+REFUSED 1 1 V12
+DONE proved=0 vacuous=0 refuted=0 undecided=0
+== b
+(value-triple (and (and (and{2000  1}))))
+=> 0
+VALUE 1
+DONE proved=0 vacuous=0 refuted=0 undecided=0
+== b
+(value-triple (cond{1999  (nil 1)}))
+=> 0
+VALUE NIL
+DONE proved=0 vacuous=0 refuted=0 undecided=0
+== b
+{4194304  }=> 0
+DONE proved=0 vacuous=0 refuted=0 undecided=0
+== b
+{4194305  }=> 2
+REFUSED 1 4194305 S10
+DONE proved=0 vacuous=0 refuted=0 undecided=0
+== b
+{4194305 
+}=> 2
+REFUSED 4194305 1 S10
+DONE proved=0 vacuous=0 refuted=0 undecided=0
+== b
+{4194304 (}=> 2
+REFUSED 1 1001 S8
+DONE proved=0 vacuous=0 refuted=0 undecided=0
+== --cells 4000000 b
+(value-triple '(0{999998  0}))=> 0
+VALUE (0{999998  0})
+DONE proved=0 vacuous=0 refuted=0 undecided=0
+== --cells 4000000 b
+(value-triple '(0{999999  0}))=> 3
+VALUE undecided size
+DONE proved=0 vacuous=0 refuted=0 undecided=1
+"#;
 
 #[test]
 fn books_at_the_ends(rt: HostRuntime) -> Result<(), Fail> {
-    try_rows(&rt, &ROWS)
+    all_give(&rt, ENDS)
 }

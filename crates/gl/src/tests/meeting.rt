@@ -15,7 +15,7 @@ impl Gate for Meeting {
         if piece < 2 {
             let own = piece as usize;
             self.begun[own].store(1, Ordering::SeqCst);
-            for _ in 0..10_000_000u32 {
+            for _ in 0..1_000_000_000u32 {
                 if self.begun[1 - own].load(Ordering::SeqCst) == 1 {
                     self.met.fetch_add(1, Ordering::SeqCst);
                     return;

@@ -95,7 +95,8 @@ fn try_prefix<R: AllocGlobal + Threads + Sync + Abort>(
     put_lines(rt.alloc(), &mut want, prefix, seen)?;
     let given = outcome(rt, "b", prefix.to_vec(rt.alloc())?, 200, NONE_FAILS)?;
     let code = if seen.open > 0 { 2 } else { 0 };
-    compare(rt, &given, "a prefix", want.as_str(), (want.as_str(), code));
+    let want = (want.as_bytes(), code, 0);
+    compare(rt, &given, ("b", "a prefix", NONE_FAILS), want);
     Ok(())
 }
 

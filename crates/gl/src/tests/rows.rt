@@ -13,8 +13,6 @@ use std::thread::Threads;
 const USAGE: &str =
     "USAGE gl [--workers N] [--steps N] [--cells N] [--nodes N] [--clauses N] [--enum-bits N] (BOOK | --generate N)\n";
 
-const DONE: &str = "DONE proved=0 vacuous=0 refuted=0 undecided=0\n";
-
 /// What a run over memory gave.
 #[derive(Drop)]
 pub struct Given {
@@ -84,53 +82,83 @@ fn stalls_told(lines: &str) -> usize {
     count
 }
 
-/// Compares what a run over memory wrote, and the code of its status. It adds a stall for each line that tells of nodes or
-/// clauses.
+/// A run: its words, the book `b`, and the calls that fail.
+pub type Case<'a> = (&'a str, &'a str, Fails);
+
+/// What a run writes, the code of its status, and how many stalls it adds.
+pub type Wanted<'a> = (&'a [u8], u8, usize);
+
+/// Compares what a run over memory gives. In the book `{9 part}` stands for nine times the part.
 pub fn gives<R: AllocGlobal + Threads + Sync + Abort>(
     rt: &R,
-    words: &str,
-    book: &str,
-    fails: Fails,
-    want: (&str, u8),
+    case: Case<'_>,
+    want: Wanted<'_>,
 ) -> Result<(), Fail> {
-    let bytes = book.as_bytes().to_vec(rt.alloc())?;
-    let given = outcome(rt, words, bytes, 200_000, fails)?;
-    compare(rt, &given, words, book, want);
+    let (words, book, fails) = case;
+    let given = outcome(rt, words, text_of(rt.alloc(), book)?, 2_100_000, fails)?;
+    compare(rt, &given, case, want);
     Ok(())
 }
 
-/// Compares what a run gave. The words and the book are told where it differs.
-pub fn compare(rt: &impl Abort, given: &Given, words: &str, book: &str, want: (&str, u8)) {
-    assert_eq!(rt; given.bytes(), want.0.as_bytes(), "{words}: {book}");
+/// Compares what a run gave. The run is told where it differs.
+pub fn compare(rt: &impl Abort, given: &Given, case: Case<'_>, want: Wanted<'_>) {
+    let (words, book, (shelf_call, sink_call)) = case;
+    assert_eq!(rt;
+        given.bytes(),
+        want.0,
+        "{words}, {shelf_call}, {sink_call}: {book}"
+    );
     let (code, stalls) = (given.code, given.stalls);
     assert!(rt;
-        code == want.1 && stalls == stalls_told(want.0),
-        "{words}: {book}: status {code}, {stalls} stalls"
+        code == want.1 && stalls == want.2,
+        "{words}, {shelf_call}, {sink_call}: {book}: status {code}, {stalls} stalls"
     );
 }
 
-/// Runs each book, and compares its transcript, which ends with this line, and the code of its status.
-pub fn each_gives<R: AllocGlobal + Threads + Sync + Abort>(
-    rt: &R,
-    rows: &[(&str, &str, u8)],
-    last: &str,
-) -> Result<(), Fail> {
-    for (book, want, want_code) in rows.iter().copied() {
-        let lines = format!(in rt.alloc(); "{want}{last}")?;
-        gives(rt, "b", book, NONE_FAILS, (lines.as_str(), want_code))?;
+/// Compares what each run of a table writes, the code of its status, and that it adds a stall for each line that tells of
+/// nodes or clauses.
+///
+/// A row is `== WORDS`, from the next line on the book `b`, behind it `=> STATUS`, and from the next line on what is written.
+/// In both texts `{9 part}` stands for nine times the part.
+pub fn all_give<R: AllocGlobal + Threads + Sync + Abort>(rt: &R, table: &str) -> Result<(), Fail> {
+    for text in table.split("==").skip(1) {
+        let (words, book, want, code) = row_of(text).expect(rt, text);
+        let lines = text_of(rt.alloc(), want)?;
+        let want = (lines.as_slice(), code, stalls_told(want));
+        gives(rt, (words, book, NONE_FAILS), want)?;
     }
     Ok(())
 }
 
-/// A run: its words, the book `b`, what is written, and the code of the status.
-pub type Row = (&'static str, &'static str, &'static str, u8);
+/// The words of a row, its book, what is written, and the code of the status.
+fn row_of(text: &str) -> Option<(&str, &str, &str, u8)> {
+    let (words, rest) = text.split_once('\n')?;
+    let (book, rest) = rest.split_once("=> ")?;
+    let (code, want) = rest.split_once('\n')?;
+    Some((words, book, want, code.parse().ok()?))
+}
 
-/// Compares what each run wrote, and the code of its status.
-pub fn all_give<R: AllocGlobal + Threads + Sync + Abort>(rt: &R, rows: &[Row]) -> Result<(), Fail> {
-    for (words, book, want, code) in rows.iter().copied() {
-        gives(rt, words, book, NONE_FAILS, (want, code))?;
+/// The bytes of a text in which `{9 part}` stands for nine times the part.
+fn text_of(alloc: Global, source: &str) -> Result<Vec<u8>, AllocError> {
+    let mut text = Vec::new(alloc);
+    for (place, piece) in source.split('{').enumerate() {
+        if place == 0 {
+            text.extend_from_slice(piece.as_bytes())?;
+        } else {
+            put_parts(&mut text, piece)?;
+        }
     }
-    Ok(())
+    Ok(text)
+}
+
+/// Puts what `9 part}` and the rest behind it stand for.
+fn put_parts(text: &mut Vec<u8>, piece: &str) -> Result<(), AllocError> {
+    let (parts, rest) = piece.split_once('}').unwrap_or((piece, ""));
+    let (count, part) = parts.split_once(' ').unwrap_or((parts, ""));
+    for _ in 0..count.parse().unwrap_or(0usize) {
+        text.extend_from_slice(part.as_bytes())?;
+    }
+    text.extend_from_slice(rest.as_bytes())
 }
 
 /// A run over one book: its words, the calls of the shelf and of the sink that fail, what is written, and the code of the
@@ -144,7 +172,8 @@ pub fn each_fault_gives<R: AllocGlobal + Threads + Sync + Abort>(
     rows: &[FaultRow],
 ) -> Result<(), Fail> {
     for (words, shelf_call, sink_call, want, code) in rows.iter().copied() {
-        gives(rt, words, book, (shelf_call, sink_call), (want, code))?;
+        let want = (want.as_bytes(), code, stalls_told(want));
+        gives(rt, (words, book, (shelf_call, sink_call)), want)?;
     }
     Ok(())
 }
@@ -180,26 +209,54 @@ pub fn words_in(alloc: Global, line: &str) -> Result<Vec<String>, AllocError> {
     Ok(words)
 }
 
-const NO_COMMANDS: [Row; 14] = [
-    ("", "", USAGE, 64),
-    ("a b", "", USAGE, 64),
-    ("-x", "", USAGE, 64),
-    ("--workers 9 b", "", USAGE, 64),
-    ("--workers 0 b", "", USAGE, 64),
-    ("--steps x b", "", USAGE, 64),
-    ("--steps 100000000 b", "", USAGE, 64),
-    ("--cells 999 b", "", USAGE, 64),
-    ("--enum-bits 17 b", "", USAGE, 64),
-    ("--generate 10001", "", USAGE, 64),
-    ("--generate", "", USAGE, 64),
-    ("b --generate 3", "", USAGE, 64),
-    ("--enum-bits 3", "", USAGE, 64),
-    ("--help", "", USAGE, 64),
-];
+const NO_COMMANDS: &str = r#"
+==
+=> 64
+USAGE gl [--workers N] [--steps N] [--cells N] [--nodes N] [--clauses N] [--enum-bits N] (BOOK | --generate N)
+== a b
+=> 64
+USAGE gl [--workers N] [--steps N] [--cells N] [--nodes N] [--clauses N] [--enum-bits N] (BOOK | --generate N)
+== -x
+=> 64
+USAGE gl [--workers N] [--steps N] [--cells N] [--nodes N] [--clauses N] [--enum-bits N] (BOOK | --generate N)
+== --workers 9 b
+=> 64
+USAGE gl [--workers N] [--steps N] [--cells N] [--nodes N] [--clauses N] [--enum-bits N] (BOOK | --generate N)
+== --workers 0 b
+=> 64
+USAGE gl [--workers N] [--steps N] [--cells N] [--nodes N] [--clauses N] [--enum-bits N] (BOOK | --generate N)
+== --steps x b
+=> 64
+USAGE gl [--workers N] [--steps N] [--cells N] [--nodes N] [--clauses N] [--enum-bits N] (BOOK | --generate N)
+== --steps 100000000 b
+=> 64
+USAGE gl [--workers N] [--steps N] [--cells N] [--nodes N] [--clauses N] [--enum-bits N] (BOOK | --generate N)
+== --cells 999 b
+=> 64
+USAGE gl [--workers N] [--steps N] [--cells N] [--nodes N] [--clauses N] [--enum-bits N] (BOOK | --generate N)
+== --enum-bits 17 b
+=> 64
+USAGE gl [--workers N] [--steps N] [--cells N] [--nodes N] [--clauses N] [--enum-bits N] (BOOK | --generate N)
+== --generate 10001
+=> 64
+USAGE gl [--workers N] [--steps N] [--cells N] [--nodes N] [--clauses N] [--enum-bits N] (BOOK | --generate N)
+== --generate
+=> 64
+USAGE gl [--workers N] [--steps N] [--cells N] [--nodes N] [--clauses N] [--enum-bits N] (BOOK | --generate N)
+== b --generate 3
+=> 64
+USAGE gl [--workers N] [--steps N] [--cells N] [--nodes N] [--clauses N] [--enum-bits N] (BOOK | --generate N)
+== --enum-bits 3
+=> 64
+USAGE gl [--workers N] [--steps N] [--cells N] [--nodes N] [--clauses N] [--enum-bits N] (BOOK | --generate N)
+== --help
+=> 64
+USAGE gl [--workers N] [--steps N] [--cells N] [--nodes N] [--clauses N] [--enum-bits N] (BOOK | --generate N)
+"#;
 
 #[test]
 fn words_that_are_no_command(rt: HostRuntime) -> Result<(), Fail> {
-    all_give(&rt, &NO_COMMANDS)
+    all_give(&rt, NO_COMMANDS)
 }
 
 /// No flush follows the usage line.
@@ -210,22 +267,29 @@ fn usage_line_that_is_not_taken(rt: HostRuntime) -> Result<(), Fail> {
     each_fault_gives(&rt, "", &NOT_TAKEN)
 }
 
-const WIDE: &str =
-    "(def-gl-thm w :hyp (unsigned-byte-p 3 x) :concl (< x 8) :g-bindings (auto-bindings (:nat x 3)))";
-
-const WIDE_LINES: &str = "PROVED W\nDONE proved=1 vacuous=0 refuted=0 undecided=0\n";
-
-const OPTIONS: [Row; 5] = [
-    ("--workers 8 --steps 007 --cells 4000000 b", "", DONE, 0),
-    ("b --nodes=100 --clauses 1", "", DONE, 0),
-    ("--generate 0", "", DONE, 0),
-    ("--enum-bits 3 b", WIDE, WIDE_LINES, 0),
-    ("--enum-bits 4 b", WIDE, WIDE_LINES, 0),
-];
+const OPTIONS: &str = r#"
+== --workers 8 --steps 007 --cells 4000000 b
+=> 0
+DONE proved=0 vacuous=0 refuted=0 undecided=0
+== b --nodes=100 --clauses 1
+=> 0
+DONE proved=0 vacuous=0 refuted=0 undecided=0
+== --generate 0
+=> 0
+DONE proved=0 vacuous=0 refuted=0 undecided=0
+== --enum-bits 3 b
+(def-gl-thm w :hyp (unsigned-byte-p 3 x) :concl (< x 8) :g-bindings (auto-bindings (:nat x 3)))=> 0
+PROVED W
+DONE proved=1 vacuous=0 refuted=0 undecided=0
+== --enum-bits 4 b
+(def-gl-thm w :hyp (unsigned-byte-p 3 x) :concl (< x 8) :g-bindings (auto-bindings (:nat x 3)))=> 0
+PROVED W
+DONE proved=1 vacuous=0 refuted=0 undecided=0
+"#;
 
 #[test]
 fn words_of_each_option(rt: HostRuntime) -> Result<(), Fail> {
-    all_give(&rt, &OPTIONS)
+    all_give(&rt, OPTIONS)
 }
 
 const GENERATED: &str =

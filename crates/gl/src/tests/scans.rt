@@ -1,23 +1,21 @@
 //! A theorem's inputs, tried by two workers at once.
 
 use super::meeting::Meeting;
-use super::shapes::bound;
-use super::terms::form_of;
 use gl_base::limits::Limits;
 use gl_decide::{Scan, scan};
-use gl_logic::{NoMemory, Term, TextId, Texts, Tree, World};
-use shape_spec::{Bindings, FnSet, Mode, Thm, bit_count};
+use gl_logic::{NoMemory, Term, TextId, Tree, World};
+use shape_spec::{Bindings, FnSet, Mode, Shape, Thm, bit_count};
 use std::alloc::Global;
 use std::process::Abort;
 use std::test::Fail;
 use std::thread::Threads;
 
-const TWO: &[u8] = b"( QUOTE ( ( X ( :G-BOOLEAN . 0 ) ) ( Y ( :G-BOOLEAN . 1 ) ) ) )";
-
 /// The bindings of two Boolean variables.
-fn two_variables(alloc: Global, texts: &mut Texts) -> Result<Bindings, NoMemory> {
-    let form = form_of(alloc, TWO, texts)?;
-    bound(alloc, &form, texts)?.ok_or(NoMemory)
+fn two_variables(alloc: Global) -> Result<Bindings, NoMemory> {
+    let mut bindings = Bindings::new(alloc);
+    bindings.push(alloc, TextId { number: 7 }, Shape::Boolean(0))?;
+    bindings.push(alloc, TextId { number: 9 }, Shape::Boolean(1))?;
+    Ok(bindings)
 }
 
 /// Scans the inputs of a theorem of two variables by two workers.
@@ -46,7 +44,7 @@ fn scanned<R: Abort + Threads + Sync>(
 
 #[test]
 fn pieces_meet(rt: HostRuntime) -> Result<(), Fail> {
-    let bindings = two_variables(rt.alloc(), &mut Texts::new(rt.alloc())?)?;
+    let bindings = two_variables(rt.alloc())?;
     let gate = Meeting::new();
     assert!(rt; scanned(&rt, rt.alloc(), bindings, &gate)? == Scan::Clean(true));
     assert!(rt; gate.met() == 2);
