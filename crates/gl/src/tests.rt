@@ -1,14 +1,10 @@
 mod adapters;
 mod admitted;
-mod bit_lists;
 mod books;
 mod faults;
-mod integers;
 mod long_books;
 mod meeting;
-mod node_counts;
 mod phases;
-mod plain_circuits;
 mod prefixes;
 mod readings;
 mod refusals;

@@ -2,7 +2,7 @@ use Rattle.std.proofs.Common.{ℕ, ◌<◌, get_or, arith, below_more, ap, subst
 use Rattle.bfr_store.specs.declared.edge.Edge.{Edge}
 use Rattle.bdd_store.specs.Nodes.{IsLive}
 use Rattle.sym_bits.proofs.Reading.{read_at}
-use Rattle.gl.proofs.tests.integers.check.Goals as goal
+use Rattle.circuit_rows.proofs.tests.integers.check.Goals as goal
 
 pub loop-k-preserved : goal.loop-k-preserved
 loop-k-preserved g c =
