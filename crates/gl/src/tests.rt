@@ -6,7 +6,6 @@ mod long_books;
 mod meeting;
 mod phases;
 mod prefixes;
-mod readings;
 mod refusals;
 mod rows;
 mod scans;
