@@ -1,7 +1,7 @@
 //! Worked texts, long texts, and the front of a book byte by byte.
 
 mod books;
-mod long;
+mod ends;
 mod rows;
 
 use gl_logic::{NoMemory, Texts};
