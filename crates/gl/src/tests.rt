@@ -1,5 +1,4 @@
 mod adapters;
-mod admitted;
 mod books;
 mod faults;
 mod long_books;
@@ -9,8 +8,6 @@ mod prefixes;
 mod refusals;
 mod rows;
 mod scans;
-mod shapes;
-mod terms;
 mod texts;
 mod theorems;
 mod vectors;

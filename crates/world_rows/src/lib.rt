@@ -1,6 +1,6 @@
-//! Forms and their events, and the world that every book begins with.
+//! Forms with their terms, events, shapes and measures, and the world that every book begins with.
 //!
-//! This crate has no code but its tests, of `event_world`.
+//! This crate has no code but its tests, of `gl_translate`, `admission`, `shape_spec` and `event_world`.
 #![tactic(auto)]
 
 #[cfg(test)]

@@ -1,4 +1,8 @@
-//! Books' worlds and events, with ample memory.
+//! What forms mean, books' worlds and events, with ample memory.
 
+mod admitted;
 mod events;
 mod first_world;
+mod reader;
+mod shapes;
+mod terms;

@@ -1,13 +1,12 @@
 //! Forms and their events, with ample memory.
 
 mod probes;
-mod reader;
 
+use super::reader::form_of;
 use event_world::{Event, EventFault, event_of, prelude};
 use gl_logic::{Measure, NoMemory, Texts, Tree, World};
 use gl_translate::TermFault;
 use probes::PROBES;
-use reader::form_of;
 use shape_spec::{FnSet, Mode};
 use std::alloc::Global;
 use std::process::Abort;
@@ -128,235 +127,149 @@ fn try_row(
     alloc: Global,
     world: &World,
     texts: &mut Texts,
-    form: &str,
-    wanted: &str,
+    row: &str,
 ) -> Result<(), NoMemory> {
+    let (form, wanted) = row.split_once(" => ").expect(rt, row);
     let tree = form_of(alloc, form.as_bytes(), texts)?;
     let given = answer(alloc, &tree, world, texts)?;
-    assert!(rt; given.as_bytes() == wanted.as_bytes(), "{form} is {wanted}");
+    assert!(rt; given.as_bytes() == wanted.as_bytes(), "{row}");
     Ok(())
 }
 
-fn try_rows(rt: &impl Abort, alloc: Global, rows: &[(&str, &str)]) -> Result<(), Fail> {
+/// A row is a form and what it is, on one line; the first line is empty.
+fn try_rows(rt: &impl Abort, alloc: Global, rows: &str) -> Result<(), Fail> {
     let mut texts = Texts::new(alloc)?;
     let world = world_of(alloc, &mut texts)?;
-    for (form, wanted) in rows {
-        try_row(rt, alloc, &world, &mut texts, form, wanted)?;
+    for row in rows.lines().skip(1) {
+        try_row(rt, alloc, &world, &mut texts, row)?;
     }
     Ok(())
 }
 
 /// Each event, and each check that fails first.
-const ROWS: [(&str, &str); 118] = [
-    ("5", "V1"),
-    ("DEFUN", "V1"),
-    ("()", "V1"),
-    ("(5)", "V1"),
-    ("((DEFUN))", "V1"),
-    ("(DEFTHM A T)", "V1"),
-    ("(IN-PACKAGE \"ACL2)", "nothing"),
-    ("(IN-PACKAGE)", "V2"),
-    ("(IN-PACKAGE \"acl2)", "V2"),
-    ("(IN-PACKAGE ACL2)", "V2"),
-    ("(INCLUDE-BOOK \"centaur/gl/gl :DIR :SYSTEM)", "nothing"),
-    ("(INCLUDE-BOOK \"other :DIR :SYSTEM)", "V2"),
-    ("(INCLUDE-BOOK \"centaur/gl/gl)", "V2"),
-    ("(GL-BDD-MODE)", "bdd"),
-    ("(GL-SATLINK-MODE)", "sat"),
-    ("(GL-BDD-MODE 1)", "V2"),
-    ("(GL-BDD-MODE . X)", "V2"),
-    ("(VALUE-TRIPLE (CONS *K* 1))", "value"),
-    ("(VALUE-TRIPLE X)", "V6"),
-    ("(VALUE-TRIPLE 1 :CHECK T)", "V2"),
-    ("(ASSERT-EVENT T)", "assert"),
-    ("(ASSERT-EVENT)", "V2"),
-    ("(MEMOIZE (QUOTE H))", "V4"),
-    ("(MEMOIZE (QUOTE 5))", "V4"),
-    ("(MEMOIZE (QUOTE IF))", "V4"),
-    ("(UNMEMOIZE (QUOTE H))", "V4"),
-    ("(MEMOIZE H)", "V2"),
-    ("(MEMOIZE (QUOTE H) :CONDITION T)", "V2"),
-    ("(DEFCONST *D* (CONS 2 3))", "defconst"),
-    ("(DEFCONST *K* 5)", "redundant"),
-    ("(DEFCONST *K* 6)", "V3"),
-    ("(DEFCONST *D* X)", "V6"),
-    ("(DEFCONST ** 1)", "V2"),
-    ("(DEFCONST D 1)", "V2"),
-    ("(DEFCONST *D*)", "V2"),
-    ("(DEFUN P (X) X)", "redundant"),
-    ("(DEFUN P (Y) Y)", "V3"),
-    ("(DEFUN T1 (Y) Y)", "V3"),
-    ("(DEFUN H (X) X)", "defun"),
-    ("(DEFUN H (X) \"doc X)", "defun"),
-    ("(DEFUN H (X) \"doc \"more X)", "V2"),
-    ("(DEFUN H (X) (DECLARE (IGNORABLE X)) \"doc X)", "defun"),
-    ("(DEFUN H (X) 5 X)", "V2"),
-    ("(DEFUN H . X)", "V2"),
-    ("(DEFUN H)", "V2"),
-    ("(DEFUN H (X))", "V2"),
-    ("(DEFUN * (X) X)", "V2"),
-    ("(DEFUN :H (X) X)", "V2"),
-    ("(DEFUN T (X) X)", "V2"),
-    ("(DEFUN *H* (X) (DECLARE (FOO)) X)", "V2"),
-    ("(DEFUN CAR (X) (DECLARE (FOO)) X)", "V11"),
-    ("(DEFUN H (X) (DECLARE . X) X)", "V11"),
-    ("(DEFUN H (X) (DECLARE (XARGS :FOO 1)) X)", "V11"),
-    ("(DEFUN H (X) (DECLARE (XARGS :GUARD)) X)", "V11"),
-    (
-        "(DEFUN H (X) (DECLARE (XARGS :GUARD T) (XARGS :GUARD T)) X)",
-        "V11",
-    ),
-    (
-        "(DEFUN H (X) (DECLARE (XARGS :GUARD T)) (DECLARE (XARGS :GUARD T)) X)",
-        "V11",
-    ),
-    (
-        "(DEFUN H (X) (DECLARE (XARGS :GUARD T :HINTS X) (OPTIMIZE X)) X)",
-        "defun",
-    ),
-    ("(DEFUN H (X) (DECLARE (XARGS :MEASURE (LEN Y))) X)", "V11"),
-    (
-        "(DEFUN H (X) (DECLARE (XARGS :MEASURE (NFIX (- X X)))) X)",
-        "V11",
-    ),
-    (
-        "(DEFUN H (X) (DECLARE (XARGS :MEASURE (MAKE-ORD 1 (+ 2 (LEN X)) (LEN X)))) X)",
-        "V11",
-    ),
-    (
-        "(DEFUN H (X) (DECLARE (XARGS :MEASURE (LEN X))) X)",
-        "defun",
-    ),
-    ("(DEFUN AND (X) X)", "V3"),
-    ("(DEFUN REST (X) X)", "V3"),
-    ("(DEFUN CADDR (X) X)", "V3"),
-    ("(DEFUN ASH (X) X)", "V3"),
-    ("(DEFUN QUOTE (T) X)", "V3"),
-    ("(DEFUN DEFUN (X) X)", "defun"),
-    ("(DEFUN H (T) 1)", "V7"),
-    ("(DEFUN H (X X) 1)", "V7"),
-    ("(DEFUN H (` X) 1)", "V7"),
-    ("(DEFUN H (X . Y) 1)", "V2"),
-    ("(DEFUN H (X) (H))", "V5"),
-    ("(DEFUN H (X) Y)", "V6"),
-    ("(DEFUN H (X) (I X))", "V4"),
-    ("(DEFUN BAD (X) (IF (CONSP X) (BAD X) NIL))", "V8 1"),
-    ("(DEFUN H (X) (IF (CONSP X) (H (CDR X)) (H X)))", "V8 2"),
-    ("(DEFUN H () (H))", "V8 1"),
-    (
-        "(DEFUN H (X) (IF (CONSP X) (H (CDR X)) NIL))",
-        "defun count",
-    ),
-    (
-        "(DEFUN H (X Y) (IF (CONSP Y) (H X (CDR Y)) NIL))",
-        "defun count",
-    ),
-    (
-        "(DEFUN H (X) (DECLARE (XARGS :MEASURE (LEN X))) (IF (CONSP X) (H (CDR X)) NIL))",
-        "defun len",
-    ),
-    (
-        "(DEFUN H (X) (DECLARE (XARGS :MEASURE (LEN X))) (IF (CONSP X) (H (CAR X)) NIL))",
-        "V8 1",
-    ),
-    (
-        "(DEFUN H (X Y) (DECLARE (XARGS :MEASURE (MAKE-ORD 1 (+ 1 (LEN X)) (LEN Y)))) (IF (CONSP X) (IF (CONSP Y) (H X (CDR Y)) (H (CDR X) X)) NIL))",
-        "defun lex",
-    ),
-    (
-        "(DEFUN H (X Y) (DECLARE (XARGS :MEASURE (NFIX (- Y X)))) (IF (IF (INTEGERP X) (IF (INTEGERP Y) (< X Y) NIL) NIL) (H (+ 1 X) Y) 1))",
-        "defun gap",
-    ),
-    ("(MUTUAL-RECURSION)", "V2"),
-    ("(MUTUAL-RECURSION (DEFUN H (X) X) (DEFCONST *D* 1))", "V2"),
-    ("(MUTUAL-RECURSION (DEFUN H (X) X) (DEFUN H (X) X))", "V2"),
-    ("(MUTUAL-RECURSION (DEFUN P (X) X))", "redundant clique"),
-    (
-        "(MUTUAL-RECURSION (DEFUN P (X) X) (DEFUN Q (X) X))",
-        "redundant clique",
-    ),
-    ("(MUTUAL-RECURSION (DEFUN P (X) X) (DEFUN P (X) X))", "V2"),
-    ("(MUTUAL-RECURSION (DEFUN P (X) X) (DEFUN H (X) X))", "V3"),
-    (
-        "(MUTUAL-RECURSION (DEFUN P (X) X) (DEFUN H (X) (DECLARE (FOO)) X))",
-        "V11",
-    ),
-    (
-        "(MUTUAL-RECURSION (DEFUN H (X) (I X X)) (DEFUN I (X) (J X)))",
-        "V5",
-    ),
-    (
-        "(MUTUAL-RECURSION (DEFUN H (X) (IF (CONSP X) (I (CDR X)) T)) (DEFUN I (X) (IF (CONSP X) (H (CDR X)) NIL)))",
-        "clique",
-    ),
-    (
-        "(MUTUAL-RECURSION (DEFUN H (X) (IF (CONSP X) (I (CDR X)) T)) (DEFUN I (X) (IF (CONSP X) (H X) NIL)))",
-        "V8 2",
-    ),
-    (
-        "(DEF-GL-THM U :CONCL (EQUAL X X) :G-BINDINGS (QUOTE ((X 5))))",
-        "theorem",
-    ),
-    (
-        "(DEF-GL-THM T1 :CONCL T :G-BINDINGS (QUOTE ()))",
-        "redundant",
-    ),
-    ("(DEF-GL-THM T1 :CONCL NIL :G-BINDINGS (QUOTE ()))", "V3"),
-    ("(DEF-GL-THM 5 :CONCL T :G-BINDINGS (QUOTE ()))", "V2"),
-    ("(DEF-GL-THM U :CONCL T)", "V2"),
-    ("(DEF-GL-THM U :CONCL T :G-BINDINGS)", "V2"),
-    (
-        "(DEF-GL-THM U :FOO 1 :CONCL T :G-BINDINGS (QUOTE ()))",
-        "V11",
-    ),
-    (
-        "(DEF-GL-THM U :CONCL T :CONCL T :G-BINDINGS (QUOTE ()))",
-        "V11",
-    ),
-    (
-        "(DEF-GL-THM U :CONCL T :G-BINDINGS (QUOTE ()) :CONCL-CLK 1000001)",
-        "V11",
-    ),
-    ("(DEF-GL-THM U :CONCL (I) :G-BINDINGS 5)", "V4"),
-    (
-        "(DEF-GL-THM U :CONCL (EQUAL X Y) :G-BINDINGS (QUOTE ((X 5))))",
-        "V10",
-    ),
-    ("(DEF-GL-THM U :CONCL T :G-BINDINGS 5)", "V10"),
-    (
-        "(DEF-GL-THM U :RULE-CLASSES NIL :G-BINDINGS (AUTO-BINDINGS (:NAT X 4)) :HYP (CONSP X) :HYP-CLK 1 :CONCL T)",
-        "theorem",
-    ),
-    ("(MEMOIZE (QUOTE LEN))", "memoize"),
-    ("(UNMEMOIZE (QUOTE LEN))", "unmemoize"),
-    ("(DEFUN LEN (X) X)", "V3"),
-    (
-        "(DEFUN TWO (N) (DECLARE (XARGS :MEASURE (NFIX N))) (IF (ZP N) NIL (TWO (- N 2))))",
-        "defun nat",
-    ),
-    ("(DEFUN TWO (N) (IF (ZP N) NIL (TWO (- N 2))))", "V8 1"),
-    ("(DEFCONST *N* (+ 2 3))", "defconst"),
-    ("(ASSERT-EVENT (EQUAL (* *K* *K*) 25))", "assert"),
-    (
-        "(DEFUN ACK (M N) (DECLARE (XARGS :MEASURE (MAKE-ORD 1 (+ 1 (NFIX M)) (NFIX N)))) (IF (ZP M) (+ N 1) (IF (ZP N) (ACK (- M 1) 1) (ACK (- M 1) (ACK M (- N 1))))))",
-        "defun lex",
-    ),
-    (
-        "(DEFUN ACK (M N) (IF (ZP M) (+ N 1) (IF (ZP N) (ACK (- M 1) 1) (ACK (- M 1) (ACK M (- N 1))))))",
-        "V8",
-    ),
-    (
-        "(MUTUAL-RECURSION (DEFUN EV (N) (IF (ZP N) T (OD (- N 1)))) (DEFUN OD (N) (IF (ZP N) NIL (EV (- N 1)))))",
-        "clique",
-    ),
-    (
-        "(MUTUAL-RECURSION (DEFUN EV (N) (IF (ZP N) T (OD (- N 1)))) (DEFUN OD (N) (IF (ZP N) NIL (EV N))))",
-        "V8 2",
-    ),
-];
+const ROWS: &str = r#"
+5 => V1
+DEFUN => V1
+() => V1
+(5) => V1
+((DEFUN)) => V1
+(DEFTHM A T) => V1
+(IN-PACKAGE "ACL2) => nothing
+(IN-PACKAGE) => V2
+(IN-PACKAGE "acl2) => V2
+(IN-PACKAGE ACL2) => V2
+(INCLUDE-BOOK "centaur/gl/gl :DIR :SYSTEM) => nothing
+(INCLUDE-BOOK "other :DIR :SYSTEM) => V2
+(INCLUDE-BOOK "centaur/gl/gl) => V2
+(GL-BDD-MODE) => bdd
+(GL-SATLINK-MODE) => sat
+(GL-BDD-MODE 1) => V2
+(GL-BDD-MODE . X) => V2
+(VALUE-TRIPLE (CONS *K* 1)) => value
+(VALUE-TRIPLE X) => V6
+(VALUE-TRIPLE 1 :CHECK T) => V2
+(ASSERT-EVENT T) => assert
+(ASSERT-EVENT) => V2
+(MEMOIZE (QUOTE H)) => V4
+(MEMOIZE (QUOTE 5)) => V4
+(MEMOIZE (QUOTE IF)) => V4
+(UNMEMOIZE (QUOTE H)) => V4
+(MEMOIZE H) => V2
+(MEMOIZE (QUOTE H) :CONDITION T) => V2
+(DEFCONST *D* (CONS 2 3)) => defconst
+(DEFCONST *K* 5) => redundant
+(DEFCONST *K* 6) => V3
+(DEFCONST *D* X) => V6
+(DEFCONST ** 1) => V2
+(DEFCONST D 1) => V2
+(DEFCONST *D*) => V2
+(DEFUN P (X) X) => redundant
+(DEFUN P (Y) Y) => V3
+(DEFUN T1 (Y) Y) => V3
+(DEFUN H (X) X) => defun
+(DEFUN H (X) "doc X) => defun
+(DEFUN H (X) "doc "more X) => V2
+(DEFUN H (X) (DECLARE (IGNORABLE X)) "doc X) => defun
+(DEFUN H (X) 5 X) => V2
+(DEFUN H . X) => V2
+(DEFUN H) => V2
+(DEFUN H (X)) => V2
+(DEFUN * (X) X) => V2
+(DEFUN :H (X) X) => V2
+(DEFUN T (X) X) => V2
+(DEFUN *H* (X) (DECLARE (FOO)) X) => V2
+(DEFUN CAR (X) (DECLARE (FOO)) X) => V11
+(DEFUN H (X) (DECLARE . X) X) => V11
+(DEFUN H (X) (DECLARE (XARGS :FOO 1)) X) => V11
+(DEFUN H (X) (DECLARE (XARGS :GUARD)) X) => V11
+(DEFUN H (X) (DECLARE (XARGS :GUARD T) (XARGS :GUARD T)) X) => V11
+(DEFUN H (X) (DECLARE (XARGS :GUARD T)) (DECLARE (XARGS :GUARD T)) X) => V11
+(DEFUN H (X) (DECLARE (XARGS :GUARD T :HINTS X) (OPTIMIZE X)) X) => defun
+(DEFUN H (X) (DECLARE (XARGS :MEASURE (LEN Y))) X) => V11
+(DEFUN H (X) (DECLARE (XARGS :MEASURE (NFIX (- X X)))) X) => V11
+(DEFUN H (X) (DECLARE (XARGS :MEASURE (MAKE-ORD 1 (+ 2 (LEN X)) (LEN X)))) X) => V11
+(DEFUN H (X) (DECLARE (XARGS :MEASURE (LEN X))) X) => defun
+(DEFUN AND (X) X) => V3
+(DEFUN REST (X) X) => V3
+(DEFUN CADDR (X) X) => V3
+(DEFUN ASH (X) X) => V3
+(DEFUN QUOTE (T) X) => V3
+(DEFUN DEFUN (X) X) => defun
+(DEFUN H (T) 1) => V7
+(DEFUN H (X X) 1) => V7
+(DEFUN H (` X) 1) => V7
+(DEFUN H (X . Y) 1) => V2
+(DEFUN H (X) (H)) => V5
+(DEFUN H (X) Y) => V6
+(DEFUN H (X) (I X)) => V4
+(DEFUN BAD (X) (IF (CONSP X) (BAD X) NIL)) => V8 1
+(DEFUN H (X) (IF (CONSP X) (H (CDR X)) (H X))) => V8 2
+(DEFUN H () (H)) => V8 1
+(DEFUN H (X) (IF (CONSP X) (H (CDR X)) NIL)) => defun count
+(DEFUN H (X Y) (IF (CONSP Y) (H X (CDR Y)) NIL)) => defun count
+(DEFUN H (X) (DECLARE (XARGS :MEASURE (LEN X))) (IF (CONSP X) (H (CDR X)) NIL)) => defun len
+(DEFUN H (X) (DECLARE (XARGS :MEASURE (LEN X))) (IF (CONSP X) (H (CAR X)) NIL)) => V8 1
+(DEFUN H (X Y) (DECLARE (XARGS :MEASURE (MAKE-ORD 1 (+ 1 (LEN X)) (LEN Y)))) (IF (CONSP X) (IF (CONSP Y) (H X (CDR Y)) (H (CDR X) X)) NIL)) => defun lex
+(DEFUN H (X Y) (DECLARE (XARGS :MEASURE (NFIX (- Y X)))) (IF (IF (INTEGERP X) (IF (INTEGERP Y) (< X Y) NIL) NIL) (H (+ 1 X) Y) 1)) => defun gap
+(MUTUAL-RECURSION) => V2
+(MUTUAL-RECURSION (DEFUN H (X) X) (DEFCONST *D* 1)) => V2
+(MUTUAL-RECURSION (DEFUN H (X) X) (DEFUN H (X) X)) => V2
+(MUTUAL-RECURSION (DEFUN P (X) X)) => redundant clique
+(MUTUAL-RECURSION (DEFUN P (X) X) (DEFUN Q (X) X)) => redundant clique
+(MUTUAL-RECURSION (DEFUN P (X) X) (DEFUN P (X) X)) => V2
+(MUTUAL-RECURSION (DEFUN P (X) X) (DEFUN H (X) X)) => V3
+(MUTUAL-RECURSION (DEFUN P (X) X) (DEFUN H (X) (DECLARE (FOO)) X)) => V11
+(MUTUAL-RECURSION (DEFUN H (X) (I X X)) (DEFUN I (X) (J X))) => V5
+(MUTUAL-RECURSION (DEFUN H (X) (IF (CONSP X) (I (CDR X)) T)) (DEFUN I (X) (IF (CONSP X) (H (CDR X)) NIL))) => clique
+(MUTUAL-RECURSION (DEFUN H (X) (IF (CONSP X) (I (CDR X)) T)) (DEFUN I (X) (IF (CONSP X) (H X) NIL))) => V8 2
+(DEF-GL-THM U :CONCL (EQUAL X X) :G-BINDINGS (QUOTE ((X 5)))) => theorem
+(DEF-GL-THM T1 :CONCL T :G-BINDINGS (QUOTE ())) => redundant
+(DEF-GL-THM T1 :CONCL NIL :G-BINDINGS (QUOTE ())) => V3
+(DEF-GL-THM 5 :CONCL T :G-BINDINGS (QUOTE ())) => V2
+(DEF-GL-THM U :CONCL T) => V2
+(DEF-GL-THM U :CONCL T :G-BINDINGS) => V2
+(DEF-GL-THM U :FOO 1 :CONCL T :G-BINDINGS (QUOTE ())) => V11
+(DEF-GL-THM U :CONCL T :CONCL T :G-BINDINGS (QUOTE ())) => V11
+(DEF-GL-THM U :CONCL T :G-BINDINGS (QUOTE ()) :CONCL-CLK 1000001) => V11
+(DEF-GL-THM U :CONCL (I) :G-BINDINGS 5) => V4
+(DEF-GL-THM U :CONCL (EQUAL X Y) :G-BINDINGS (QUOTE ((X 5)))) => V10
+(DEF-GL-THM U :CONCL T :G-BINDINGS 5) => V10
+(DEF-GL-THM U :RULE-CLASSES NIL :G-BINDINGS (AUTO-BINDINGS (:NAT X 4)) :HYP (CONSP X) :HYP-CLK 1 :CONCL T) => theorem
+(MEMOIZE (QUOTE LEN)) => memoize
+(UNMEMOIZE (QUOTE LEN)) => unmemoize
+(DEFUN LEN (X) X) => V3
+(DEFUN TWO (N) (DECLARE (XARGS :MEASURE (NFIX N))) (IF (ZP N) NIL (TWO (- N 2)))) => defun nat
+(DEFUN TWO (N) (IF (ZP N) NIL (TWO (- N 2)))) => V8 1
+(DEFCONST *N* (+ 2 3)) => defconst
+(ASSERT-EVENT (EQUAL (* *K* *K*) 25)) => assert
+(DEFUN ACK (M N) (DECLARE (XARGS :MEASURE (MAKE-ORD 1 (+ 1 (NFIX M)) (NFIX N)))) (IF (ZP M) (+ N 1) (IF (ZP N) (ACK (- M 1) 1) (ACK (- M 1) (ACK M (- N 1)))))) => defun lex
+(DEFUN ACK (M N) (IF (ZP M) (+ N 1) (IF (ZP N) (ACK (- M 1) 1) (ACK (- M 1) (ACK M (- N 1)))))) => V8
+(MUTUAL-RECURSION (DEFUN EV (N) (IF (ZP N) T (OD (- N 1)))) (DEFUN OD (N) (IF (ZP N) NIL (EV (- N 1))))) => clique
+(MUTUAL-RECURSION (DEFUN EV (N) (IF (ZP N) T (OD (- N 1)))) (DEFUN OD (N) (IF (ZP N) NIL (EV N)))) => V8 2
+"#;
 
 #[test]
 fn events(rt: HostRuntime) -> Result<(), Fail> {
-    try_rows(&rt, rt.alloc(), &ROWS)?;
-    try_rows(&rt, rt.alloc(), &PROBES)
+    try_rows(&rt, rt.alloc(), ROWS)?;
+    try_rows(&rt, rt.alloc(), PROBES)
 }

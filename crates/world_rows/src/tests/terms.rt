@@ -1,13 +1,13 @@
 //! Forms and their terms, with ample memory.
 
 mod deep;
-mod reader;
+mod objects;
 mod rows;
 
+use super::reader::form_of;
 use gl_logic::{Names, NoMemory, TextId, Texts, Tree, World};
 use gl_translate::{Owns, Scope, TermFault, term};
-use reader::object_of;
-pub(in crate::tests) use reader::{form_of, pair_of};
+use objects::object_of;
 use std::alloc::Global;
 use std::process::Abort;
 
@@ -104,27 +104,23 @@ fn try_row(
     scope: &Scope,
     world: &World,
     texts: &mut Texts,
-    row: (&str, &str),
+    row: &str,
 ) -> Result<(), NoMemory> {
-    let (form, wanted) = row;
+    let (form, wanted) = row.split_once(" => ").expect(rt, row);
     let read = form_of(alloc, form.as_bytes(), texts)?;
     let given = answer(alloc, &read, scope, world, texts)?;
     let read = form_of(alloc, wanted.as_bytes(), texts)?;
-    assert!(rt; given.same(&read), "{form} is {wanted}");
+    assert!(rt; given.same(&read), "{row}");
     Ok(())
 }
 
-fn try_rows(
-    rt: &impl Abort,
-    alloc: Global,
-    kind: Kind,
-    rows: &[(&str, &str)],
-) -> Result<(), NoMemory> {
+/// A row is a form and its term, or the code of its fault, on one line; the first line is empty.
+fn try_rows(rt: &impl Abort, alloc: Global, kind: Kind, rows: &str) -> Result<(), NoMemory> {
     let mut texts = Texts::new(alloc)?;
     let scope = scope_of(alloc, kind, &mut texts)?;
     let world = world_of(alloc, &mut texts)?;
-    for row in rows {
-        try_row(rt, alloc, &scope, &world, &mut texts, *row)?;
+    for row in rows.lines().skip(1) {
+        try_row(rt, alloc, &scope, &world, &mut texts, row)?;
     }
     Ok(())
 }

@@ -1,6 +1,6 @@
 //! Bindings and inputs by hand: what no clause says is that the calls succeed.
 
-use super::terms::{form_of, pair_of};
+use super::reader::{form_of, pair_of};
 use gl_logic::{Assignment, FnId, NoMemory, TextId, Texts, Tree, TreeKind};
 use shape_spec::{
     BindFault, Bindings, FnSet, Inputs, Shape, bindings, bit_count, input_numbered, input_of,
@@ -38,11 +38,7 @@ fn first_of(alloc: Global, all: &Bindings, number: u64) -> Result<Tree, NoMemory
 }
 
 /// The bindings of a form; none where it is bad.
-pub(in crate::tests) fn bound(
-    alloc: Global,
-    form: &Tree,
-    texts: &Texts,
-) -> Result<Option<Bindings>, NoMemory> {
+fn bound(alloc: Global, form: &Tree, texts: &Texts) -> Result<Option<Bindings>, NoMemory> {
     match bindings(alloc, form, texts) {
         Ok(all) => Ok(Some(all)),
         Err(BindFault::Bad) => Ok(None),

@@ -1,7 +1,7 @@
 //! Deep and large forms.
 
-use super::reader::list_of;
 use super::*;
+use crate::tests::reader::{list_of, pair_of};
 use std::test::Fail;
 
 /// A head, a form so many times, and a last form.

@@ -4,6 +4,12 @@ use gl_logic::{NoMemory, TextId, Texts, Tree, TreeKind};
 use std::alloc::Global;
 use std::mem;
 
+/// The list of two.
+pub(super) fn pair_of(alloc: Global, first: Tree, second: Tree) -> Result<Tree, NoMemory> {
+    let rest = Tree::pair(alloc, second, Tree::nil())?;
+    Tree::pair(alloc, first, rest)
+}
+
 fn is_symbol(object: Option<&Tree>, name: TextId) -> bool {
     match object {
         Some(object) => match object.kind() {
@@ -15,7 +21,7 @@ fn is_symbol(object: Option<&Tree>, name: TextId) -> bool {
 }
 
 /// These elements in front of a tail.
-fn list_onto(alloc: Global, mut items: Vec<Tree>, tail: Tree) -> Result<Tree, NoMemory> {
+pub(super) fn list_onto(alloc: Global, mut items: Vec<Tree>, tail: Tree) -> Result<Tree, NoMemory> {
     let mut list = tail;
     for _ in 0..items.len() {
         if let Some(item) = items.pop() {
@@ -26,7 +32,11 @@ fn list_onto(alloc: Global, mut items: Vec<Tree>, tail: Tree) -> Result<Tree, No
 }
 
 /// A list of these elements. Where a single dot stands before the last one, that one is the tail.
-fn list_of(alloc: Global, mut items: Vec<Tree>, texts: &mut Texts) -> Result<Tree, NoMemory> {
+pub(super) fn list_of(
+    alloc: Global,
+    mut items: Vec<Tree>,
+    texts: &mut Texts,
+) -> Result<Tree, NoMemory> {
     let dot = texts.id_of(b".")?;
     let last = items.pop().unwrap_or(Tree::nil());
     if is_symbol(items.last(), dot) {
@@ -62,7 +72,8 @@ fn integer(token: &[u8]) -> Option<i128> {
     }
 }
 
-/// A token: an integer, `#` and a character, `"` and the text of a string, or a symbol.
+/// A token: an integer, `#` and a character, `"` and the text of a string, or a symbol. `@` is the symbol
+/// of the empty name.
 fn atom(token: &[u8], texts: &mut Texts) -> Result<Tree, NoMemory> {
     if let Some(value) = integer(token) {
         return Ok(Tree::int(value));
@@ -70,6 +81,7 @@ fn atom(token: &[u8], texts: &mut Texts) -> Result<Tree, NoMemory> {
     match token {
         [b'#', code] => Ok(Tree::character(*code)),
         [b'"', text @ ..] => Ok(Tree::string(texts.id_of(text)?)),
+        [b'@'] => Ok(Tree::symbol(texts.id_of(b"")?)),
         name => Ok(Tree::symbol(texts.id_of(name)?)),
     }
 }
