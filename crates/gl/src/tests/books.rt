@@ -115,22 +115,14 @@ fn books_of_values_and_theorems(rt: HostRuntime) -> Result<(), Fail> {
     all_give(&rt, BOOKS)
 }
 
-/// The calls of a run are the open, the bytes and the end; and no text has the last name.
-const SHELF_FAULTS: [FaultRow; 5] = [
+/// The calls of the shelf are the open, the bytes and the end, and no text has the last name; those of the sink are two
+/// lines and the flush.
+const FAULTS: [FaultRow; 9] = [
     ("b", 1, 0, "", 4),
     ("b", 2, 0, "", 4),
     ("b", 3, 0, "", 4),
     ("b", 4, 0, FIRST_LINES, 0),
     ("c", 4, 0, "", 4),
-];
-
-#[test]
-fn faults_of_the_shelf(rt: HostRuntime) -> Result<(), Fail> {
-    each_fault_gives(&rt, FIRST_BOOK, &SHELF_FAULTS)
-}
-
-/// The calls of a run are two lines and the flush.
-const SINK_FAULTS: [FaultRow; 4] = [
     ("b", 0, 1, "", 5),
     ("b", 0, 2, "VALUE A\n", 5),
     ("b", 0, 3, FIRST_LINES, 5),
@@ -138,8 +130,8 @@ const SINK_FAULTS: [FaultRow; 4] = [
 ];
 
 #[test]
-fn faults_of_the_sink(rt: HostRuntime) -> Result<(), Fail> {
-    each_fault_gives(&rt, FIRST_BOOK, &SINK_FAULTS)
+fn faults_of_shelf_and_sink(rt: HostRuntime) -> Result<(), Fail> {
+    each_fault_gives(&rt, FIRST_BOOK, &FAULTS)
 }
 
 /// A sink that takes a few bytes at a time.
@@ -197,8 +189,7 @@ fn try_slow<R: AllocGlobal + Threads + Sync + Abort>(
     out: &mut Slow,
 ) -> Result<(), Fail> {
     let code = code_of(rt, "b", shelf, out)?;
-    assert_eq!(rt; out.inner.bytes(), FIRST_LINES.as_bytes());
-    assert_eq!(rt; code, 0);
+    assert!(rt; code == 0 && out.inner.bytes() == FIRST_LINES.as_bytes());
     Ok(())
 }
 
@@ -224,8 +215,7 @@ fn try_sure<R: AllocGlobal + Threads + Sync + Abort>(
 ) -> Result<(), Fail> {
     let mut out = SureSink::new(rt.alloc(), 100)?;
     let code = code_of(rt, words, shelf, &mut out)?;
-    assert_eq!(rt; out.bytes(), want.as_bytes());
-    assert_eq!(rt; code, 0);
+    assert!(rt; code == 0 && out.bytes() == want.as_bytes(), "{words}");
     Ok(())
 }
 

@@ -103,15 +103,10 @@ pub fn gives<R: AllocGlobal + Threads + Sync + Abort>(
 /// Compares what a run gave. The run is told where it differs.
 pub fn compare(rt: &impl Abort, given: &Given, case: Case<'_>, want: Wanted<'_>) {
     let (words, book, (shelf_call, sink_call)) = case;
-    assert_eq!(rt;
-        given.bytes(),
-        want.0,
-        "{words}, {shelf_call}, {sink_call}: {book}"
-    );
-    let (code, stalls) = (given.code, given.stalls);
+    let (bytes, code, stalls) = (given.bytes(), given.code, given.stalls);
     assert!(rt;
-        code == want.1 && stalls == want.2,
-        "{words}, {shelf_call}, {sink_call}: {book}: status {code}, {stalls} stalls"
+        bytes == want.0 && code == want.1 && stalls == want.2,
+        "{words}, {shelf_call}, {sink_call}: {book}: {bytes:?}, status {code}, {stalls} stalls"
     );
 }
 
@@ -209,7 +204,8 @@ pub fn words_in(alloc: Global, line: &str) -> Result<Vec<String>, AllocError> {
     Ok(words)
 }
 
-const NO_COMMANDS: &str = r#"
+/// Words that are no command, and then words of each option.
+const COMMANDS: &str = r#"
 ==
 => 64
 USAGE gl [--workers N] [--steps N] [--cells N] [--nodes N] [--clauses N] [--enum-bits N] (BOOK | --generate N)
@@ -252,22 +248,6 @@ USAGE gl [--workers N] [--steps N] [--cells N] [--nodes N] [--clauses N] [--enum
 == --help
 => 64
 USAGE gl [--workers N] [--steps N] [--cells N] [--nodes N] [--clauses N] [--enum-bits N] (BOOK | --generate N)
-"#;
-
-#[test]
-fn words_that_are_no_command(rt: HostRuntime) -> Result<(), Fail> {
-    all_give(&rt, NO_COMMANDS)
-}
-
-/// No flush follows the usage line.
-const NOT_TAKEN: [FaultRow; 2] = [("", 0, 1, "", 5), ("", 0, 2, USAGE, 64)];
-
-#[test]
-fn usage_line_that_is_not_taken(rt: HostRuntime) -> Result<(), Fail> {
-    each_fault_gives(&rt, "", &NOT_TAKEN)
-}
-
-const OPTIONS: &str = r#"
 == --workers 8 --steps 007 --cells 4000000 b
 => 0
 DONE proved=0 vacuous=0 refuted=0 undecided=0
@@ -288,8 +268,16 @@ DONE proved=1 vacuous=0 refuted=0 undecided=0
 "#;
 
 #[test]
-fn words_of_each_option(rt: HostRuntime) -> Result<(), Fail> {
-    all_give(&rt, OPTIONS)
+fn words_of_commands(rt: HostRuntime) -> Result<(), Fail> {
+    all_give(&rt, COMMANDS)
+}
+
+/// No flush follows the usage line.
+const NOT_TAKEN: [FaultRow; 2] = [("", 0, 1, "", 5), ("", 0, 2, USAGE, 64)];
+
+#[test]
+fn usage_line_that_is_not_taken(rt: HostRuntime) -> Result<(), Fail> {
+    each_fault_gives(&rt, "", &NOT_TAKEN)
 }
 
 const GENERATED: &str =
