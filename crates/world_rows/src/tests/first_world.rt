@@ -2,6 +2,7 @@
 
 use event_world::prelude;
 use gl_logic::{Measure, NoMemory, Texts, World};
+use std::alloc::Global;
 use std::process::Abort;
 use std::test::Fail;
 
@@ -81,18 +82,19 @@ fn find_all(rt: &impl Abort, world: &World, texts: &mut Texts) -> Result<(), NoM
     Ok(())
 }
 
-#[test]
-fn the_first_definitions(rt: HostRuntime) -> Result<(), Fail> {
-    let alloc = rt.alloc();
-    let mut texts = Texts::new(alloc)?;
-    // a table that has other names, and some of these
+/// The world is made over a table that has another name, and some of these.
+fn try_prelude(rt: &impl Abort, alloc: Global, texts: &mut Texts) -> Result<(), NoMemory> {
     let f = texts.id_of(b"F")?;
     texts.id_of(b"NFIX")?;
     texts.id_of(b"X")?;
-    let world = prelude(alloc, &mut texts)?;
-    assert_eq!(rt; world.count(), 43);
-    assert_eq!(rt; world.constant_count(), 0);
+    let world = prelude(alloc, texts)?;
+    assert!(rt; world.count() == 43 && world.constant_count() == 0);
     assert!(rt; world.find(f).is_none());
-    find_all(&rt, &world, &mut texts)?;
-    Ok(())
+    find_all(rt, &world, texts)
+}
+
+#[test]
+fn the_first_definitions(rt: HostRuntime) -> Result<(), Fail> {
+    let mut texts = Texts::new(rt.alloc())?;
+    Ok(try_prelude(&rt, rt.alloc(), &mut texts)?)
 }
