@@ -5,11 +5,10 @@ ghost use Rattle.std.specs.Prelude.{◌≡◌, ◌<◌, length};
 
 use bfr_store::{Bits, Decision, Edge};
 use cnf_rup::{Clause, ClauseBook};
-use gl_logic::{Assignment, NoMemory};
+use gl_logic::Assignment;
 use sat_core::AigSat;
 use std::alloc::Global;
 use std::process::Abort;
-use std::test::Fail;
 
 fn variable(rt: &impl Abort, store: &mut AigSat, k: u32) -> Edge {
     assert!(rt; k < 1_000_000);
@@ -17,15 +16,12 @@ fn variable(rt: &impl Abort, store: &mut AigSat, k: u32) -> Edge {
 }
 
 fn conjunction(rt: &impl Abort, store: &mut AigSat, x: Edge, y: Edge) -> Edge {
-    assert!(rt; store.is_live(x));
-    assert!(rt; store.is_live(y));
+    assert!(rt; store.is_live(x) && store.is_live(y));
     store.and(x, y).expect(rt, "no room for a conjunction")
 }
 
 fn choice(rt: &impl Abort, store: &mut AigSat, t: Edge, x: Edge, y: Edge) -> Edge {
-    assert!(rt; store.is_live(t));
-    assert!(rt; store.is_live(x));
-    assert!(rt; store.is_live(y));
+    assert!(rt; store.is_live(t) && store.is_live(x) && store.is_live(y));
     store.ite(t, x, y).expect(rt, "no room for a choice")
 }
 
@@ -47,21 +43,16 @@ fn difference(rt: &impl Abort, store: &mut AigSat, x: Edge, y: Edge) -> Edge {
 }
 
 /// Decides an edge. An assignment that is handed out makes the edge true, and any other answer leaves all false.
-fn decide(
-    rt: &impl Abort,
-    alloc: Global,
-    store: &mut AigSat,
-    e: Edge,
-) -> Result<Decision, NoMemory> {
-    let mut out = Assignment::new(alloc, store.width())?;
+fn decide(rt: &impl Abort, alloc: Global, store: &mut AigSat, e: Edge) -> Decision {
     assert!(rt; store.is_live(e));
+    let mut out = Assignment::new(alloc, store.width()).expect(rt, "no memory");
     let count = store.count();
-    let decision = store.decide(e, &mut out)?;
+    let decision = store.decide(e, &mut out).expect(rt, "no memory");
     assert!(rt; store.is_live(e));
     let value = store.value(e, &out);
     assert!(rt; value == (decision == Decision::Sometimes), "{decision:?}");
     assert!(rt; store.count() == count && store.is_spent() == (decision == Decision::Spent));
-    Ok(decision)
+    decision
 }
 
 /// Whether the clause is the one that a wrong search learns.
@@ -133,10 +124,27 @@ fn formula(
     all
 }
 
+/// Decides a random formula.
+fn try_formula(rt: &impl Abort, alloc: Global, row: (u32, u32, u64, bool)) {
+    let (variables, clauses, number, satisfiable) = row;
+    let mut store = AigSat::new(alloc, 100_000, 100_000).expect(rt, "no memory");
+    let mut seed = 88_172_645_463_325_252u64.wrapping_mul(number);
+    let e = formula(rt, &mut store, variables, clauses, &mut seed);
+    let decision = decide(rt, alloc, &mut store, e);
+    let expected = if satisfiable {
+        Decision::Sometimes
+    } else {
+        Decision::Never
+    };
+    let (learned, empty) = taken(rt, &mut store);
+    let well = decision == expected && empty != satisfiable && learned < 1_000;
+    assert!(rt; well, "{variables} {clauses} {learned} {decision:?}");
+}
+
 /// Random formulas, by their count of variables, their count of clauses and a seed. Whether they can be satisfied is the
 /// answer of MiniSat 2.2 and of CaDiCaL 1.5 on the same clauses.
 #[test]
-fn random_formulas(rt: HostRuntime) -> Result<(), Fail> {
+fn random_formulas(rt: HostRuntime) {
     let rows = [
         (20, 91, 3, false),
         (20, 85, 5, false),
@@ -153,24 +161,9 @@ fn random_formulas(rt: HostRuntime) -> Result<(), Fail> {
         (60, 246, 27, true),
         (50, 300, 29, false),
     ];
-    for (variables, clauses, number, satisfiable) in rows {
-        let mut store = AigSat::new(rt.alloc(), 100_000, 100_000)?;
-        let mut seed = 88_172_645_463_325_252u64.wrapping_mul(number);
-        let e = formula(&rt, &mut store, variables, clauses, &mut seed);
-        let decision = decide(&rt, rt.alloc(), &mut store, e)?;
-        let expected = if satisfiable {
-            Decision::Sometimes
-        } else {
-            Decision::Never
-        };
-        assert!(rt; decision == expected, "{variables} {clauses} {decision:?}");
-        let (learned, empty) = taken(&rt, &mut store);
-        assert!(rt;
-            empty != satisfiable && learned < 1_000,
-            "{variables} {clauses} {learned}"
-        );
+    for row in rows {
+        try_formula(&rt, rt.alloc(), row);
     }
-    Ok(())
 }
 
 /// Each of so many pigeons in one hole, and no two in the same.
@@ -218,34 +211,47 @@ fn adders(rt: &impl Abort, store: &mut AigSat, width: u32) -> Edge {
     differs
 }
 
+/// Decides whether so many pigeons fit.
+fn try_pigeons(rt: &impl Abort, alloc: Global, size: u32, holes: u32, expected: Decision) {
+    let mut store = AigSat::new(alloc, 100_000, 100_000).expect(rt, "no memory");
+    let e = pigeons(rt, &mut store, size, holes);
+    let decision = decide(rt, alloc, &mut store, e);
+    let (_, empty) = taken(rt, &mut store);
+    let well = decision == expected && empty == (expected == Decision::Never);
+    assert!(rt; well, "{size} {holes}");
+}
+
 /// The pigeonhole principle, and two adders that are equal.
 #[test]
-fn known_functions(rt: HostRuntime) -> Result<(), Fail> {
+fn known_functions(rt: HostRuntime) {
     for (size, holes, expected) in [
         (3, 3, Decision::Sometimes),
         (4, 3, Decision::Never),
         (6, 5, Decision::Never),
     ] {
-        let mut store = AigSat::new(rt.alloc(), 100_000, 100_000)?;
-        let e = pigeons(&rt, &mut store, size, holes);
-        assert!(rt;
-            decide(&rt, rt.alloc(), &mut store, e)? == expected,
-            "{size} {holes}"
-        );
-        let (_, empty) = taken(&rt, &mut store);
-        assert!(rt; empty == (expected == Decision::Never));
+        try_pigeons(&rt, rt.alloc(), size, holes, expected);
     }
-    let mut store = AigSat::new(rt.alloc(), 100_000, 100_000)?;
+    let mut store = AigSat::new(rt.alloc(), 100_000, 100_000).expect(&rt, "no memory");
     let e = adders(&rt, &mut store, 16);
-    assert!(rt; decide(&rt, rt.alloc(), &mut store, e)? == Decision::Never);
+    assert!(rt; decide(&rt, rt.alloc(), &mut store, e) == Decision::Never);
     assert!(rt; taken(&rt, &mut store).1);
-    Ok(())
+}
+
+/// Compares what is decided of an edge, how many clauses are learned, and whether there is a search.
+fn try_edge(rt: &impl Abort, alloc: Global, store: &mut AigSat, row: (Edge, Decision, u32, bool)) {
+    let (e, expected, learned, searches) = row;
+    let decision = decide(rt, alloc, store, e);
+    let searched = store.propagations() > 0;
+    let (count, empty) = taken(rt, store);
+    let is_empty = empty == (expected == Decision::Never);
+    let well = decision == expected && searched == searches && count == learned && is_empty;
+    assert!(rt; well, "{e:?}");
 }
 
 /// Edges that need no search, a decision that is given up, and the ones after it.
 #[test]
-fn answers_and_books(rt: HostRuntime) -> Result<(), Fail> {
-    let mut store = AigSat::new(rt.alloc(), 1_000, 1)?;
+fn answers_and_books(rt: HostRuntime) {
+    let mut store = AigSat::new(rt.alloc(), 1_000, 1).expect(&rt, "no memory");
     assert!(rt; store.take_book().is_none() && store.limit() == 1_000);
     let high = store.constant(true);
     let x = variable(&rt, &mut store, 0);
@@ -256,7 +262,7 @@ fn answers_and_books(rt: HostRuntime) -> Result<(), Fail> {
     let neither = disjunction(&rt, &mut store, not_x, y);
     let low = complement(&rt, &store, high);
     let hard = pigeons(&rt, &mut store, 4, 3);
-    for (e, expected, learned, searches) in [
+    for row in [
         (high, Decision::Sometimes, 0, false),
         (x, Decision::Sometimes, 0, false),
         (not_y, Decision::Sometimes, 0, false),
@@ -266,16 +272,6 @@ fn answers_and_books(rt: HostRuntime) -> Result<(), Fail> {
         (hard, Decision::Spent, 1, true),
         (both, Decision::Sometimes, 0, true),
     ] {
-        assert!(rt;
-            decide(&rt, rt.alloc(), &mut store, e)? == expected,
-            "{e:?}"
-        );
-        assert!(rt; (store.propagations() > 0) == searches, "{e:?}");
-        let (count, empty) = taken(&rt, &mut store);
-        assert!(rt;
-            count == learned && empty == (expected == Decision::Never),
-            "{e:?}"
-        );
+        try_edge(&rt, rt.alloc(), &mut store, row);
     }
-    Ok(())
 }
