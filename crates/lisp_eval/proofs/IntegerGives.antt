@@ -1,9 +1,9 @@
 -- What terms over integers give, from what their parts give.
-use Rattle.std.proofs.Common.{◌≡◌, ◌∙◌, ap, sym, subst, ℕ, ◌+◌, ◌-◌, ℤ, List, [], ◌∷◌, Option, None, Some, Ok, IfSome, arith}
+use Rattle.std.proofs.Common.{◌≡◌, ◌∙◌, ap, sym, subst, ℕ, ◌+◌, ◌-◌, ℤ, Bool, true, false, List, [], ◌∷◌, Option, None, Some, Ok, IfSome, arith}
 use Rattle.gl_logic.specs.Definition.{Definition}
 use Rattle.gl_logic.specs.Environment.{look}
-use Rattle.gl_logic.specs.Exp.{Exp, Var, Const, Prim, Last, More}
-use Rattle.gl_logic.specs.Object.{Object, Int, nil}
+use Rattle.gl_logic.specs.Exp.{Exp, Exps, Var, Const, Prim, Last, More}
+use Rattle.gl_logic.specs.Object.{Object, Int, nil, boolean_object}
 use Rattle.gl_logic.specs.PrimValue.{prim_of}
 use Rattle.fast_alists.specs.Tables.{Agree}
 use Rattle.hons_arena.specs.Held.{Held, IsWhole}
@@ -11,12 +11,13 @@ use Rattle.lisp_eval.specs.Attempts.{Alists, Tells, unary_term, binary_term}
 use Rattle.lisp_eval.specs.Directs.{GivesAtOnce, GiveAtOnce, IsFound, scope_env}
 use Rattle.lisp_eval.specs.Integers.{GivesInteger, IsFoundAnywhere, IsFoundOn}
 use Rattle.lisp_eval.specs.Narrow.{IsNarrow}
-use Rattle.lisp_eval.specs.Outside.{locals_of}
+use Rattle.lisp_eval.specs.Outside.{value_object, IsLiveValue, locals_of}
 use Rattle.lisp_eval.specs.Sights.{Sees}
 use Rattle.lisp_eval.specs.declared.attempt.Found.{Found}
 use Rattle.lisp_eval.specs.declared.attempt.Scope.{Scope}
 use Rattle.lisp_eval.specs.declared.attempt.Scope.TheVariants as scope
 use Rattle.lisp_eval.specs.declared.value.Local.{Local}
+use Rattle.lisp_eval.specs.declared.value.Value.{Value}
 use Rattle.lisp_eval.specs.declared.value.Value.TheVariants as value
 use Rattle.lisp_eval.proofs.Attempting.{tells_found}
 use Rattle.lisp_eval.proofs.Sights.{adds_none}
@@ -101,3 +102,17 @@ here_tells ds fs s t left held tables f whole agree h = tells_found ds fs (scope
 -- on a scope of locals
 pub found_on : (ds : List Definition) (fs : List ℕ) (s : Scope) (locals : _) → s ≡ scope.Inner locals → (t : Exp) (left : ℕ) (f : Found) → IsFoundOn ds fs locals.now t left f → (objects : List Object) → IsFound ds fs objects (scope_env objects s) t left f
 found_on ds fs s locals e t left f h objects = subst (λ (z : Scope). IsFound ds fs objects (scope_env objects z) t left f) (sym e) (h objects)
+
+boolean_narrow : (q : Bool) → IsNarrow (boolean_object q)
+boolean_narrow true = tt
+boolean_narrow false = tt
+
+pub compared : (locals : List Local) (p : _) (w : Exp) (ts : Exps) (t u : Exp) → w ≡ Prim p ts → ts ≡ More t (More u Last) → (left mid rest : ℕ) (a b x y : ℤ) (q : Bool) → x ≡ a → y ≡ b → (left ≡ 0 → ⊥) → GivesInteger locals t (left - 1) mid a → GivesInteger locals u mid rest b → prim_of p (Int x) (Int y) ≡ boolean_object q
+    → (v : Value) → ((objects : List Object) → value_object objects v ≡ boolean_object q) → ((objects : List Object) → IsLiveValue objects v) → (ds : List Definition) (fs : List ℕ) → IsFoundOn ds fs locals w left (record { value = v; left = rest })
+compared locals p w ts t u e two left mid rest a b x y q same same' some g h is v told live ds fs objects = record {
+  live = live objects;
+  fewer = omega (arith, some, g.fewer, h.fewer);
+  gives = subst (λ (z : Exp). GivesAtOnce ds fs (locals_of objects locals) z (value_object objects v) (left - rest)) (sym (e ∙ ap (Prim p) two))
+      (subst (λ (z : Object). GivesAtOnce ds fs (locals_of objects locals) (binary_term p t u) z (left - rest)) (sym (told objects))
+      (binary_gives locals p t u left (left - 1) mid rest a b (boolean_object q) (omega (arith, some)) g h ((λ k. prim_of p (Int (sym same k)) (Int (sym same' k))) ∙ is) (boolean_narrow q) ds fs objects));
+}

@@ -16,7 +16,7 @@ use crate::attempt::{Found, Scope, Setting, Stop};
 use crate::calls::{is_answered, is_memoized};
 use crate::direct::{LEVELS, at_once};
 use crate::frame::Binding;
-use crate::integers::{integer_in, zp_on};
+use crate::integers::{compared_on, integer_in, zp_on};
 use crate::value::Local;
 use fast_alists::FastAlists;
 use gl_logic::{FnId, Names, Term, World};
@@ -193,7 +193,7 @@ fn argument(
     }
 }
 
-/// What a test gives at once: a call of `zp` on a term over integers is found with no more than its variables.
+/// What a test gives at once: one of terms over integers, by `zp`, `<` or `equal`, is found with no more than its variables.
 #[inline(always)]
 fn test_value(
     setting: &Setting,
@@ -210,6 +210,9 @@ fn test_value(
 {
     if let Scope::Inner(locals) = scope {
         if let Some(found) = zp_on(setting.world, setting.functions, term, locals, left) {
+            return Ok(found);
+        }
+        if let Some(found) = compared_on(term, locals, left) {
             return Ok(found);
         }
     }

@@ -1,6 +1,7 @@
 //! Terms over integers of 64 bits alone, which need no arena.
 
-ghost use Rattle.std.specs.Prelude.{◌≡◌, List, IfSome};
+ghost use Rattle.std.specs.Prelude.{◌≡◌, ℕ, List, IfSome};
+ghost use Rattle.gl_logic.specs.Definition.{Definition};
 ghost use Rattle.gl_logic.specs.Environment.{look};
 ghost use Rattle.gl_logic.specs.Object.{Object, Int};
 ghost use Rattle.gl_logic.specs.TermOf.{term_of};
@@ -11,7 +12,9 @@ ghost use Rattle.lisp_eval.specs.Outside.{locals_of};
 
 use crate::attempt::{Found, Scope, local_value};
 use crate::direct::LEVELS;
-use crate::small::{is_opposite, is_small_operation, small_integer, small_opposite};
+use crate::small::{
+    is_opposite, is_small_operation, is_small_test, small_integer, small_opposite, small_test,
+};
 use crate::value::{Local, Value};
 use crate::zero::{ON_INTEGERS, is_zero, is_zp};
 use gl_logic::{Prim, Term, TextId, Tree, TreeKind, World};
@@ -59,6 +62,30 @@ pub fn zp_on(
             Some(Found {
                 value: Value::truth(is_zero(i)),
                 left: rest - ON_INTEGERS,
+            })
+        }
+        _ => None,
+    }
+}
+
+/// What a test of two terms over integers gives on locals, by `<` or `equal`; nothing for any other term.
+#[inline(always)]
+pub fn compared_on(term: &Term, locals: &[Local], left: u64) -> Option<Found>
+    ensures { IfSome result (λ f. (definitions : List Definition) (functions : List ℕ) → IsFoundOn definitions functions locals.now (term_of term.now) left f) }
+{
+    match term {
+        Term::Prim(prim, terms) => {
+            let terms = terms.as_slice();
+            if left == 0 || terms.len() != 2 || !is_small_test(*prim) {
+                return None;
+            }
+            let mut rest = left - 1;
+            let a = integer_at_once(&terms[0], locals, LEVELS, &mut rest)?;
+            let b = integer_at_once(&terms[1], locals, LEVELS, &mut rest)?;
+            let holds = small_test(*prim, a, b)?;
+            Some(Found {
+                value: Value::truth(holds),
+                left: rest,
             })
         }
         _ => None,

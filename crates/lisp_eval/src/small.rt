@@ -86,6 +86,15 @@ pub fn small_integer(prim: Prim, a: i64, b: i64) -> Option<i64>
     }
 }
 
+/// Whether a primitive of two arguments is such a test.
+#[inline(always)]
+pub fn is_small_test(prim: Prim) -> bool {
+    match prim {
+        Prim::Less | Prim::Equal => true,
+        _ => false,
+    }
+}
+
 /// Whether a test of two integers holds, where it is found at once.
 #[inline(always)]
 pub fn small_test(prim: Prim, a: i64, b: i64) -> Option<bool>
