@@ -9,7 +9,6 @@ mod fixed;
 use self::fixed::{Fixed, check, integer, is_set, number_of};
 use bfr_store::{Bits, Bitvec, Edge, Full};
 use std::process::Abort;
-use std::test::Fail;
 use sym_bits::{
     add, and_bits, bit_at, fits, floor_mod, int_length, less, narrow, negate, or_bits, same, shift,
     times, truncate_rem, xor_bits,
@@ -136,7 +135,7 @@ fn compare_others(rt: &impl Abort, a: i128, b: i128) {
 }
 
 #[test]
-fn pairs_of_small_integers(rt: HostRuntime) -> Result<(), Fail> {
+fn pairs_of_small_integers(rt: HostRuntime) {
     for i in 0..16u8 {
         let a = i128::from(i) - 8;
         let mut store = Fixed { limit: 0 };
@@ -151,7 +150,6 @@ fn pairs_of_small_integers(rt: HostRuntime) -> Result<(), Fail> {
             compare_others(&rt, a, b);
         }
     }
-    Ok(())
 }
 
 /// An integer of 128 constant bits.
@@ -164,37 +162,40 @@ fn wide(rt: &impl Abort, value: i128) -> Bitvec
     bits
 }
 
+/// Sums and products of the least and the greatest integer.
+fn widest_sums(rt: &impl Abort, least: &Bitvec, most: &Bitvec)
+    requires least { All (λ e. e.number < 6) least.now }
+    requires most { All (λ e. e.number < 6) most.now }
+    requires least_width { length least.now ≡ 128 }
+    requires most_width { length most.now ≡ 128 }
+{
+    let mut store = Fixed { limit: 0 };
+    let top = times(&mut store, least, least).expect(rt, "times");
+    assert!(rt; top.len() == 256 && !is_set(rt, top.at(255)) && is_set(rt, top.at(254)));
+    let negated = times(&mut store, most, &wide(rt, -1));
+    expect(rt, "times", negated, -i128::MAX);
+    let over = add(&mut store, most, &wide(rt, 1)).expect(rt, "add");
+    assert!(rt; over.len() == 129);
+    check(rt, &over);
+    expect_truth(rt, "fits", fits(&mut store, &over), false);
+    expect_truth(rt, "fits", fits(&mut store, least), true);
+    let back = add(&mut store, &over, &wide(rt, -1)).expect(rt, "add");
+    let back = narrow(&back);
+    assert!(rt; back.len() == 128 && number_of(rt, &back) == i128::MAX);
+}
+
 #[test]
-fn the_widest_integers(rt: HostRuntime) -> Result<(), Fail> {
+fn the_widest_integers(rt: HostRuntime) {
     let mut store = Fixed { limit: 0 };
     let (least, most) = (wide(&rt, i128::MIN), wide(&rt, i128::MAX));
-    let top = times(&mut store, &least, &least).expect(&rt, "times");
-    assert!(rt; top.len() == 256 && !is_set(&rt, top.at(255)) && is_set(&rt, top.at(254)));
-    expect(
-        &rt,
-        "times",
-        times(&mut store, &most, &wide(&rt, -1)),
-        -i128::MAX,
-    );
-    let over = add(&mut store, &most, &wide(&rt, 1)).expect(&rt, "add");
-    assert!(rt; over.len() == 129);
-    check(&rt, &over);
-    expect_truth(&rt, "fits", fits(&mut store, &over), false);
-    expect_truth(&rt, "fits", fits(&mut store, &least), true);
-    let back = add(&mut store, &over, &wide(&rt, -1)).expect(&rt, "add");
-    assert!(rt; narrow(&back).len() == 128 && number_of(&rt, &narrow(&back)) == i128::MAX);
+    widest_sums(&rt, &least, &most);
     let (quotient, rest) = floor_mod(&mut store, &least, &wide(&rt, -1)).expect(&rt, "floor_mod");
     assert!(rt; quotient.len() == 129 && !is_set(&rt, quotient.at(128)));
     assert!(rt; number_of(&rt, &rest) == 0);
     let wanted = (i128::MIN / 3, i128::MIN % 3);
-    expect_two(
-        &rt,
-        "truncate_rem",
-        truncate_rem(&mut store, &least, &wide(&rt, 3)),
-        wanted,
-    );
+    let divided = truncate_rem(&mut store, &least, &wide(&rt, 3));
+    expect_two(&rt, "truncate_rem", divided, wanted);
     expect(&rt, "int_length", int_length(&mut store, &least), 127);
-    Ok(())
 }
 
 /// A shift of `a` by `count`: the result, or none where it leaves 128 bits.
@@ -209,25 +210,31 @@ fn shifted_by(rt: &impl Abort, a: i128, count: i128) -> Option<i128> {
     }
 }
 
+/// An integer, a count, and the integer shifted by it where that fits.
+const SHIFTS: [(i128, i128, Option<i128>); 12] = [
+    (1, 126, Some(85070591730234615865843651857942052864)),
+    (1, 127, None),
+    (-1, 127, Some(i128::MIN)),
+    (-1, 128, None),
+    (0, i128::MAX, Some(0)),
+    (5, i128::MAX, None),
+    (i128::MAX, -127, Some(0)),
+    (i128::MIN, -127, Some(-1)),
+    (i128::MIN, -128, Some(-1)),
+    (-7, -1, Some(-4)),
+    (i128::MIN, i128::MIN, Some(-1)),
+    (i128::MAX, i128::MIN, Some(0)),
+];
+
 #[test]
-fn shifts_near_and_far(rt: HostRuntime) -> Result<(), Fail> {
-    assert!(rt; shifted_by(&rt, 1, 126) == Some(85070591730234615865843651857942052864));
-    assert!(rt; shifted_by(&rt, 1, 127) == None);
-    assert!(rt; shifted_by(&rt, -1, 127) == Some(i128::MIN));
-    assert!(rt; shifted_by(&rt, -1, 128) == None);
-    assert!(rt; shifted_by(&rt, 0, i128::MAX) == Some(0));
-    assert!(rt; shifted_by(&rt, 5, i128::MAX) == None);
-    assert!(rt; shifted_by(&rt, i128::MAX, -127) == Some(0));
-    assert!(rt; shifted_by(&rt, i128::MIN, -127) == Some(-1));
-    assert!(rt; shifted_by(&rt, i128::MIN, -128) == Some(-1));
-    assert!(rt; shifted_by(&rt, -7, -1) == Some(-4));
-    assert!(rt; shifted_by(&rt, i128::MIN, i128::MIN) == Some(-1));
-    assert!(rt; shifted_by(&rt, i128::MAX, i128::MIN) == Some(0));
-    Ok(())
+fn shifts_near_and_far(rt: HostRuntime) {
+    for (a, count, wanted) in &SHIFTS {
+        assert!(rt; shifted_by(&rt, *a, *count) == *wanted, "{a} {count}");
+    }
 }
 
 #[test]
-fn a_product_runs_full(rt: HostRuntime) -> Result<(), Fail> {
+fn a_product_runs_full(rt: HostRuntime) {
     let mut store = Fixed { limit: 0 };
     let (first, second, none) = (Edge { number: 2 }, Edge { number: 4 }, Edge { number: 1 });
     let x = Bitvec::of(&[first, second, none]);
@@ -237,5 +244,4 @@ fn a_product_runs_full(rt: HostRuntime) -> Result<(), Fail> {
     assert!(rt; twice.len() == 4 && twice.at(1) == first && twice.at(2) == second);
     assert!(rt; times(&mut store, &x, &wide(&rt, 3)).is_err());
     assert!(rt; store.count() == store.limit());
-    Ok(())
 }

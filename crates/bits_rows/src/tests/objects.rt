@@ -8,11 +8,10 @@ ghost use Rattle.sym_objects.specs.Seen.{IsLive, IsWhole};
 
 use self::single::{Single, high, low};
 use bfr_store::{Bitvec, Edge, Meaning};
-use gl_logic::{NoMemory, TextId, Tree};
+use gl_logic::{TextId, Tree};
 use hons_arena::HonsArena;
 use std::alloc::Global;
 use std::process::Abort;
-use std::test::Fail;
 use sym_objects::{Sob, SobNode, Sobs};
 
 /// How long the lists are.
@@ -22,12 +21,13 @@ const LENGTH: u32 = 100_000;
 const VARIABLE: Edge = Edge { number: 2 };
 
 /// The list of so many integers before NIL, of which this one stands last.
-fn list(alloc: Global, last: u32) -> Result<Tree, NoMemory> {
+fn list(rt: &impl Abort, alloc: Global, last: u32) -> Tree {
     let mut rest = Tree::symbol(TextId { number: 0 });
     for i in 0..LENGTH {
-        rest = Tree::pair(alloc, Tree::int(i128::from(last) + i128::from(i)), rest)?;
+        let first = Tree::int(i128::from(last) + i128::from(i));
+        rest = Tree::pair(alloc, first, rest).expect(rt, "no memory");
     }
-    Ok(rest)
+    rest
 }
 
 /// The integer of the bits where the variable is so.
@@ -79,21 +79,27 @@ fn check_list(rt: &impl Abort, objs: &Sobs<Single>, whole: Sob, side: bool, last
 }
 
 #[test]
-fn two_lists_under_one_variable(rt: HostRuntime) -> Result<(), Fail> {
+fn two_lists_under_one_variable(rt: HostRuntime) {
     let alloc = rt.alloc();
-    let mut arena = HonsArena::new(alloc, 1_000_000)?;
-    let mut objs = Sobs::new(alloc, Single { limit: 0 }, 2_000_000)?;
-    let id = arena.place(&list(alloc, 0)?)?;
-    let first = objs.constant(alloc, &arena, id)?;
+    let mut arena = HonsArena::new(alloc, 1_000_000).expect(&rt, "no memory");
+    let store = Single { limit: 0 };
+    let mut objs = Sobs::new(alloc, store, 2_000_000).expect(&rt, "no memory");
+    let tree = list(&rt, alloc, 0);
+    let id = arena.place(&tree).expect(&rt, "no room");
+    let first = objs.constant(alloc, &arena, id).expect(&rt, "no room");
     assert!(rt; objs.is_constant(first));
-    let back = objs.to_arena(alloc, first, &mut arena)?;
+    let back = objs
+        .to_arena(alloc, first, &mut arena)
+        .expect(&rt, "no room");
     assert!(rt; back == id);
-    let other = arena.place(&list(alloc, 1_000_000)?)?;
-    let second = objs.constant(alloc, &arena, other)?;
-    let merged = objs.merge(alloc, VARIABLE, first, second)?;
+    let tree = list(&rt, alloc, 1_000_000);
+    let other = arena.place(&tree).expect(&rt, "no room");
+    let second = objs.constant(alloc, &arena, other).expect(&rt, "no room");
+    let merged = objs
+        .merge(alloc, VARIABLE, first, second)
+        .expect(&rt, "no room");
     check_list(&rt, &objs, merged, true, 0);
     check_list(&rt, &objs, merged, false, 1_000_000);
-    let truth = objs.truth(alloc, merged)?;
+    let truth = objs.truth(alloc, merged).expect(&rt, "no room");
     assert!(rt; high(truth) && low(truth));
-    Ok(())
 }
