@@ -1,6 +1,6 @@
-//! Forms with their terms, events, shapes and measures, and the world that every book begins with.
+//! Forms with their terms, events and shapes, and the world that every book begins with.
 //!
-//! This crate has no code but its tests, of `gl_translate`, `admission`, `shape_spec` and `event_world`.
+//! This crate has no code but its tests, of `gl_translate`, `shape_spec` and `event_world`.
 #![tactic(auto)]
 
 #[cfg(test)]

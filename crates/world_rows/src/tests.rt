@@ -1,6 +1,5 @@
 //! What forms mean, books' worlds and events, with ample memory.
 
-mod admitted;
 mod events;
 mod first_world;
 mod reader;
