@@ -1,10 +1,12 @@
 //! The machine: an arena, tables beside it, and the evaluator over them.
 
-ghost use Rattle.std.specs.Prelude.{◌≡◌, ◌≤◌, ◌↔◌, [], All, Contains, IfOk, IsErr, IsErrOf, OnErr, OnOk, length, take};
+ghost use Rattle.std.specs.Prelude.{◌≡◌, ◌≤◌, ◌↔◌, List, [], All, Contains, IfOk, IsErr, IsErrOf, OnErr, OnOk, length, take};
 ghost use Rattle.std.specs.Borrow.{sem};
 ghost use Rattle.std.specs.List.{flat_map};
+ghost use Rattle.fast_alists.specs.Tables.{Agree};
 ghost use Rattle.gl_logic.specs.CellCounts.{world_constants};
 ghost use Rattle.gl_logic.specs.IsTermOf.{IsTermOf};
+ghost use Rattle.gl_logic.specs.Object.{Object};
 ghost use Rattle.gl_logic.specs.Parts.{cells_in};
 ghost use Rattle.gl_logic.specs.TermOf.{term_of};
 ghost use Rattle.gl_logic.specs.WorldSeen.{WorldSeen};
@@ -84,10 +86,7 @@ impl Machine {
         ensures cells { RefusesForCells world.now self.old.arena.limit result }
         ensures emptied { OnErr result (IsEmptied self.old self.new) }
     {
-        self.memos.clear();
-        self.alists.clear();
-        self.functions.clear();
-        self.arena.release(Mark { count: 0 });
+        self.empty();
         match set_up(
             self.alloc,
             world,
@@ -181,8 +180,7 @@ impl Machine {
         ensures memos { self.new.memos ≡ [] }
         ensures fits { (w : WorldSeen) → Fits w self.old → ArePlaced self.new.arena.objects (world_constants w) → Fits w self.new }
     {
-        self.memos.clear();
-        self.alists.clear();
+        forget(&mut self.memos, &mut self.alists);
         self.arena.release(mark);
     }
 
@@ -199,10 +197,18 @@ impl Machine {
         ensures* writes_back { sem 𝓛 (LendsArena self.entry result) }
         ensures arena { result.now ≡ self.old.arena }
     {
-        self.memos.clear();
-        self.alists.clear();
+        forget(&mut self.memos, &mut self.alists);
         &mut self.arena
     }
+}
+
+/// No call is kept any more, and no list has a table.
+fn forget(calls: &mut MemoTables, lists: &mut FastAlists)
+    ensures calls { calls.new ≡ [] }
+    ensures lists { (objects : List Object) → Agree objects lists.new }
+{
+    calls.clear();
+    lists.clear();
 }
 
 /// Places the constants of a world in an empty arena, and takes over the memoized functions.

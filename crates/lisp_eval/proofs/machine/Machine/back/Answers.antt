@@ -2,4 +2,4 @@ use Rattle.lisp_eval.proofs.Machines.{none_live}
 use Rattle.lisp_eval.proofs.machine.Machine.back.Goals as goal
 
 pub invariant_of-self : goal.invariant_of-self
-invariant_of-self c = (c.clear-2.ensures.agree c.release.new.self.objects, none_live c.release.new.self.objects c.clear.new.self c.clear.ensures)
+invariant_of-self c = (c.forget.ensures.lists c.release.new.self.objects, none_live c.release.new.self.objects c.forget.new.calls c.forget.ensures.calls)
