@@ -9,7 +9,7 @@ use Rattle.fast_alists.specs.Tables.{Agree}
 use Rattle.hons_arena.specs.Held.{Held, IsWhole}
 use Rattle.lisp_eval.specs.Attempts.{Alists, Tells, unary_term, binary_term}
 use Rattle.lisp_eval.specs.Directs.{GivesAtOnce, GiveAtOnce, IsFound, scope_env}
-use Rattle.lisp_eval.specs.Integers.{GivesInteger, IsFoundAnywhere, IsFoundOn}
+use Rattle.lisp_eval.specs.Integers.{GivesInteger, IsFoundOn}
 use Rattle.lisp_eval.specs.Narrow.{IsNarrow}
 use Rattle.lisp_eval.specs.Outside.{value_object, IsLiveValue, locals_of}
 use Rattle.lisp_eval.specs.Sights.{Sees}
@@ -18,7 +18,6 @@ use Rattle.lisp_eval.specs.declared.attempt.Scope.{Scope}
 use Rattle.lisp_eval.specs.declared.attempt.Scope.TheVariants as scope
 use Rattle.lisp_eval.specs.declared.value.Local.{Local}
 use Rattle.lisp_eval.specs.declared.value.Value.{Value}
-use Rattle.lisp_eval.specs.declared.value.Value.TheVariants as value
 use Rattle.lisp_eval.proofs.Attempting.{tells_found}
 use Rattle.lisp_eval.proofs.Sights.{adds_none}
 use Rattle.lisp_eval.proofs.Directly.{var_gives, const_gives, prim_gives, none_give, more_give}
@@ -85,15 +84,6 @@ module _ (locals : List Local) where
       → IfSome r (GivesInteger locals (binary_term p t u) before after)
   binary_maybe p t u before start mid after a b x y same same' some g h None is narrow = tt
   binary_maybe p t u before start mid after a b x y same same' some g h (Some i) is narrow = integer_binary p t u before start mid after a b i some g h ((λ k. prim_of p (Int (sym same k)) (Int (sym same' k))) ∙ is) narrow
-
--- what is found so is found in any arena, on a scope of these locals
-pub integer_found : (s : Scope) (locals : _) → s ≡ scope.Inner locals → (t : Exp) (left rest : ℕ) (i x : ℤ) → x ≡ i → GivesInteger locals.now t left rest i → IsFoundAnywhere s t left (record { value = value.Int x; left = rest })
-integer_found s locals e t left rest i x same g ds fs objects = record {
-  live = subst (λ (z : ℤ). IsNarrow (Int z)) (sym same) g.narrow;
-  fewer = g.fewer;
-  gives = subst (λ (z : Scope). GivesAtOnce ds fs (scope_env objects z) t (Int x) (left - rest)) (sym e)
-      (subst (λ (z : ℤ). GivesAtOnce ds fs (locals_of objects locals.now) t (Int z) (left - rest)) (sym same) (g.gives ds fs objects));
-}
 
 -- nothing is added then
 pub here_tells : (ds : List Definition) (fs : List ℕ) (s : Scope) (t : Exp) (left : ℕ) (held : Held) (tables : Alists) (f : Found) → IsWhole held → Agree held.objects tables → IsFound ds fs held.objects (scope_env held.objects s) t left f → Tells ds fs (scope_env held.objects s) t left held held tables (Ok f)

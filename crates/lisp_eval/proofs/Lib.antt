@@ -10,6 +10,7 @@ pub mod DirectFound
 pub mod Directly
 pub mod Entering
 pub mod Environments
+pub mod FirstBound
 pub mod Followed
 pub mod Goes
 pub mod Going

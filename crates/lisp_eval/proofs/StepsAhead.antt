@@ -44,13 +44,13 @@ none_more : {A : Type 0} (xs : List A) → xs ≡ xs ++ []
 none_more [] = refl
 none_more (x ∷ xs) = ap (λ ys. x ∷ ys) (none_more xs)
 
-pub nothing_left : (xs : List ℕ) (i : ℕ) → length xs ≤ i → drop i xs ≡ []
+pub nothing_left : {A : Type 0} (xs : List A) (i : ℕ) → length xs ≤ i → drop i xs ≡ []
 nothing_left [] zero h = refl
 nothing_left [] (suc i) h = refl
 nothing_left (x ∷ xs) zero h = absurd (omega (arith, h))
 nothing_left (x ∷ xs) (suc i) h = nothing_left xs i (omega (arith, h))
 
-pub first_left : (xs : List ℕ) (i x : ℕ) → slice_get xs i ≡ Some x → drop i xs ≡ x ∷ drop (i + 1) xs
+pub first_left : {A : Type 0} (xs : List A) (i : ℕ) (x : A) → slice_get xs i ≡ Some x → drop i xs ≡ x ∷ drop (i + 1) xs
 first_left [] i x e = none_some x e
 first_left (y ∷ xs) zero x e = ap (λ z. z ∷ xs) (some_same y x e)
 first_left (y ∷ xs) (suc i) x e = let z : suc (i + 1) ≡ suc i + 1 = omega arith in first_left xs i x e ∙ ap (λ n. x ∷ drop n (y ∷ xs)) z
@@ -74,10 +74,6 @@ later_length (y ∷ xs) h =
     let z : suc (length xs) - 1 ≡ length xs = omega arith in
     let e = ap length (ap (λ n. take n xs) z ∙ take_all (length xs) xs (omega arith)) in
     omega (arith, e)
-
-pub nothing_there : {A : Type 0} (xs : List A) → length xs < 1 → xs ≡ []
-nothing_there [] h = refl
-nothing_there (x ∷ xs) h = absurd (omega (arith, h))
 
 every_map : {A : Type 0} (P Q : A → Type 0) → ((x : A) → P x → Q x) → (xs : List A) → Every P xs → Every Q xs
 every_map P Q f [] h = tt

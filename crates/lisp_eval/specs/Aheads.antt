@@ -1,12 +1,13 @@
 -- How far an evaluation goes without a frame.
-use Rattle.std.specs.Prelude.{◌≡◌, ◌<◌, ◌≤◌, ◌-◌, ◌++◌, ℕ, List, Result, IfOk, IsErrOf, Some, slice_get, length}
+use Rattle.std.specs.Prelude.{◌≡◌, ◌<◌, ◌≤◌, ◌-◌, ◌++◌, ℕ, List, Result, IfOk, IsErrOf, Some, slice_get, drop, length}
 use Rattle.gl_logic.specs.Definition.{Definition}
 use Rattle.gl_logic.specs.Environment.{bound}
 use Rattle.gl_logic.specs.Every.{Every}
 use Rattle.gl_logic.specs.Exp.{Exp, Exps}
 use Rattle.gl_logic.specs.Object.{Object}
-use Rattle.gl_logic.specs.TermOf.{term_of}
-use Rattle.hons_arena.specs.Held.{Held}
+use Rattle.gl_logic.specs.TermOf.{term_of, terms_of}
+use Rattle.gl_logic.specs.declared.term.Term.{Term}
+use Rattle.hons_arena.specs.Held.{Held, IsWhole}
 use Rattle.hons_arena.specs.Ids.{IsLive, IsIdOf}
 use Rattle.hons_arena.specs.declared.id.Id.{Id}
 use Rattle.lisp_eval.specs.Directs.{scope_env, GivesAtOnce, GiveAtOnce, IsFound, OpensAtOnce}
@@ -104,6 +105,13 @@ StepTellsIn setting scope t left old new next answer = StepTells setting.world.n
 
 abbrev pub BindsFoundIn : Setting → Scope → List ℕ → Exps → ℕ → Held → Held → List Local → List Local → Result ℕ Stop → Type 0
 BindsFoundIn setting scope names ts left old new before after answer = BindsFound setting.world.now.definitions setting.functions.now (scope_env old.objects scope) names ts left old new before after answer
+
+-- the names between two places are bound to the values of their terms, in whatever world and arena: what then binds the names
+-- behind them has bound all
+abbrev pub BindsUpTo : (List Object → List (ℕ × Object)) → List ℕ → List Term → ℕ → ℕ → ℕ → List Local → List Local → ℕ → Type 0
+BindsUpTo env names ts from left rest before middle to = (definitions : List Definition) (functions : List ℕ) (held new : Held) (after : List Local) (answer : Result ℕ Stop)
+    → IsWhole held → BindsFound definitions functions (env held.objects) (drop to names) (terms_of (drop to ts)) rest held new middle after answer
+    → BindsFound definitions functions (env held.objects) (drop from names) (terms_of (drop from ts)) left held new before after answer
 
 -- the locals by ids, which are added to these
 pub record AreEntered (objects new : List Object) (locals : List Local) (before after : List Binding) : Type 0 where

@@ -3,11 +3,10 @@ use Rattle.std.specs.Prelude.{◌<◌, ◌-◌, ℕ, ℤ, List}
 use Rattle.gl_logic.specs.Definition.{Definition}
 use Rattle.gl_logic.specs.Exp.{Exp}
 use Rattle.gl_logic.specs.Object.{Object, Int}
-use Rattle.lisp_eval.specs.Directs.{scope_env, GivesAtOnce, IsFound}
+use Rattle.lisp_eval.specs.Directs.{GivesAtOnce, IsFound}
 use Rattle.lisp_eval.specs.Narrow.{IsNarrow}
 use Rattle.lisp_eval.specs.Outside.{locals_of}
 use Rattle.lisp_eval.specs.declared.attempt.Found.{Found}
-use Rattle.lisp_eval.specs.declared.attempt.Scope.{Scope}
 use Rattle.lisp_eval.specs.declared.value.Local.{Local}
 
 -- in any world, and whatever the objects of an arena are, the term gives this integer on the locals, in as many visits as
@@ -16,10 +15,6 @@ pub record GivesInteger (locals : List Local) (t : Exp) (before after : ℕ) (i 
   pub fewer : after < before
   pub narrow : IsNarrow (Int i)
   pub gives : (definitions : List Definition) (functions : List ℕ) (objects : List Object) → GivesAtOnce definitions functions (locals_of objects locals) t (Int i) (before - after)
-
--- in any world, and whatever the objects of an arena are
-abbrev pub IsFoundAnywhere : Scope → Exp → ℕ → Found → Type 0
-IsFoundAnywhere scope t left f = (definitions : List Definition) (functions : List ℕ) (objects : List Object) → IsFound definitions functions objects (scope_env objects scope) t left f
 
 -- in this world, whatever the objects of an arena are
 abbrev pub IsFoundOn : List Definition → List ℕ → List Local → Exp → ℕ → Found → Type 0

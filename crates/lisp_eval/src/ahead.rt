@@ -1,14 +1,14 @@
 //! Evaluations that go ahead without frames.
 
-ghost use Rattle.std.specs.Prelude.{◌≡◌, ◌+◌, ◌≤◌, IsTrue, [], ◌∷◌, drop, length};
+ghost use Rattle.std.specs.Prelude.{◌≡◌, ◌≤◌, IfOk, IsTrue, [], ◌∷◌, drop, length};
 ghost use Rattle.fast_alists.specs.Tables.{Agree};
 ghost use Rattle.gl_logic.specs.Every.{Every};
 ghost use Rattle.gl_logic.specs.TermOf.{term_of, terms_of};
 ghost use Rattle.hons_arena.specs.Held.{IsWhole};
 ghost use Rattle.hons_arena.specs.Ids.{IsLive};
-ghost use Rattle.lisp_eval.specs.Aheads.{AheadTells, StepTellsIn, MayOpen, BindsFoundIn, EntersLocals, AreLiveLocals};
+ghost use Rattle.lisp_eval.specs.Aheads.{AheadTells, StepTellsIn, MayOpen, BindsFoundIn, BindsUpTo, EntersLocals, AreLiveLocals};
 ghost use Rattle.lisp_eval.specs.Attempts.{TellsIn};
-ghost use Rattle.lisp_eval.specs.Directs.{IsLiveScope};
+ghost use Rattle.lisp_eval.specs.Directs.{scope_env, IsLiveScope};
 ghost use Rattle.lisp_eval.specs.Outside.{IsLiveValue};
 ghost use Rattle.lisp_eval.specs.States.{env_of};
 
@@ -16,10 +16,10 @@ use crate::attempt::{Found, Scope, Setting, Stop};
 use crate::calls::{is_answered, is_memoized};
 use crate::direct::{LEVELS, at_once};
 use crate::frame::Binding;
-use crate::integers::{compared_on, integer_in, zp_on};
+use crate::integers::{bind_integers, compared_on, zp_on};
 use crate::value::Local;
 use fast_alists::FastAlists;
-use gl_logic::{FnId, Names, Term, World};
+use gl_logic::{FnId, Names, NoMemory, Term, World};
 use hons_arena::{HonsArena, Id};
 use std::alloc::Global;
 use std::mem;
@@ -110,6 +110,7 @@ pub fn advance<'a>(
 }
 
 /// One step of an evaluation on the variables of a scope. Where it goes into a body, `next` holds that body's variables.
+#[inline(always)]
 fn take_step<'a>(
     setting: &Setting<'a>,
     arena: &mut HonsArena,
@@ -172,27 +173,6 @@ fn goes_into(world: &World, functions: &[u64], f: FnId, terms: &[Term]) -> bool
     count <= FORMALS && count == terms.len() as u64
 }
 
-/// What an argument gives at once: a term over integers is found with no more than its variables.
-#[inline(always)]
-fn argument(
-    setting: &Setting,
-    arena: &mut HonsArena,
-    alists: &mut FastAlists,
-    term: &Term,
-    scope: &Scope,
-    left: u64,
-) -> Result<Found, Stop>
-    requires whole { IsWhole arena.old }
-    requires scope { IsLiveScope arena.old.objects scope.now }
-    requires agree { Agree arena.old.objects alists.old }
-    ensures { TellsIn setting.now scope.now (term_of term.now) left arena.old arena.new alists.new result }
-{
-    match integer_in(term, scope, left) {
-        Some(found) => Ok(found),
-        None => at_once(setting, arena, alists, term, scope, LEVELS, left),
-    }
-}
-
 /// What a test gives at once: one of terms over integers, by `zp`, `<` or `equal`, is found with no more than its variables.
 #[inline(always)]
 fn test_value(
@@ -226,7 +206,7 @@ fn bind_found(
     arena: &mut HonsArena,
     alists: &mut FastAlists,
     names: &Names,
-    i: u64,
+    from: usize,
     terms: &[Term],
     scope: &Scope,
     next: &mut Vec<Local>,
@@ -235,31 +215,53 @@ fn bind_found(
     requires whole { IsWhole arena.old }
     requires scope { IsLiveScope arena.old.objects scope.now }
     requires agree { Agree arena.old.objects alists.old }
-    requires count { i + length terms.now ≡ length names.now }
+    requires count { length terms.now ≡ length names.now }
     requires few { length names.now ≤ 16 }
-    ensures tells { BindsFoundIn setting.now scope.now (drop i names.now) (terms_of terms.now) left arena.old arena.new next.old.items next.new.items result }
+    requires within { from ≤ length terms.now }
+    ensures tells { BindsFoundIn setting.now scope.now (drop from names.now) (terms_of (drop from terms.now)) left arena.old arena.new next.old.items next.new.items result }
     ensures agree { Agree arena.new.objects alists.new }
 {
-    match terms {
-        [] => Ok(left),
-        [term, later @ ..] => {
-            let found = argument(setting, arena, alists, term, scope, left)?;
-            next.push(Local {
-                name: *names.at(i),
-                value: found.value,
-            })?;
-            bind_found(
-                setting,
-                arena,
-                alists,
-                names,
-                i + 1,
-                later,
-                scope,
-                next,
-                found.left,
-            )
-        }
+    let mut rest = left;
+    let to = bind_first_integers(names, from, terms, scope, next, &mut rest)?;
+    if to >= terms.len() {
+        return Ok(rest);
+    }
+    let found = at_once(setting, arena, alists, &terms[to], scope, LEVELS, rest)?;
+    next.push(Local {
+        name: *names.at(to as u64),
+        value: found.value,
+    })?;
+    bind_found(
+        setting,
+        arena,
+        alists,
+        names,
+        to + 1,
+        terms,
+        scope,
+        next,
+        found.left,
+    )
+}
+
+/// Adds the names from a place on with the integers that their terms give, up to the first term that gives none: its place.
+#[inline(always)]
+fn bind_first_integers(
+    names: &Names,
+    from: usize,
+    terms: &[Term],
+    scope: &Scope,
+    next: &mut Vec<Local>,
+    left: &mut u64,
+) -> Result<usize, NoMemory>
+    requires count { length terms.now ≡ length names.now }
+    requires within { from ≤ length terms.now }
+    ensures binds { IfOk result (BindsUpTo (λ objects. scope_env objects scope.now) names.now terms.now from left.old left.new next.old.items next.new.items) }
+    ensures further { IfOk result (λ to. from ≤ to) }
+{
+    match scope {
+        Scope::Inner(locals) => bind_integers(names, from, terms, locals, next, left),
+        Scope::Outer(_) => Ok(from),
     }
 }
 

@@ -10,7 +10,7 @@ ghost use Rattle.lisp_eval.specs.declared.attempt.Stop.TheVariants as stop;
 use crate::bindings::look;
 use crate::frame::Binding;
 use crate::value::{Local, Value};
-use gl_logic::{Names, TextId, World};
+use gl_logic::{Names, NoMemory, TextId, World};
 use hons_arena::{Full, Id};
 use std::alloc::{AllocError, AllocFailed};
 
@@ -81,6 +81,14 @@ impl From<Full> for Stop {
 
     fn from(_full: Full) -> Stop {
         Stop::Full
+    }
+}
+
+impl From<NoMemory> for Stop {
+    ghost from_gives = { λ _ e. e ≡ stop.Memory };
+
+    fn from(_error: NoMemory) -> Stop {
+        Stop::Memory
     }
 }
 

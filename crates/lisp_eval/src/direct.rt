@@ -358,6 +358,7 @@ fn zero(
 }
 
 /// The ids of the values of arguments.
+#[inline(always)]
 fn ids_of(arena: &mut HonsArena, given: Given) -> Result<Ids, Full>
     requires whole { IsWhole arena.old }
     requires first { IsLiveValue arena.old.objects given.first }

@@ -1,40 +1,55 @@
 //! Terms over integers of 64 bits alone, which need no arena.
 
-ghost use Rattle.std.specs.Prelude.{◌≡◌, ℕ, List, IfSome};
+ghost use Rattle.std.specs.Prelude.{◌≡◌, ◌≤◌, ℕ, List, IfOk, IfSome, length};
 ghost use Rattle.gl_logic.specs.Definition.{Definition};
 ghost use Rattle.gl_logic.specs.Environment.{look};
 ghost use Rattle.gl_logic.specs.Object.{Object, Int};
 ghost use Rattle.gl_logic.specs.TermOf.{term_of};
+ghost use Rattle.lisp_eval.specs.Aheads.{BindsUpTo};
 ghost use Rattle.lisp_eval.specs.Attempts.{unary_term, binary_term};
-ghost use Rattle.lisp_eval.specs.Integers.{GivesInteger, IsFoundAnywhere, IsFoundOn};
+ghost use Rattle.lisp_eval.specs.Integers.{GivesInteger, IsFoundOn};
 ghost use Rattle.lisp_eval.specs.Narrow.{IsNarrow};
 ghost use Rattle.lisp_eval.specs.Outside.{locals_of};
 
-use crate::attempt::{Found, Scope, local_value};
+use crate::attempt::{Found, local_value};
 use crate::direct::LEVELS;
 use crate::small::{
     is_opposite, is_small_operation, is_small_test, small_integer, small_opposite, small_test,
 };
 use crate::value::{Local, Value};
 use crate::zero::{ON_INTEGERS, is_zero, is_zp};
-use gl_logic::{Prim, Term, TextId, Tree, TreeKind, World};
+use gl_logic::{Names, NoMemory, Prim, Term, TextId, Tree, TreeKind, World};
 
-/// What a term over integers gives on the variables of a scope, where they are locals; nothing for any other term or scope.
+/// Adds the names from a place on with the integers that their terms give on locals, up to the first term that gives none: its
+/// place.
 #[inline(always)]
-pub fn integer_in(term: &Term, scope: &Scope, left: u64) -> Option<Found>
-    ensures { IfSome result (IsFoundAnywhere scope.now (term_of term.now) left) }
+pub fn bind_integers(
+    names: &Names,
+    from: usize,
+    terms: &[Term],
+    locals: &[Local],
+    next: &mut Vec<Local>,
+    left: &mut u64,
+) -> Result<usize, NoMemory>
+    requires count { length terms.now ≡ length names.now }
+    requires within { from ≤ length terms.now }
+    ensures binds { IfOk result (BindsUpTo (λ objects. locals_of objects locals.now) names.now terms.now from left.old left.new next.old.items next.new.items) }
+    ensures further { IfOk result (λ to. from ≤ to) }
 {
-    match scope {
-        Scope::Inner(locals) => {
-            let mut rest = left;
-            let i = integer_at_once(term, locals, LEVELS, &mut rest)?;
-            Some(Found {
-                value: Value::Int(i),
-                left: rest,
-            })
+    for i in from..terms.len() {
+        let before = *left;
+        match integer_at_once(&terms[i], locals, LEVELS, left) {
+            Some(integer) => next.push(Local {
+                name: *names.at(i as u64),
+                value: Value::Int(integer),
+            })?,
+            None => {
+                *left = before;
+                return Ok(i);
+            }
         }
-        Scope::Outer(_) => None,
     }
+    Ok(terms.len())
 }
 
 /// What a call of `zp` on a term over integers gives on locals; nothing for any other term.

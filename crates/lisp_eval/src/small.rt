@@ -1,6 +1,6 @@
 //! Primitives on integers of 64 bits.
 
-ghost use Rattle.std.specs.Prelude.{◌≡◌, List, IfSome, neg_ℤ};
+ghost use Rattle.std.specs.Prelude.{◌≡◌, ◌<◌, ◌%◌, List, IfSome, neg_ℤ};
 ghost use Rattle.gl_logic.specs.Bitwise.{and_ℤ, or_ℤ, xor_ℤ};
 ghost use Rattle.gl_logic.specs.Object.{Object, Int, boolean_object};
 ghost use Rattle.gl_logic.specs.PrimValue.{prim_of};
@@ -11,12 +11,32 @@ ghost use Rattle.lisp_eval.specs.Outside.{value_object, IsLiveValue};
 use crate::value::Value;
 use gl_logic::Prim;
 
+/// What a division leaves. By a power of two it is a mask.
+#[inline(always)]
+fn left_by(a: u64, b: u64) -> u64
+    requires { 0 < b }
+    ensures { result ≡ a % b }
+{
+    let places = b.trailing_zeros();
+    if places < 64 && b == 1 << places {
+        a & (b - 1)
+    } else {
+        a % b
+    }
+}
+
 /// What `mod` leaves by a divisor above zero; nothing by any other.
 #[inline(always)]
 fn small_modulo(a: i64, b: i64) -> Option<i64>
     ensures { IfSome result (λ i. mod_ℤ a b ≡ i) }
 {
-    if 0 < b { Some(a.rem_euclid(b)) } else { None }
+    if b <= 0 {
+        None
+    } else if a < 0 {
+        Some(a.rem_euclid(b))
+    } else {
+        Some(left_by(a as u64, b as u64) as i64)
+    }
 }
 
 /// The quotient of a number by one above zero, rounded down; nothing of any other two integers.

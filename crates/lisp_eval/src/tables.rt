@@ -15,6 +15,7 @@ use gl_logic::FnId;
 use hons_arena::{HonsArena, Id};
 
 /// The value of a function that tables answer, on its first arguments. One that lacks is NIL.
+#[inline(always)]
 pub fn answer(
     arena: &mut HonsArena,
     alists: &mut FastAlists,
@@ -42,6 +43,7 @@ pub fn answer(
 }
 
 /// The value of a function that tables answer, on three arguments.
+#[inline(always)]
 fn answer_at(
     arena: &mut HonsArena,
     alists: &mut FastAlists,

@@ -4,6 +4,7 @@ use Rattle.gl_logic.specs.TermOf.{term_of, terms_of}
 use Rattle.gl_logic.specs.declared.term.Term.{Term}
 use Rattle.lisp_eval.specs.Aheads.{BindsFound}
 use Rattle.lisp_eval.specs.Directs.{scope_env}
+use Rattle.lisp_eval.proofs.FirstBound.{all_terms}
 use Rattle.lisp_eval.proofs.StepsAhead.{Told, told, test_stops, test_goes, arguments_stop, arguments_go}
 use Rattle.lisp_eval.proofs.TermForms.{if_term, call_term}
 use Rattle.lisp_eval.proofs.ahead.take_step.Goals as goal
@@ -69,7 +70,7 @@ returns-in_err-rest-in-Call-clause-tells c =
     let e = c.in_err-rest-in-Call.field-0.0 in
     let is : c.from_residual-in_err-rest-in-Call.result ≡ Err e = search rules in
     arguments_stop ds fs env (term_of c.args.term.now) i.f.number (terms_of i.terms.items) (ap term_of i.is ∙ call_term i.f i.terms) c.args.left old new names c.clear.new.self.items c.bind_found.new.next.items
-    e c.from_residual-in_err-rest-in-Call.result is (subst (λ (us : List Term). BindsFound ds fs env names (terms_of us) (c.args.left - 1) old new c.clear.new.self.items c.bind_found.new.next.items (Err e)) c.as_slice-in-Call.ensures.value c.in_err-rest-in-Call.ensures.tells)
+    e c.from_residual-in_err-rest-in-Call.result is (subst (λ (us : List Term). BindsFound ds fs env names (terms_of us) (c.args.left - 1) old new c.clear.new.self.items c.bind_found.new.next.items (Err e)) (all_terms c.as_slice-in-Call.result.now ∙ c.as_slice-in-Call.ensures.value) c.in_err-rest-in-Call.ensures.tells)
 
 pub returns-in_ok-rest-in-Call-clause-tells : goal.returns-in_ok-rest-in-Call-clause-tells
 returns-in_ok-rest-in-Call-clause-tells c =
@@ -85,4 +86,4 @@ returns-in_ok-rest-in-Call-clause-tells c =
     let rest = c.in_ok-rest-in-Call.rest in
     arguments_go ds fs env (term_of c.args.term.now) i.f.number (terms_of i.terms.items) (ap term_of i.is ∙ call_term i.f i.terms) c.args.left old new names c.clear.new.self.items c.bind_found.new.next.items
     d opens c.def-def.ensures.found c.clear.ensures.items refl (omega (arith, c.if-left-eq0.false)) rest _ refl
-    (subst (λ (us : List Term). BindsFound ds fs env names (terms_of us) (c.args.left - 1) old new c.clear.new.self.items c.bind_found.new.next.items (Ok rest)) c.as_slice-in-Call.ensures.value c.in_ok-rest-in-Call.ensures.tells)
+    (subst (λ (us : List Term). BindsFound ds fs env names (terms_of us) (c.args.left - 1) old new c.clear.new.self.items c.bind_found.new.next.items (Ok rest)) (all_terms c.as_slice-in-Call.result.now ∙ c.as_slice-in-Call.ensures.value) c.in_ok-rest-in-Call.ensures.tells)
