@@ -12,7 +12,10 @@
 //! that were held and those of the values computed are more different objects than the arena has cells, Width only where
 //! some value leaves 128 bits.
 //!
-//! What it takes is counted in `docs/BENCHMARKS.md`: the last rows of the theorems, and the evaluator's own.
+//! Figures of one machine, in processor seconds of the whole program less those of a book of no event, where a plain loop of
+//! ten million additions in Python took 0.49: a loop of a million turns at most 0.06; `fib 80`, memoized, under 0.001; `fib 27`,
+//! not memoized, with its 12.2 million visits 0.18; a fast alist of 100,000 keys, each looked up, 0.13; a list of 100,000
+//! conses, built, reversed twice and compared, 0.07. `bench/evaluator` takes them, and `docs/BENCHMARKS.md` has the last.
 #![tactic(auto)]
 
 mod ahead;
