@@ -6,6 +6,7 @@ use Rattle.std.specs.Hash.{HashWrites, Alike, same_Alike, on_Alike, second_alike
 use Rattle.hons_arena.specs.declared.id.Id.{Id}
 use Rattle.hons_arena.specs.declared.id.IdKind.{IdKind}
 use Rattle.hons_arena.specs.declared.id.IdKind.TheVariants as kind
+use Rattle.hons_arena.specs.Ids.{kind_in, number_in}
 
 abbrev pub kind_number : IdKind → ℕ
 kind_number kind.Symbol = 0
@@ -14,15 +15,15 @@ kind_number kind.Cell = 2
 
 -- the same kind and the same number
 abbrev pub id_eq : Id → Id → Bool
-id_eq a b = nat_eq (kind_number a.kind) (kind_number b.kind) && nat_eq a.number b.number
+id_eq a b = nat_eq (kind_number (kind_in a)) (kind_number (kind_in b)) && nat_eq (number_in a) (number_in b)
 
 -- the number alone: ids that differ in their kinds alone are fed alike, and equality tells them apart
 abbrev pub id_fed : Id → HashWrites
-id_fed a = fed.u64 a.number
+id_fed a = fed.u64 (number_in a)
 
 -- ---- the laws of equality and of hashing
 abbrev pub id_equiv : IsEquivalence id_eq
-id_equiv = and_equiv (on_equiv (λ a. kind_number a.kind) nat_eq_equiv) (on_equiv (λ a. a.number) nat_eq_equiv)
+id_equiv = and_equiv (on_equiv (λ a. kind_number (kind_in a)) nat_eq_equiv) (on_equiv number_in nat_eq_equiv)
 
 abbrev pub id_alike : Alike id_eq id_fed
-id_alike = second_alike (λ a b. nat_eq (kind_number a.kind) (kind_number b.kind)) (on_Alike (λ a. a.number) (same_Alike fed.u64 unsigned_Decides))
+id_alike = second_alike (λ a b. nat_eq (kind_number (kind_in a)) (kind_number (kind_in b))) (on_Alike number_in (same_Alike fed.u64 unsigned_Decides))

@@ -43,6 +43,6 @@ impl Hash for Key {
     ghost respects_eq = { id_alike.fed };
 
     fn hash<H: Hasher>(&self, state: &mut H) {
-        state.write_u64(self.id.number);
+        state.write_u64(self.id.number());
     }
 }

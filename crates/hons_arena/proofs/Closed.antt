@@ -9,10 +9,11 @@ use Rattle.hons_arena.specs.declared.id.Id.{Id}
 use Rattle.hons_arena.specs.declared.id.IdKind.{IdKind}
 use Rattle.hons_arena.specs.declared.id.IdKind.TheVariants as kind
 use Rattle.hons_arena.specs.Cells.{cell_object, objects_of, cell_at, FitsBelow, IsInterned}
-use Rattle.hons_arena.specs.Ids.{object_at, object_numbered, IsNumberBelow, IsBelow}
+use Rattle.hons_arena.specs.Ids.{kind_in, number_in, id_numbered, object_at, object_numbered, IsNumberBelow, IsBelow}
 use Rattle.hons_arena.specs.Parts.{AreHeld}
 use Rattle.hons_arena.proofs.CellsIn.{IsPart, cell_of, of_cell}
 use Rattle.gl_logic.specs.Parts.{is_cell}
+use Rattle.hons_arena.proofs.Ids.{numbered_below, numbered_at}
 use Rattle.hons_arena.proofs.Interned.{object_is, parts_live, objects_count}
 
 module _ (cells : List Cell) (interned : IsInterned cells) where
@@ -33,7 +34,7 @@ module _ (cells : List Cell) (interned : IsInterned cells) where
       → (c : Cell) → FitsBelow n c → cell_object objects c ≡ Cons a d → AreHeld objects a × AreHeld objects d
   parts_held a d f g (cell.Int z) p e = absurd cc
   parts_held a d f g (cell.Character z) p e = absurd cc
-  parts_held a d f g (cell.Cons s t i j) p e = (f (record { kind = s; number = i }) p.0 (ap car e), g (record { kind = t; number = j }) p.1 (ap cdr e))
+  parts_held a d f g (cell.Cons s t i j) p e = (f (id_numbered s i) (numbered_below n s i p.0) (numbered_at objects s i ∙ ap car e), g (id_numbered t j) (numbered_below n t j p.1) (numbered_at objects t j ∙ ap cdr e))
 
   cons_held : (a d : Object) → ((j : Id) → IsBelow n j → object_at objects j ≡ a → AreHeld objects a) → ((j : Id) → IsBelow n j → object_at objects j ≡ d → AreHeld objects d)
       → (t : IdKind) (k : ℕ) → IsNumberBelow n t k → object_numbered objects t k ≡ Cons a d → AreHeld objects a × AreHeld objects d
@@ -47,8 +48,8 @@ module _ (cells : List Cell) (interned : IsInterned cells) where
   either_held a d y cell t k h e both (inr (inr rest)) = both.1 y (cell_of d y cell rest)
 
   pub all_held : (x : Object) (j : Id) → IsBelow n j → object_at objects j ≡ x → AreHeld objects x
-  all_held (Cons a d) j h e y c = either_held a d y (of_cell (Cons a d) y c).0 j.kind j.number h e (cons_held a d (all_held a) (all_held d) j.kind j.number h e) (of_cell (Cons a d) y c).1
-  all_held (Int z) j h e y c = itself_held y (of_cell (Int z) y c).0 j.kind j.number h (e ∙ sym (of_cell (Int z) y c).1)
-  all_held (Character z) j h e y c = itself_held y (of_cell (Character z) y c).0 j.kind j.number h (e ∙ sym (of_cell (Character z) y c).1)
-  all_held (Symbol z) j h e y c = itself_held y (of_cell (Symbol z) y c).0 j.kind j.number h (e ∙ sym (of_cell (Symbol z) y c).1)
-  all_held (Text z) j h e y c = itself_held y (of_cell (Text z) y c).0 j.kind j.number h (e ∙ sym (of_cell (Text z) y c).1)
+  all_held (Cons a d) j h e y c = either_held a d y (of_cell (Cons a d) y c).0 (kind_in j) (number_in j) h e (cons_held a d (all_held a) (all_held d) (kind_in j) (number_in j) h e) (of_cell (Cons a d) y c).1
+  all_held (Int z) j h e y c = itself_held y (of_cell (Int z) y c).0 (kind_in j) (number_in j) h (e ∙ sym (of_cell (Int z) y c).1)
+  all_held (Character z) j h e y c = itself_held y (of_cell (Character z) y c).0 (kind_in j) (number_in j) h (e ∙ sym (of_cell (Character z) y c).1)
+  all_held (Symbol z) j h e y c = itself_held y (of_cell (Symbol z) y c).0 (kind_in j) (number_in j) h (e ∙ sym (of_cell (Symbol z) y c).1)
+  all_held (Text z) j h e y c = itself_held y (of_cell (Text z) y c).0 (kind_in j) (number_in j) h (e ∙ sym (of_cell (Text z) y c).1)

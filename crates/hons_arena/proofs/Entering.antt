@@ -5,7 +5,7 @@ use Rattle.std.specs.List.{Contains}
 use Rattle.gl_logic.specs.Object.{Object, nil}
 use Rattle.hons_arena.specs.declared.cell.Cell.{Cell}
 use Rattle.hons_arena.specs.declared.id.Id.{Id}
-use Rattle.hons_arena.specs.declared.id.IdKind.TheVariants as kind
+use Rattle.hons_arena.specs.declared.id.Id.TheVariants as id
 use Rattle.hons_arena.specs.Cells.{cell_object, objects_of, FitsBelow, IsInterned}
 use Rattle.hons_arena.specs.Held.{Held, Enters, HasNoCell, IsWhole}
 use Rattle.hons_arena.specs.Ids.{object_at, IsBelow, IsIdOf}
@@ -21,7 +21,7 @@ abbrev pub seen : ℕ → List Cell → Held
 seen limit cells = record { limit = limit; objects = objects_of cells }
 
 abbrev pub cell_numbered : ℕ → Id
-cell_numbered k = record { kind = kind.Cell; number = k }
+cell_numbered k = id.Cell k
 
 pub count_is : (limit : ℕ) (cells : List Cell) (held : Held) → IsInterned cells → seen limit cells ≡ held → length cells ≡ length held.objects
 count_is limit cells held interned is = sym (objects_count cells interned) ∙ ap (λ (h : Held). length h.objects) is
@@ -31,7 +31,7 @@ whole_from limit cells held interned few is = subst IsWhole is (record {
   within = omega (arith, few, objects_count cells interned);
   different = each_once cells interned;
   ids = same_ids cells interned;
-  parts = λ id h. all_held cells interned (object_at (objects_of cells) id) id (subst (λ (m : ℕ). IsBelow m id) (objects_count cells interned) h) refl;
+  parts = λ j h. all_held cells interned (object_at (objects_of cells) j) j (subst (λ (m : ℕ). IsBelow m j) (objects_count cells interned) h) refl;
   narrow = narrow_ids cells interned;
 })
 

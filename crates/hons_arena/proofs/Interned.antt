@@ -12,8 +12,9 @@ use Rattle.hons_arena.specs.declared.id.IdKind.{IdKind}
 use Rattle.hons_arena.specs.declared.id.IdKind.TheVariants as kind
 use Rattle.hons_arena.specs.Cells.{cell_object, objects_of, cell_at, FitsBelow, IsInterned}
 use Rattle.hons_arena.specs.Held.{IsEachOnce}
-use Rattle.hons_arena.specs.Ids.{object_at, object_numbered, IsNumberBelow, IsBelow, IsLive}
+use Rattle.hons_arena.specs.Ids.{kind_in, number_in, object_at, object_numbered, IsNumberBelow, IsBelow, IsLive}
 use Rattle.hons_arena.specs.Probe.{IsAbsent}
+use Rattle.hons_arena.proofs.Ids.{same_id_from}
 use Rattle.hons_arena.proofs.Objects.{objects-length, objects-at}
 
 number_more : (j k : ℕ) → j ≤ k → (t : IdKind) (n : ℕ) → IsNumberBelow j t n → IsNumberBelow k t n
@@ -42,9 +43,6 @@ cell_narrow : (xs : List Object) (k : ℕ) (c : Cell) → FitsBelow k c → IsWi
 cell_narrow xs k (cell.Int z) h wide = wide h
 cell_narrow xs k (cell.Character n) h wide = wide
 cell_narrow xs k (cell.Cons s t m n) h wide = wide
-
-same_id_from : (a b : Id) → a.kind ≡ b.kind → a.number ≡ b.number → a ≡ b
-same_id_from a b k n = λ i. record { kind = k i; number = n i }
 
 module _ (cells : List Cell) (interned : IsInterned cells) where
   abbrev objects : List Object
@@ -78,7 +76,7 @@ module _ (cells : List Cell) (interned : IsInterned cells) where
 
   same_parts : (x : Object) → ((c e : Cell) → FitsBelow n c → FitsBelow n e → cell_object objects c ≡ x → cell_object objects e ≡ x → c ≡ e)
       → (a b : Id) → IsBelow n a → IsBelow n b → object_at objects a ≡ x → object_at objects b ≡ x → a ≡ b
-  same_parts x same a b h k e f = let g = ids_from_cells x same a.kind b.kind a.number b.number h k e f in same_id_from a b g.0 g.1
+  same_parts x same a b h k e f = let g = ids_from_cells x same (kind_in a) (kind_in b) (number_in a) (number_in b) h k e f in same_id_from a b g.0 g.1
 
   pub same_cells : (x : Object) (c e : Cell) → FitsBelow n c → FitsBelow n e → cell_object objects c ≡ x → cell_object objects e ≡ x → c ≡ e
   same_cells (Cons xa xd) (cell.Cons s t a d) (cell.Cons u v b f) h k p q =
@@ -108,8 +106,8 @@ module _ (cells : List Cell) (interned : IsInterned cells) where
   narrow_numbered kind.Cell i h wide = cell_narrow objects n (cell_at cells i) (parts_live i h) (subst IsWideObject (object_is i h) wide)
 
   -- no live id stands for an integer outside 128 bits
-  pub narrow_ids : (id : Id) → IsLive objects id → IsWideObject (object_at objects id) → ⊥
-  narrow_ids id h = narrow_numbered id.kind id.number (subst (λ (m : ℕ). IsBelow m id) objects_count h)
+  pub narrow_ids : (j : Id) → IsLive objects j → IsWideObject (object_at objects j) → ⊥
+  narrow_ids j h = narrow_numbered (kind_in j) (number_in j) (subst (λ (m : ℕ). IsBelow m j) objects_count h)
 
   pub each_once : IsEachOnce objects
   each_once i j d l h e =

@@ -4,6 +4,7 @@ pub mod Counting
 pub mod Elements
 pub mod Entering
 pub mod Homes
+pub mod Ids
 pub mod Interned
 pub mod Newest
 pub mod Objects

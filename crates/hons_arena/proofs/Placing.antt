@@ -11,7 +11,7 @@ use Rattle.hons_arena.specs.declared.id.Id.{Id}
 use Rattle.hons_arena.specs.declared.id.IdKind.{IdKind}
 use Rattle.hons_arena.specs.declared.id.IdKind.TheVariants as kind
 use Rattle.hons_arena.specs.Held.{Held, IsEachOnce, Enters, AddsCellsOf, LacksCell, HasNoRoomFor}
-use Rattle.hons_arena.specs.Ids.{object_numbered, IsNumberBelow, IsIdOf}
+use Rattle.hons_arena.specs.Ids.{kind_in, number_in, object_numbered, IsNumberBelow, IsIdOf}
 use Rattle.hons_arena.specs.Parts.{IsCellOf, AreHeld}
 use Rattle.hons_arena.proofs.CellsIn.{IsPart, cell_of, cell_weaker}
 use Rattle.hons_arena.proofs.Pigeonhole.{pigeonhole}
@@ -69,7 +69,7 @@ numbered_kept xs made x kind.Text n h e = (tt, e)
 numbered_kept xs made x kind.Cell n h e = (omega (arith, h, length-append xs made), get_or_append_left xs made nil n h ∙ e)
 
 pub id_kept : (w : Object) (xs ys : List Object) (x : Object) (id : Id) → AddsCellsOf w xs ys → IsIdOf xs x id → IsIdOf ys x id
-id_kept w xs ys x id adds h = subst (λ (zs : List Object). IsIdOf zs x id) (sym adds.is) (numbered_kept xs adds.made x id.kind id.number h.0 h.1)
+id_kept w xs ys x id adds h = subst (λ (zs : List Object). IsIdOf zs x id) (sym adds.is) (numbered_kept xs adds.made x (kind_in id) (number_in id) h.0 h.1)
 
 -- ---- room
 module _ (old new : Held) (x : Object) (adds : AddsCellsOf x old.objects new.objects) (limit : new.limit ≡ old.limit) where

@@ -5,11 +5,12 @@ use Rattle.gl_logic.specs.Object.{Object, nil, car, cdr, Cons}
 use Rattle.hons_arena.specs.declared.cell.Cell.{Cell}
 use Rattle.hons_arena.specs.declared.cell.Cell.TheVariants as cell
 use Rattle.hons_arena.specs.declared.id.Id.{Id}
+use Rattle.hons_arena.specs.declared.id.Id.TheVariants as id
 use Rattle.hons_arena.specs.declared.id.IdKind.{IdKind}
 use Rattle.hons_arena.specs.declared.id.IdKind.TheVariants as kind
 use Rattle.hons_arena.specs.Cells.{cell_object, objects_of, cell_at, FitsBelow, IsInterned, IsAtomCell, cons_cell}
 use Rattle.hons_arena.specs.Held.{Held}
-use Rattle.hons_arena.specs.Ids.{object_at, object_numbered, IsNumberBelow, IsBelow, IsLive, IsIdOf, HasNoParts, ArePartsOf}
+use Rattle.hons_arena.specs.Ids.{kind_in, number_in, object_at, object_numbered, IsNumberBelow, IsBelow, IsLive, IsIdOf, HasNoParts, ArePartsOf}
 use Rattle.hons_arena.specs.Sound.{IsSound}
 use Rattle.hons_arena.specs.Table.{empty, slot_at, IsTable}
 use Rattle.hons_arena.proofs.Entering.{seen, count_is}
@@ -28,11 +29,11 @@ module _ (limit : ℕ) (cells : List Cell) (held : Held) (interned : IsInterned 
       subst (λ (m : ℕ). FitsBelow m (cell_at cells k)) (count_is limit cells held interned is) (parts_live cells interned k (omega (arith, h, count_is limit cells held interned is)))
 
 -- the number of an id of a cell
-pub number_live : (objects : List Object) (id : Id) → id.kind ≡ kind.Cell → IsLive objects id → id.number < length objects
-number_live objects id e h = subst (λ (t : IdKind). IsNumberBelow (length objects) t id.number) e h
+pub number_live : (objects : List Object) (j : Id) (n : ℕ) → j ≡ id.Cell n → IsLive objects j → n < length objects
+number_live objects j n e h = subst (λ (i : Id). IsLive objects i) e h
 
-pub object_of_number : (objects : List Object) (id : Id) → id.kind ≡ kind.Cell → object_at objects id ≡ get_or objects id.number nil
-object_of_number objects id e = ap (λ (t : IdKind). object_numbered objects t id.number) e
+pub object_of_number : (objects : List Object) (j : Id) (n : ℕ) → j ≡ id.Cell n → object_at objects j ≡ get_or objects n nil
+object_of_number objects j n e = ap (object_at objects) e
 
 atom_no_parts : (objects : List Object) (c : Cell) → IsAtomCell c → HasNoParts (cell_object objects c)
 atom_no_parts objects (cell.Int z) h = (tt, refl, refl)
@@ -47,12 +48,10 @@ parts_of_read objects x c (Some p) below is h =
     let cons : cell_object objects (cons_cell p.0 p.1) ≡ x = ap (cell_object objects) (sym h) ∙ is in
     record { first = (parts.0, ap car cons); rest = (parts.1, ap cdr cons); whole = sym cons ∙ ap (λ y. Cons (car y) (cdr y)) cons }
 
-pub no_parts_but_cells : (objects : List Object) (id : Id) → id.kind ≢ kind.Cell → HasNoParts (object_at objects id)
-no_parts_but_cells objects id apart = go id.kind id.number apart where
-  go : (t : IdKind) (n : ℕ) → t ≢ kind.Cell → HasNoParts (object_numbered objects t n)
-  go kind.Symbol n a = (tt, refl, refl)
-  go kind.Text n a = (tt, refl, refl)
-  go kind.Cell n a = absurd (a refl)
+pub no_parts_but_cells : (objects : List Object) (j : Id) → ((n : ℕ) → j ≢ id.Cell n) → HasNoParts (object_at objects j)
+no_parts_but_cells objects (id.Symbol t) apart = (tt, refl, refl)
+no_parts_but_cells objects (id.Text t) apart = (tt, refl, refl)
+no_parts_but_cells objects (id.Cell n) apart = absurd (apart n refl)
 
 -- the newest cell goes
 pub sound_pop : (limit : ℕ) (cells : List Cell) (capacity : ℕ) (slots : List ℕ) (places k q : ℕ) (new : List Cell) (more : ℕ) → IsSound limit cells capacity slots places → k + 1 ≡ length cells → q < length slots → slot_at slots q ≡ k
@@ -79,5 +78,5 @@ kept_numbered objects n l kind.Symbol k h = (tt, refl)
 kept_numbered objects n l kind.Text k h = (tt, refl)
 kept_numbered objects n l kind.Cell k h = (omega (arith, h, length-take-le n objects l), get_or-take n objects k nil h)
 
-pub kept_id : (objects new : List Object) (n : ℕ) → n ≤ length objects → new ≡ take n objects → (id : Id) → IsBelow n id → IsIdOf new (object_at objects id) id
-kept_id objects new n l e id h = subst (λ (xs : List Object). IsIdOf xs (object_at objects id) id) (sym e) (kept_numbered objects n l id.kind id.number h)
+pub kept_id : (objects new : List Object) (n : ℕ) → n ≤ length objects → new ≡ take n objects → (j : Id) → IsBelow n j → IsIdOf new (object_at objects j) j
+kept_id objects new n l e j h = subst (λ (xs : List Object). IsIdOf xs (object_at objects j) j) (sym e) (kept_numbered objects n l (kind_in j) (number_in j) h)

@@ -5,7 +5,7 @@ use Rattle.gl_logic.specs.Width.{Fits}
 use Rattle.hons_arena.specs.declared.cell.Cell.{Cell}
 use Rattle.hons_arena.specs.declared.cell.Cell.TheVariants as cell
 use Rattle.hons_arena.specs.declared.id.Id.{Id}
-use Rattle.hons_arena.specs.Ids.{object_numbered, IsNumberBelow}
+use Rattle.hons_arena.specs.Ids.{object_numbered, kind_in, number_in, IsNumberBelow}
 
 -- the object of a cell, where its parts are among these
 abbrev pub cell_object : List Object → Cell → Object
@@ -46,4 +46,4 @@ IsAtomCell (cell.Cons s t m n) = ⊥
 
 -- the cell of a cons of these two
 abbrev pub cons_cell : Id → Id → Cell
-cons_cell a d = cell.Cons a.kind d.kind a.number d.number
+cons_cell a d = cell.Cons (kind_in a) (kind_in d) (number_in a) (number_in d)

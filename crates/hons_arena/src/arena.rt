@@ -8,7 +8,7 @@ ghost use Rattle.hons_arena.specs.Held.{Interns, IsWhole};
 
 use crate::cell::{Cell, of_parts, parts_of_cell, same_id};
 use crate::hash::home;
-use crate::id::{Full, Id, IdKind, Kind, Mark};
+use crate::id::{Full, Id, Kind, Mark};
 use crate::probe::{Probe, end_for};
 use crate::slots::{EMPTY, FIRST_SLOTS, make_empty, make_room, most, slot_with};
 use gl_logic::{NoMemory, TextId};
@@ -127,17 +127,14 @@ impl HonsArena {
     pub fn symbol(&self, t: TextId) -> Id
         ensures { IsIdOf self.now.objects (Symbol t.number) result }
     {
-        symbol_id(t)
+        Id::Symbol(t)
     }
 
     /// The id of the string of a text.
     pub fn string(&self, t: TextId) -> Id
         ensures { IsIdOf self.now.objects (Text t.number) result }
     {
-        Id {
-            kind: IdKind::Text,
-            number: t.number,
-        }
+        Id::Text(t)
     }
 
     /// Whether an id stands for something here.
@@ -146,8 +143,8 @@ impl HonsArena {
         ensures whole { IsWhole self.now }
     {
         let count = u64::from(self.count());
-        match id.kind {
-            IdKind::Cell => id.number < count,
+        match id {
+            Id::Cell(number) => number < count,
             _ => true,
         }
     }
@@ -166,10 +163,10 @@ impl HonsArena {
         requires { IsLive self.now.objects id }
         ensures { result ≡ kind_of (object_at self.now.objects id) }
     {
-        match id.kind {
-            IdKind::Symbol => Kind::Symbol(TextId { number: id.number }),
-            IdKind::Text => Kind::Text(TextId { number: id.number }),
-            IdKind::Cell => kind_of_cell(self.cell(id.number)),
+        match id {
+            Id::Symbol(t) => Kind::Symbol(t),
+            Id::Text(t) => Kind::Text(t),
+            Id::Cell(number) => kind_of_cell(self.cell(number)),
         }
     }
 
@@ -178,8 +175,8 @@ impl HonsArena {
         requires { IsLive self.now.objects id }
         ensures { MatchOption result (HasNoParts (object_at self.now.objects id)) (λ p. ArePartsOf self.now.objects (object_at self.now.objects id) p.0 p.1) }
     {
-        match id.kind {
-            IdKind::Cell => parts_of_cell(self.cell(id.number)),
+        match id {
+            Id::Cell(number) => parts_of_cell(self.cell(number)),
             _ => None,
         }
     }
@@ -191,7 +188,7 @@ impl HonsArena {
     {
         match self.parts(id) {
             Some((first, _)) => first,
-            None => symbol_id(TextId { number: 0 }),
+            None => Id::default(),
         }
     }
 
@@ -202,7 +199,7 @@ impl HonsArena {
     {
         match self.parts(id) {
             Some((_, rest)) => rest,
-            None => symbol_id(TextId { number: 0 }),
+            None => Id::default(),
         }
     }
 
@@ -255,15 +252,6 @@ impl HonsArena {
     }
 }
 
-fn symbol_id(t: TextId) -> Id
-    ensures { result ≡ record { kind = IdKind.Symbol; number = t.number } }
-{
-    Id {
-        kind: IdKind::Symbol,
-        number: t.number,
-    }
-}
-
 fn kind_of_cell(cell: Cell) -> Kind
     ensures { (objects : List Object) → result ≡ kind_of (cell_object objects cell) }
 {
@@ -275,10 +263,7 @@ fn kind_of_cell(cell: Cell) -> Kind
 }
 
 fn cell_id(number: u32) -> Id
-    ensures { result ≡ record { kind = IdKind.Cell; number = number } }
+    ensures { result ≡ Id.Cell number }
 {
-    Id {
-        kind: IdKind::Cell,
-        number: u64::from(number),
-    }
+    Id::Cell(u64::from(number))
 }

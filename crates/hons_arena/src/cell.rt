@@ -2,9 +2,10 @@
 
 ghost use Rattle.std.specs.Prelude.{◌≡◌, ◌-◌, ◌↔◌, IsTrue, MatchOption};
 ghost use Rattle.hons_arena.specs.Cells.{cons_cell, HasNewestPart, IsAtomCell};
-ghost use Rattle.hons_arena.specs.Ids.{IsNumberBelow};
+ghost use Rattle.hons_arena.specs.Ids.{IsNumberBelow, id_numbered};
 
 use crate::id::{Id, IdKind};
+use gl_logic::TextId;
 
 /// What a cell keeps: an atom, or the ids of a cons's two parts.
 ///
@@ -20,7 +21,7 @@ pub enum Cell {
 pub fn of_parts(first: Id, rest: Id) -> Cell
     ensures { result ≡ cons_cell first rest }
 {
-    Cell::Cons(first.kind, rest.kind, first.number, rest.number)
+    Cell::Cons(first.kind(), rest.kind(), first.number(), rest.number())
 }
 
 /// The ids of a cons's two parts.
@@ -29,17 +30,21 @@ pub fn parts_of_cell(cell: Cell) -> Option<(Id, Id)>
 {
     match cell {
         Cell::Cons(first_kind, rest_kind, first, rest) => {
-            let first = Id {
-                kind: first_kind,
-                number: first,
-            };
-            let rest = Id {
-                kind: rest_kind,
-                number: rest,
-            };
-            Some((first, rest))
+            Some((id_numbered(first_kind, first), id_numbered(rest_kind, rest)))
         }
         _ => None,
+    }
+}
+
+/// The id of a kind and a number.
+#[inline(always)]
+fn id_numbered(kind: IdKind, number: u64) -> Id
+    ensures { result ≡ id_numbered kind number }
+{
+    match kind {
+        IdKind::Symbol => Id::Symbol(TextId { number }),
+        IdKind::Text => Id::Text(TextId { number }),
+        IdKind::Cell => Id::Cell(number),
     }
 }
 

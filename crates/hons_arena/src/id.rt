@@ -1,13 +1,13 @@
 //! What names an object of an arena, and what an arena answers.
 
-ghost use Rattle.std.specs.Prelude.{List};
+ghost use Rattle.std.specs.Prelude.{◌≡◌, List};
 ghost use Rattle.gl_logic.specs.Object.{Object, nil};
-ghost use Rattle.hons_arena.specs.Ids.{IsIdOf};
+ghost use Rattle.hons_arena.specs.Ids.{IsIdOf, kind_in, number_in};
 
 use gl_logic::TextId;
 
 /// What an id's number counts.
-#[derive(Clone, Copy, Debug, PartialEq, Eq, Hash)]
+#[derive(Clone, Copy, Debug, PartialEq, Eq)]
 pub enum IdKind {
     /// The texts: the id names the symbol of that text.
     Symbol,
@@ -17,13 +17,41 @@ pub enum IdKind {
     Cell,
 }
 
-/// The name of an object in an arena. Ids of equal objects are equal, and ids of different objects differ.
-#[derive(Clone, Copy, Debug, PartialEq, Eq, Hash)]
-pub struct Id {
+/// The name of an object in an arena. Ids of equal objects are equal, and ids of different objects differ. Each kind has one
+/// word, so that ids are copied as words.
+#[derive(Clone, Copy, Debug, PartialEq, Eq)]
+pub enum Id {
+    /// The symbol of this text.
+    Symbol(TextId),
+    /// The string of this text.
+    Text(TextId),
+    /// The object of the cell of this number.
+    Cell(u64),
+}
+
+impl Id {
     /// What the number counts.
-    pub kind: IdKind,
+    #[inline(always)]
+    pub fn kind(self) -> IdKind
+        ensures { result ≡ kind_in self }
+    {
+        match self {
+            Id::Symbol(_) => IdKind::Symbol,
+            Id::Text(_) => IdKind::Text,
+            Id::Cell(_) => IdKind::Cell,
+        }
+    }
+
     /// The number of the text or of the cell.
-    pub number: u64,
+    #[inline(always)]
+    pub fn number(self) -> u64
+        ensures { result ≡ number_in self }
+    {
+        match self {
+            Id::Symbol(t) | Id::Text(t) => t.number,
+            Id::Cell(number) => number,
+        }
+    }
 }
 
 /// NIL, which has the same id in each arena.
@@ -31,10 +59,7 @@ impl Default for Id {
     ghost is_default = { λ id. (objects : List Object) → IsIdOf objects nil id };
 
     fn default() -> Id {
-        Id {
-            kind: IdKind::Symbol,
-            number: 0,
-        }
+        Id::Symbol(TextId { number: 0 })
     }
 }
 

@@ -10,7 +10,7 @@ use Rattle.gl_logic.specs.TermOf.{term_of, terms_of}
 use Rattle.gl_logic.specs.declared.term.Term.{Term}
 use Rattle.gl_logic.proofs.Optional.{none_some, some_same}
 use Rattle.hons_arena.specs.Held.{Held, IsWhole}
-use Rattle.hons_arena.specs.declared.id.IdKind.TheVariants as kind
+use Rattle.hons_arena.specs.declared.id.Id.TheVariants as id
 use Rattle.lisp_eval.specs.Directs.{GivesAtOnce, GiveAtOnce, IsFound, AreGiven, OpensAtOnce}
 use Rattle.lisp_eval.specs.Narrow.{IsNarrow}
 use Rattle.lisp_eval.specs.Outside.{value_object, IsLiveValue}
@@ -23,7 +23,7 @@ use Rattle.lisp_eval.proofs.WholeNarrow.{whole_narrow}
 
 pub value_narrow : (held : Held) → IsWhole held → (v : Value) → IsLiveValue held.objects v → IsNarrow (value_object held.objects v)
 value_narrow held whole (value.Int i) live = live
-value_narrow held whole (value.Cell n) live = whole_narrow held whole (record { kind = kind.Cell; number = n }) live
+value_narrow held whole (value.Cell n) live = whole_narrow held whole (id.Cell n) live
 value_narrow held whole (value.Symbol t) live = tt
 value_narrow held whole (value.Text t) live = tt
 

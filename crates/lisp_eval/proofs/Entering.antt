@@ -9,10 +9,11 @@ use Rattle.hons_arena.proofs.CellsIn.{IsPart}
 use Rattle.hons_arena.proofs.Placing.{part_self, adds_more, adds_weaker, adds_entered, lacks_weaker}
 use Rattle.hons_arena.specs.declared.id.Full.{Full}
 use Rattle.hons_arena.specs.declared.id.Id.{Id}
+use Rattle.hons_arena.specs.declared.id.Id.TheVariants as id
 use Rattle.hons_arena.specs.declared.id.IdKind.{IdKind}
 use Rattle.hons_arena.specs.declared.id.IdKind.TheVariants as kind
 use Rattle.hons_arena.specs.Held.{Held, AddsCellsOf, Interns, IsWhole, LacksCell, Places}
-use Rattle.hons_arena.specs.Ids.{object_at, IsLive, IsNumberBelow}
+use Rattle.hons_arena.specs.Ids.{kind_in, number_in, object_at, IsLive, IsNumberBelow}
 use Rattle.hons_arena.specs.Parts.{IsCellOf}
 use Rattle.lisp_eval.specs.Answers.{HasGrown}
 use Rattle.lisp_eval.specs.Attempts.{IsSeenOrNil, SeesThree, EntersThree}
@@ -44,11 +45,11 @@ abbrev Stays : List Object → List Object → Id → Type 0
 Stays old new id = IsLive new id × (object_at new id ≡ object_at old id)
 
 pub id_grown : (old new : List Object) → HasGrown old new → (id : Id) → IsLive old id → Stays old new id
-id_grown old new g id live = subst (λ (zs : List Object). Stays old zs id) (sym g.1) (number_more old g.0 id.kind id.number live, stays_at old g.0 id live)
+id_grown old new g id live = subst (λ (zs : List Object). Stays old zs id) (sym g.1) (number_more old g.0 (kind_in id) (number_in id) live, stays_at old g.0 id live)
 
 pub value_grown : (old new : List Object) → HasGrown old new → (v : Value) → IsLiveValue old v → IsLiveValue new v × (value_object new v ≡ value_object old v)
 value_grown old new g (value.Int i) live = (live, refl)
-value_grown old new g (value.Cell n) live = id_grown old new g (record { kind = kind.Cell; number = n }) live
+value_grown old new g (value.Cell n) live = id_grown old new g (id.Cell n) live
 value_grown old new g (value.Symbol t) live = (tt, refl)
 value_grown old new g (value.Text t) live = (tt, refl)
 

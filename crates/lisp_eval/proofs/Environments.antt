@@ -16,7 +16,7 @@ use Rattle.gl_logic.specs.declared.ids.NoMemory.{NoMemory}
 use Rattle.gl_logic.specs.declared.ids.TextId.{TextId}
 use Rattle.gl_logic.specs.declared.term.Term.{Term}
 use Rattle.hons_arena.specs.declared.id.Id.{Id}
-use Rattle.hons_arena.specs.Ids.{object_at, object_numbered, IsLive, IsNumberBelow}
+use Rattle.hons_arena.specs.Ids.{kind_in, number_in, object_at, object_numbered, IsLive, IsNumberBelow}
 use Rattle.lisp_eval.specs.declared.frame.Binding.{Binding}
 use Rattle.lisp_eval.specs.declared.frame.Focus.{Focus}
 use Rattle.lisp_eval.specs.declared.frame.Focus.TheVariants as focus
@@ -116,7 +116,7 @@ module _ (objects : List Object) where
   argument_next w done done' x v ts env old new r e q h = subst (λ (xs : List Object). IfOk r (λ f. IsNext objects (begun w xs ts env) old f new)) (ap (values_of objects) e ∙ (values_push done x ∙ ap (λ y. values_of objects done ++ y ∷ []) q)) h
 
 pub stays_at : (objects more : List Object) (x : Id) → IsLive objects x → object_at (objects ++ more) x ≡ object_at objects x
-stays_at objects more x live = (numbered_kept objects more (object_at objects x) x.kind x.number live refl).1 where
+stays_at objects more x live = (numbered_kept objects more (object_at objects x) (kind_in x) (number_in x) live refl).1 where
   numbered_kept : (xs made : List Object) (x : Object) (t : IdKind) (n : ℕ) → IsNumberBelow (length xs) t n → object_numbered xs t n ≡ x → IsNumberBelow (length (xs ++ made)) t n × (object_numbered (xs ++ made) t n ≡ x)
   numbered_kept xs made x kind.Symbol n h e = (tt, e)
   numbered_kept xs made x kind.Text n h e = (tt, e)

@@ -3,13 +3,14 @@ use Rattle.std.proofs.Common.{◌≡◌, ◌∙◌, sym, refl, subst, true, ℤ,
 use Rattle.gl_logic.specs.Object.{Object, Int}
 use Rattle.gl_logic.specs.Parts.{is_cell}
 use Rattle.gl_logic.specs.PrimValue.{prim_value, prim_of, integer_in}
+use Rattle.gl_logic.specs.Wide.{IsWideObject}
 use Rattle.gl_logic.specs.declared.prim.Primitive.{Primitive}
 use Rattle.gl_logic.specs.declared.prim.Primitive.TheVariants as prim
 use Rattle.hons_arena.specs.declared.id.Full.{Full}
 use Rattle.hons_arena.specs.declared.id.Id.{Id}
 use Rattle.hons_arena.specs.Held.{Held, Interns}
 use Rattle.hons_arena.proofs.Placing.{part_self, adds_none, adds_entered}
-use Rattle.int_prims.specs.Integers.{is_operation, integers_for}
+use Rattle.int_prims.specs.Integers.{is_operation, integers_for, IsTooWide}
 use Rattle.lisp_eval.specs.declared.primitives.PrimFault.{PrimFault}
 use Rattle.lisp_eval.specs.declared.primitives.PrimFault.TheVariants as fault
 use Rattle.lisp_eval.specs.Gives.{Gives}
@@ -74,3 +75,21 @@ gives_full old new v cell (Err u) answer e f i = subst (λ (a : Result Id PrimFa
 
 pub gives_err : (old new : Held) (v w : Object) → is_cell w ≡ true → (r : Result Id Full) (answer : Result Id PrimFault) → v ≡ w → IsErr r → answer ≡ Err fault.Full → Interns old new w r → Gives old new v answer
 gives_err old new v w cell r answer e h f i = subst (λ (z : Object). Gives old new z answer) (sym e) (gives_full old new w cell r answer h f i)
+
+-- ---- an integer that leaves 128 bits
+wide_object : (x : Object) → IsTooWide x → IsWideObject x
+wide_object (Int z) h = h
+wide_object _ h = absurd h
+
+pub gives_wide : (held : Held) (p : Primitive) (x y : Object) (a b : ℤ) → is_operation p ≡ true → a ≡ integer_in x → b ≡ integer_in y → IsTooWide (prim_value p (integers_for p a b)) → Gives held held (prim_of p x y) (Err fault.Wide)
+gives_wide held p x y a b operation e f wide =
+    let is : prim_value p (integers_for p a b) ≡ prim_of p x y = (λ j. prim_value p (integers_for p (e j) (f j))) ∙ operation_value p x y operation in record {
+      id = tt;
+      objects = adds_none (prim_of p x y) held.objects;
+      limit = refl;
+      wide = λ _. wide_object (prim_of p x y) (subst IsTooWide is wide);
+      full = λ g. not_wide (sym (err_same fault.Wide fault.Full g));
+      cell = λ g. not_wide (sym (err_same fault.Wide fault.Full g));
+      unchanged = refl;
+      whole = λ w. w;
+    }

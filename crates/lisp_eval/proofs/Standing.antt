@@ -8,7 +8,7 @@ use Rattle.hons_arena.specs.declared.id.Id.{Id}
 use Rattle.hons_arena.specs.declared.id.IdKind.{IdKind}
 use Rattle.hons_arena.specs.declared.id.IdKind.TheVariants as kind
 use Rattle.hons_arena.specs.Held.{AddsCellsOf}
-use Rattle.hons_arena.specs.Ids.{object_at, object_numbered, IsLive, IsNumberBelow}
+use Rattle.hons_arena.specs.Ids.{kind_in, number_in, object_at, object_numbered, IsLive, IsNumberBelow}
 use Rattle.lisp_eval.specs.Bindings.{id_or_nil}
 use Rattle.lisp_eval.specs.Frames.{Work, Focus, Visit, Apply, Give}
 use Rattle.lisp_eval.specs.States.{values_of}
@@ -42,7 +42,7 @@ live_by objects kind.Cell n x h = elim (cases_lt n (length objects)) [
 
 -- what stands for one object is live
 pub stable_live : (objects : List Object) (id : Id) (x : Object) → ((more : List Object) → object_at (objects ++ more) id ≡ x) → IsLive objects id
-stable_live objects id x h = live_by objects id.kind id.number x h
+stable_live objects id x h = live_by objects (kind_in id) (number_in id) x h
 
 -- ---- an arena and what it becomes
 -- every arena that the later one grows to is one that the earlier one grows to

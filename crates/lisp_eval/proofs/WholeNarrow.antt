@@ -5,7 +5,7 @@ use Rattle.std.specs.List.{Contains}
 use Rattle.gl_logic.specs.Object.{Object, Int, Character, Symbol, Text, Cons, nil}
 use Rattle.gl_logic.specs.Wide.{IsWideObject}
 use Rattle.hons_arena.specs.declared.id.Id.{Id}
-use Rattle.hons_arena.specs.declared.id.IdKind.TheVariants as kind
+use Rattle.hons_arena.specs.declared.id.Id.TheVariants as id
 use Rattle.hons_arena.specs.Held.{Held, IsWhole}
 use Rattle.hons_arena.specs.Ids.{object_at, IsLive}
 use Rattle.hons_arena.specs.Parts.{AreHeld}
@@ -14,7 +14,7 @@ use Rattle.lisp_eval.specs.Narrow.{IsNarrow}
 
 module _ (held : Held) (whole : IsWhole held) where
   held_narrow : (x : Object) → Contains held.objects x → IsWideObject x → ⊥
-  held_narrow x c w = whole.narrow (record { kind = kind.Cell; number = c.0 }) c.1 (subst IsWideObject (sym (get_or_default held.objects c.0 nil x c.1 ∙ c.2)) w)
+  held_narrow x c w = whole.narrow (id.Cell c.0) c.1 (subst IsWideObject (sym (get_or_default held.objects c.0 nil x c.1 ∙ c.2)) w)
 
   parts_narrow : (x : Object) → ((y : Object) → IsPart y x → (IsWideObject y → ⊥)) → IsNarrow x
   parts_narrow (Int z) h = h (Int z) refl

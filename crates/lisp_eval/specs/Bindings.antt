@@ -1,11 +1,11 @@
 -- Environments by ids.
 use Rattle.std.specs.Prelude.{ℕ, List, [], ◌∷◌, eqb, cond, get_or}
 use Rattle.hons_arena.specs.declared.id.Id.{Id}
-use Rattle.hons_arena.specs.declared.id.IdKind.TheVariants as kind
+use Rattle.hons_arena.specs.declared.id.Id.TheVariants as id
 use Rattle.lisp_eval.specs.declared.frame.Binding.{Binding}
 
 abbrev pub nil_id : Id
-nil_id = record { kind = kind.Symbol; number = 0 }
+nil_id = id.Symbol (record { number = 0 })
 
 abbrev pub id_or_nil : List Id → ℕ → Id
 id_or_nil ids i = get_or ids i nil_id

@@ -5,10 +5,9 @@ use Rattle.gl_logic.specs.CellCounts.{world_constants}
 use Rattle.gl_logic.specs.Object.{Object}
 use Rattle.gl_logic.specs.WorldSeen.{WorldSeen}
 use Rattle.hons_arena.specs.declared.id.Id.{Id}
-use Rattle.hons_arena.specs.declared.id.IdKind.{IdKind}
-use Rattle.hons_arena.specs.declared.id.IdKind.TheVariants as kind
+use Rattle.hons_arena.specs.declared.id.Id.TheVariants as id
 use Rattle.hons_arena.specs.Held.{Held, coded_held}
-use Rattle.hons_arena.specs.Ids.{IsLive}
+use Rattle.hons_arena.specs.Ids.{number_in, IsLive}
 use Rattle.hons_arena.specs.Parts.{AreHeld}
 use Rattle.memo_tables.specs.Calls.{Call}
 use Rattle.lisp_eval.specs.Answers.{FitMemos}
@@ -42,23 +41,23 @@ pub record IsLiveEntry (objects : List Object) (e : Call × Id) : Type 0 where
   pub value : IsLive objects e.1
 
 -- ---- the code
-abbrev pub kind_code : IdKind → ℕ
-kind_code kind.Symbol = 0
-kind_code kind.Text = 1
-kind_code kind.Cell = 2
+abbrev pub kind_code : Id → ℕ
+kind_code (id.Symbol t) = 0
+kind_code (id.Text t) = 1
+kind_code (id.Cell n) = 2
 
-abbrev pub kind_from : ℕ → IdKind
-kind_from zero = kind.Symbol
-kind_from (suc zero) = kind.Text
-kind_from _ = kind.Cell
+abbrev pub id_from : ℕ → ℕ → Id
+id_from zero n = id.Symbol (record { number = n })
+id_from (suc zero) n = id.Text (record { number = n })
+id_from _ n = id.Cell n
 
-abbrev pub kind_back : (k : IdKind) → kind_from (kind_code k) ≡ k
-kind_back kind.Symbol = refl
-kind_back kind.Text = refl
-kind_back kind.Cell = refl
+abbrev pub id_back : (i : Id) → id_from (kind_code i) (number_in i) ≡ i
+id_back (id.Symbol t) = refl
+id_back (id.Text t) = refl
+id_back (id.Cell n) = refl
 
 abbrev pub coded_id : Coded Id
-coded_id = code_by (ℕ × ℕ) (coded× coded_ℕ coded_ℕ) (λ i. (kind_code i.kind, i.number)) (λ p. record { kind = kind_from p.0; number = p.1 }) (λ i. λ j. record { kind = kind_back i.kind j; number = i.number })
+coded_id = code_by (ℕ × ℕ) (coded× coded_ℕ coded_ℕ) (λ i. (kind_code i, number_in i)) (λ p. id_from p.0 p.1) id_back
 
 abbrev pub coded_entry : Coded (Call × Id)
 coded_entry =

@@ -3,7 +3,7 @@ use Rattle.std.specs.Prelude.{ℕ, ◌<◌, List, [], ◌∷◌, length, map, eq
 use Rattle.gl_logic.specs.Object.{Object}
 use Rattle.gl_logic.specs.Object as object
 use Rattle.hons_arena.specs.Ids.{object_at}
-use Rattle.hons_arena.specs.declared.id.IdKind.TheVariants as IdKind
+use Rattle.hons_arena.specs.declared.id.Id.TheVariants as id
 use Rattle.lisp_eval.specs.Narrow.{IsNarrow}
 use Rattle.lisp_eval.specs.declared.value.Local.{Local}
 use Rattle.lisp_eval.specs.declared.value.Value.{Value}
@@ -11,7 +11,7 @@ use Rattle.lisp_eval.specs.declared.value.Value.TheVariants as value
 
 abbrev pub value_object : List Object → Value → Object
 value_object objects (value.Int i) = object.Int i
-value_object objects (value.Cell n) = object_at objects (record { kind = IdKind.Cell; number = n })
+value_object objects (value.Cell n) = object_at objects (id.Cell n)
 value_object objects (value.Symbol t) = object.Symbol t.number
 value_object objects (value.Text t) = object.Text t.number
 

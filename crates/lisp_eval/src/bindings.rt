@@ -5,14 +5,11 @@ ghost use Rattle.lisp_eval.specs.Bindings.{bindings_of, id_in, id_or_nil};
 
 use crate::frame::Binding;
 use gl_logic::{Names, NoMemory, TextId};
-use hons_arena::{Id, IdKind};
+use hons_arena::Id;
 use std::alloc::Global;
 
 /// The id of NIL.
-pub const NIL: Id = Id {
-    kind: IdKind::Symbol,
-    number: 0,
-};
+pub const NIL: Id = Id::Symbol(TextId { number: 0 });
 
 /// The id of a variable's value, that of NIL where it has none.
 pub fn look(env: &[Binding], name: TextId) -> Id

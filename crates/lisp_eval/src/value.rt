@@ -11,7 +11,7 @@ ghost use Rattle.lisp_eval.specs.Outside.{value_object, IsLiveValue};
 
 use crate::bindings::NIL;
 use gl_logic::TextId;
-use hons_arena::{Full, HonsArena, Id, IdKind, Kind};
+use hons_arena::{Full, HonsArena, Id, Kind};
 
 /// A value: an integer that needs no cell, or what the id of an object tells. Each kind has one word, so that values are
 /// copied as words.
@@ -42,10 +42,10 @@ impl Value {
         ensures value { (objects : List Object) → value_object objects result ≡ object_at objects id }
         ensures live { (objects : List Object) → IsLive objects id → IsLiveValue objects result }
     {
-        match id.kind {
-            IdKind::Cell => Value::Cell(id.number),
-            IdKind::Symbol => Value::Symbol(TextId { number: id.number }),
-            IdKind::Text => Value::Text(TextId { number: id.number }),
+        match id {
+            Id::Cell(number) => Value::Cell(number),
+            Id::Symbol(t) => Value::Symbol(t),
+            Id::Text(t) => Value::Text(t),
         }
     }
 
@@ -78,7 +78,7 @@ impl Value {
     {
         match self {
             Value::Int(i) => Kind::Int(i128::from(i)),
-            Value::Cell(number) => arena.kind(cell_id(number)),
+            Value::Cell(number) => arena.kind(Id::Cell(number)),
             Value::Symbol(t) => Kind::Symbol(t),
             Value::Text(t) => Kind::Text(t),
         }
@@ -118,9 +118,9 @@ impl Value {
     {
         match self {
             Value::Int(_) => NIL,
-            Value::Cell(number) => cell_id(number),
-            Value::Symbol(t) => symbol_id(t),
-            Value::Text(t) => text_id(t),
+            Value::Cell(number) => Id::Cell(number),
+            Value::Symbol(t) => Id::Symbol(t),
+            Value::Text(t) => Id::Text(t),
         }
     }
 
@@ -133,9 +133,9 @@ impl Value {
     {
         match self {
             Value::Int(i) => integer_id(arena, i128::from(i)),
-            Value::Cell(number) => Ok(cell_id(number)),
-            Value::Symbol(t) => Ok(symbol_id(t)),
-            Value::Text(t) => Ok(text_id(t)),
+            Value::Cell(number) => Ok(Id::Cell(number)),
+            Value::Symbol(t) => Ok(Id::Symbol(t)),
+            Value::Text(t) => Ok(Id::Text(t)),
         }
     }
 
@@ -147,9 +147,9 @@ impl Value {
     {
         match self {
             Value::Int(i) => is_integer(arena, other, i128::from(i)),
-            Value::Cell(number) => is_held(arena, other, cell_id(number)),
-            Value::Symbol(t) => is_held(arena, other, symbol_id(t)),
-            Value::Text(t) => is_held(arena, other, text_id(t)),
+            Value::Cell(number) => is_held(arena, other, Id::Cell(number)),
+            Value::Symbol(t) => is_held(arena, other, Id::Symbol(t)),
+            Value::Text(t) => is_held(arena, other, Id::Text(t)),
         }
     }
 }
@@ -185,9 +185,9 @@ fn is_held(arena: &HonsArena, value: Value, id: Id) -> bool
 {
     match value {
         Value::Int(i) => is_integer_at(arena, id, i128::from(i)),
-        Value::Cell(number) => same_ids(arena, id, cell_id(number)),
-        Value::Symbol(t) => same_ids(arena, id, symbol_id(t)),
-        Value::Text(t) => same_ids(arena, id, text_id(t)),
+        Value::Cell(number) => same_ids(arena, id, Id::Cell(number)),
+        Value::Symbol(t) => same_ids(arena, id, Id::Symbol(t)),
+        Value::Text(t) => same_ids(arena, id, Id::Text(t)),
     }
 }
 
@@ -198,7 +198,7 @@ fn is_integer(arena: &HonsArena, value: Value, i: i128) -> bool
 {
     match value {
         Value::Int(j) => i == i128::from(j),
-        Value::Cell(number) => is_integer_at(arena, cell_id(number), i),
+        Value::Cell(number) => is_integer_at(arena, Id::Cell(number), i),
         Value::Symbol(_) => false,
         Value::Text(_) => false,
     }
@@ -219,9 +219,9 @@ fn is_integer_at(arena: &HonsArena, id: Id, i: i128) -> bool
 /// Whether a cell's object is NIL.
 fn is_nil_cell(arena: &HonsArena, number: u64) -> bool
     requires { number < length arena.now.objects }
-    ensures { result ≡ is_nil (object_at arena.now.objects (record { kind = IdKind.Cell; number = number })) }
+    ensures { result ≡ is_nil (object_at arena.now.objects (Id.Cell number)) }
 {
-    match arena.kind(cell_id(number)) {
+    match arena.kind(Id::Cell(number)) {
         Kind::Symbol(t) => t.number == 0,
         _ => false,
     }
@@ -230,9 +230,9 @@ fn is_nil_cell(arena: &HonsArena, number: u64) -> bool
 /// The integer that a cell's object counts as: 0 where it is none.
 fn integer_of(arena: &HonsArena, number: u64) -> i128
     requires { number < length arena.now.objects }
-    ensures { result ≡ integer_in (object_at arena.now.objects (record { kind = IdKind.Cell; number = number })) }
+    ensures { result ≡ integer_in (object_at arena.now.objects (Id.Cell number)) }
 {
-    match arena.kind(cell_id(number)) {
+    match arena.kind(Id::Cell(number)) {
         Kind::Int(i) => i,
         _ => 0,
     }
@@ -245,34 +245,4 @@ pub fn integer_id(arena: &mut HonsArena, i: i128) -> Result<Id, Full>
     ensures whole { IsWhole arena.new }
 {
     arena.int(i)
-}
-
-/// The id of a cell.
-fn cell_id(number: u64) -> Id
-    ensures { result ≡ record { kind = IdKind.Cell; number = number } }
-{
-    Id {
-        kind: IdKind::Cell,
-        number,
-    }
-}
-
-/// The id of a symbol.
-fn symbol_id(t: TextId) -> Id
-    ensures { result ≡ record { kind = IdKind.Symbol; number = t.number } }
-{
-    Id {
-        kind: IdKind::Symbol,
-        number: t.number,
-    }
-}
-
-/// The id of a string.
-fn text_id(t: TextId) -> Id
-    ensures { result ≡ record { kind = IdKind.Text; number = t.number } }
-{
-    Id {
-        kind: IdKind::Text,
-        number: t.number,
-    }
 }

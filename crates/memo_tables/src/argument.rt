@@ -26,11 +26,7 @@ impl Model for Argument {
 
 impl Default for Argument {
     fn default() -> Argument {
-        let id = Id {
-            kind: IdKind::Symbol,
-            number: 0,
-        };
-        Argument { id }
+        Argument { id: Id::default() }
     }
 }
 
@@ -54,8 +50,8 @@ impl Hash for Argument {
     ghost respects_eq = { id_alike.fed };
 
     fn hash<H: Hasher>(&self, state: &mut H) {
-        state.write_u8(number_of_kind(self.id.kind));
-        state.write_u64(self.id.number);
+        state.write_u8(number_of_kind(self.id.kind()));
+        state.write_u64(self.id.number());
     }
 }
 

@@ -7,6 +7,7 @@ use Rattle.hons_arena.specs.Ids.{IsLive as IsIdLive, object_at}
 use Rattle.hons_arena.specs.declared.id.Id.{Id}
 use Rattle.hons_arena.specs.declared.id.IdKind.{IdKind}
 use Rattle.hons_arena.specs.declared.id.IdKind.TheVariants as id_kind
+use Rattle.hons_arena.specs.Ids.{id_numbered}
 use Rattle.hons_arena.specs.declared.id.Kind.{Kind}
 use Rattle.hons_arena.specs.declared.id.Kind.TheVariants as kind
 use Rattle.sym_objects.specs.declared.memo.Key.{Key}
@@ -42,7 +43,7 @@ kind_at (suc zero) = id_kind.Text
 kind_at _ = id_kind.Cell
 
 abbrev pub id_of : Key → Id
-id_of k = record { kind = kind_at k.second; number = k.first }
+id_of k = id_numbered (kind_at k.second) k.first
 
 abbrev pub size_at : List Object → Id → ℕ
 size_at objects id = size_of (object_at objects id)

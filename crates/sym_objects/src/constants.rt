@@ -55,13 +55,13 @@ impl<B: Bits> Sobs<B> {
 fn key_of(id: Id) -> Key
     ensures { id_of result ≡ id }
 {
-    let second = match id.kind {
+    let second = match id.kind() {
         IdKind::Symbol => 0,
         IdKind::Text => 1,
         IdKind::Cell => 2,
     };
     Key {
-        first: id.number,
+        first: id.number(),
         second,
     }
 }

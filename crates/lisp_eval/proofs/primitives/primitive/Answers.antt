@@ -5,9 +5,9 @@ use Rattle.hons_arena.specs.declared.id.Full.{Full}
 use Rattle.hons_arena.specs.declared.id.Id.{Id}
 use Rattle.hons_arena.specs.Held.{Interns}
 use Rattle.hons_arena.specs.Ids.{object_at}
-use Rattle.int_prims.specs.Integers.{is_operation, integers_for}
+use Rattle.int_prims.specs.Integers.{is_operation, integers_for, IsTooWide}
 use Rattle.lisp_eval.specs.declared.primitives.PrimFault.TheVariants as fault
-use Rattle.lisp_eval.proofs.PrimValues.{value_of_integers, gives_ok, gives_err}
+use Rattle.lisp_eval.proofs.PrimValues.{value_of_integers, gives_ok, gives_err, gives_wide}
 use Rattle.lisp_eval.proofs.primitives.primitive.Goals as goal
 
 pub returns-in_err-int-in-Ok : goal.returns-in_err-int-in-Ok
@@ -39,3 +39,11 @@ returns-in_ok-cons-in-Cons c =
     let x = object_at c.args.arena.now.objects c.args.x in
     let y = object_at c.args.arena.now.objects c.args.y in
     gives_ok c.args.arena.now c.cons.new.self (prim_of c.args.prim x y) (Cons x y) c.in_ok-cons-in-Cons.field-0 (ap (λ p. prim_of p x y) c.in-Cons.is) refl c.in_ok-cons-in-Cons.ensures.interns
+
+pub returns-in-Err : goal.returns-in-Err
+returns-in-Err c =
+    let x = object_at c.args.arena.now.objects c.args.x in
+    let y = object_at c.args.arena.now.objects c.args.y in
+    let operation : is_operation c.args.prim ≡ true = search rules in
+    let wide : IsTooWide (prim_value c.args.prim (integers_for c.args.prim c.integer_at-a.result c.integer_at-b.result)) = search rules in
+    gives_wide c.args.arena.now c.args.prim x y c.integer_at-a.result c.integer_at-b.result operation c.integer_at-a.ensures c.integer_at-b.ensures wide
