@@ -11,9 +11,10 @@ use Rattle.hons_arena.specs.Held.{Held, Enters, HasNoCell, IsWhole}
 use Rattle.hons_arena.specs.Ids.{object_at, IsBelow, IsIdOf}
 use Rattle.hons_arena.specs.Probe.{IsAbsent, IsFoundAt}
 use Rattle.hons_arena.specs.Sound.{IsSound}
-use Rattle.hons_arena.specs.Table.{empty, most_slots, IsTable, IsFreeFor}
+use Rattle.hons_arena.specs.Table.{empty, most_slots, IsTable, IsMarked, IsFreeFor}
 use Rattle.hons_arena.proofs.Closed.{all_held}
 use Rattle.hons_arena.proofs.Interned.{objects_count, each_once, same_ids, narrow_ids, absent_held, found_held, found_contains, interned_push}
+use Rattle.hons_arena.proofs.Marks.{cell_fingerprint, marked-push}
 use Rattle.hons_arena.proofs.Objects.{objects-push}
 use Rattle.hons_arena.proofs.Tables.{table-push}
 
@@ -84,23 +85,33 @@ module _ (limit : ℕ) (cells : List Cell) (c : Cell) (interned : IsInterned cel
         whole = whole_from limit new (seen limit new) now (omega (arith, few, many, room, ap length e, length_push cells c)) refl;
       }))
 
-pub sound_push : (limit : ℕ) (cells : List Cell) (capacity : ℕ) (slots : List ℕ) (places : ℕ) (c : Cell) (new : List Cell) (more : ℕ) (grown : List ℕ) (reserved : ℕ) → IsSound limit cells capacity slots places → FitsBelow (length cells) c → IsAbsent cells c
-    → length cells ≢ limit → new ≡ cells ++ c ∷ [] → limit ≤ more → IsTable new grown → length new < length grown → length grown ≤ most_slots limit → places ≤ reserved → IsSound limit new more grown reserved
-sound_push limit cells capacity slots places c new more grown reserved s parts absent room e l table free size kept = record {
+pub sound_push : (limit : ℕ) (cells : List Cell) (capacity : ℕ) (slots : List ℕ) (places : ℕ) (c : Cell) (fingerprints : List ℕ) (bytes : ℕ) (new : List Cell) (more : ℕ) (grown : List ℕ) (reserved : ℕ) (marked : List ℕ) (beside : ℕ)
+    → IsSound limit cells capacity slots places fingerprints bytes → FitsBelow (length cells) c → IsAbsent cells c
+    → length cells ≢ limit → new ≡ cells ++ c ∷ [] → limit ≤ more → IsTable new grown → length new < length grown → length grown ≤ most_slots limit → places ≤ reserved → IsMarked new grown marked → bytes ≤ beside → IsSound limit new more grown reserved marked beside
+sound_push limit cells capacity slots places c fingerprints bytes new more grown reserved marked beside s parts absent room e l table free size kept is_marked kept_beside = record {
   few = omega (arith, ap length e, length_push cells c, room, s.few);
   small = s.small;
   room = l;
   free = free;
   size = size;
   reserved = omega (arith, s.reserved, kept);
+  reserved_beside = omega (arith, s.reserved_beside, kept_beside);
   interned = subst (λ (cs : List Cell). IsInterned cs) (sym e) (interned_push cells s.interned c parts absent);
   table = table;
+  marked = is_marked;
 }
 
 -- the new cell in its slot
 pub table_added : (cells : List Cell) (slots : List ℕ) (c : Cell) (q k : ℕ) (new : List Cell) → IsTable cells slots → q < length slots → IsFreeFor slots c (length cells) q → length cells ≡ k → k < empty → new ≡ cells ++ c ∷ [] → IsTable new (set slots q k)
 table_added cells slots c q k new table within free many room e =
     subst (λ (cs : List Cell). IsTable cs (set slots q k)) (sym e) (subst (λ (n : ℕ). IsTable (cells ++ c ∷ []) (set slots q n)) many (table-push cells slots q within table c (omega (arith, many, room)) free))
+
+-- and its fingerprint beside it
+pub marked_added : (cells : List Cell) (slots fingerprints : List ℕ) (c : Cell) (q k w : ℕ) (new : List Cell) → IsTable cells slots → IsMarked cells slots fingerprints → q < length slots → length cells ≡ k → k < empty → new ≡ cells ++ c ∷ [] → w ≡ cell_fingerprint c
+    → IsMarked new (set slots q k) (set fingerprints q w)
+marked_added cells slots fingerprints c q k w new table marked within many room e f =
+    subst (λ (cs : List Cell). IsMarked cs (set slots q k) (set fingerprints q w)) (sym e) (subst (λ (n : ℕ). IsMarked (cells ++ c ∷ []) (set slots q n) (set fingerprints q w)) many
+    (subst (λ (m : ℕ). IsMarked (cells ++ c ∷ []) (set slots q (length cells)) (set fingerprints q m)) (sym f) (marked-push cells slots fingerprints marked q within table c (omega (arith, many, room)))))
 
 -- what was said of lists that are these
 pub found_here : (cells xs : List Cell) (c : Cell) (k : ℕ) → xs ≡ cells → IsFoundAt xs c k → IsFoundAt cells c k

@@ -6,6 +6,7 @@ pub mod Entering
 pub mod Homes
 pub mod Ids
 pub mod Interned
+pub mod Marks
 pub mod Newest
 pub mod Objects
 pub mod Pigeonhole

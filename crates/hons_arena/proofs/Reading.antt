@@ -9,12 +9,14 @@ use Rattle.hons_arena.specs.declared.id.Id.TheVariants as id
 use Rattle.hons_arena.specs.declared.id.IdKind.{IdKind}
 use Rattle.hons_arena.specs.declared.id.IdKind.TheVariants as kind
 use Rattle.hons_arena.specs.Cells.{cell_object, objects_of, cell_at, FitsBelow, IsInterned, IsAtomCell, cons_cell}
+use Rattle.hons_arena.specs.Hash.{free}
 use Rattle.hons_arena.specs.Held.{Held}
 use Rattle.hons_arena.specs.Ids.{kind_in, number_in, object_at, object_numbered, IsNumberBelow, IsBelow, IsLive, IsIdOf, HasNoParts, ArePartsOf}
 use Rattle.hons_arena.specs.Sound.{IsSound}
-use Rattle.hons_arena.specs.Table.{empty, slot_at, IsTable}
+use Rattle.hons_arena.specs.Table.{empty, slot_at, IsTable, IsMarked}
 use Rattle.hons_arena.proofs.Entering.{seen, count_is}
 use Rattle.hons_arena.proofs.Interned.{object_is, parts_live, interned_take}
+use Rattle.hons_arena.proofs.Marks.{marked-pop}
 use Rattle.hons_arena.proofs.Objects.{objects-take}
 use Rattle.hons_arena.proofs.Tables.{table-pop}
 
@@ -54,9 +56,9 @@ no_parts_but_cells objects (id.Text t) apart = (tt, refl, refl)
 no_parts_but_cells objects (id.Cell n) apart = absurd (apart n refl)
 
 -- the newest cell goes
-pub sound_pop : (limit : ℕ) (cells : List Cell) (capacity : ℕ) (slots : List ℕ) (places k q : ℕ) (new : List Cell) (more : ℕ) → IsSound limit cells capacity slots places → k + 1 ≡ length cells → q < length slots → slot_at slots q ≡ k
-    → new ≡ take k cells → limit ≤ more → IsSound limit new more (set slots q empty) places
-sound_pop limit cells capacity slots places k q new more s last within at e l =
+pub sound_pop : (limit : ℕ) (cells : List Cell) (capacity : ℕ) (slots : List ℕ) (places : ℕ) (fingerprints : List ℕ) (bytes k q : ℕ) (new : List Cell) (more : ℕ) → IsSound limit cells capacity slots places fingerprints bytes → k + 1 ≡ length cells → q < length slots → slot_at slots q ≡ k
+    → new ≡ take k cells → limit ≤ more → IsSound limit new more (set slots q empty) places (set fingerprints q free) bytes
+sound_pop limit cells capacity slots places fingerprints bytes k q new more s last within at e l =
     let few : length (take k cells) ≡ k = length-take-le k cells (omega (arith, last)) in record {
       few = omega (arith, ap length e, few, last, s.few);
       small = s.small;
@@ -64,8 +66,10 @@ sound_pop limit cells capacity slots places k q new more s last within at e l =
       free = omega (arith, ap length e, few, last, s.free, length-set slots q empty);
       size = omega (arith, s.size, length-set slots q empty);
       reserved = s.reserved;
+      reserved_beside = s.reserved_beside;
       interned = subst (λ (cs : List Cell). IsInterned cs) (sym e) (interned_take cells s.interned k (omega (arith, last)));
       table = subst (λ (cs : List Cell). IsTable cs (set slots q empty)) (sym e) (table-pop cells slots q within s.table k last at);
+      marked = subst (λ (cs : List Cell). IsMarked cs (set slots q empty) (set fingerprints q free)) (sym e) (marked-pop cells slots fingerprints s.marked q within s.table k last at);
     }
 
 pub objects_left : (limit : ℕ) (cells : List Cell) (held : Held) (k : ℕ) (new : List Cell) → IsInterned cells → seen limit cells ≡ held → k + 1 ≡ length cells → new ≡ take k cells → objects_of new ≡ take (length held.objects - 1) held.objects

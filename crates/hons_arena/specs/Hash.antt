@@ -1,4 +1,4 @@
--- Where the walk for a cell begins: a number made of the cell's own words.
+-- Where the walk for a cell begins, and what it is told by: numbers made of the cell's own words.
 use Rattle.std.specs.Prelude.{ℕ, ◌+◌, ◌-◌, ◌*◌, ◌/◌, ◌%◌, ◌^◌, min, bit_xor}
 use Rattle.std.specs.Int.{w128, cast_unsigned}
 use Rattle.hons_arena.specs.declared.cell.Cell.{Cell}
@@ -43,6 +43,18 @@ hash_of (cell.Int z) =
 hash_of (cell.Character n) = mixed factor n
 hash_of (cell.Cons s t m n) = hash_of_parts s t m n
 
--- the hash's share of so many slots, in whole blocks of sixteen, and its last four bits in the block
+-- a hash's share of so many slots, in whole blocks of sixteen, and its last four bits in the block
+abbrev pub home_at : ℕ → ℕ → ℕ
+home_at m hash = min (hash * (m / 16) / 2 ^ 64 * 16 + hash % 16) (m - 1)
+
+-- the slot, of so many, at which the walk for a cell begins
 abbrev pub home_of : ℕ → Cell → ℕ
-home_of m c = min (hash_of c * (m / 16) / 2 ^ 64 * 16 + hash_of c % 16) (m - 1)
+home_of m c = home_at m (hash_of c)
+
+-- what free slots have for a fingerprint, and no cell
+abbrev pub free : ℕ
+free = 0
+
+-- a hash's seven bits above those in the block, counted from 1
+abbrev pub fingerprint_of : ℕ → ℕ
+fingerprint_of hash = hash / 16 % 128 + 1

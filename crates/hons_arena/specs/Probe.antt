@@ -20,11 +20,11 @@ abbrev pub IsEnd : List Cell → List ℕ → Cell → Probe → Type 0
 IsEnd cells slots c (Found k) = IsFoundAt cells c k
 IsEnd cells slots c (Empty q) = IsAbsent cells c × (q < length slots) × IsFreeFor slots c (length cells) q
 
--- no slot of the walk from h has that number
+-- no slot of the walk from h, or no fingerprint, is that number
 abbrev pub IsNowhere : List ℕ → ℕ → ℕ → Type 0
 IsNowhere slots h k = (i : ℕ) → i < length slots → slot_at slots (walk (length slots) h i) ≢ k
 
--- the first slot of the walk from h that has that number
+-- the first slot of the walk from h, or the first fingerprint, that is that number
 pub record IsFirstWith (slots : List ℕ) (h k q : ℕ) : Type 0 where
   pub steps : ℕ
   pub within : steps < length slots

@@ -2,7 +2,7 @@
 use Rattle.std.specs.Prelude.{◌≡◌, ◌≢◌, ℕ, ◌+◌, ◌-◌, ◌*◌, ◌<◌, ◌≤◌, List, length, get_or, if◌then◌else◌, nat_lt}
 use Rattle.hons_arena.specs.declared.cell.Cell.{Cell}
 use Rattle.hons_arena.specs.Cells.{cell_at}
-use Rattle.hons_arena.specs.Hash.{home_of}
+use Rattle.hons_arena.specs.Hash.{hash_of, home_of, free, fingerprint_of}
 
 -- what an empty slot has, and no cell's number
 abbrev pub empty : ℕ
@@ -32,6 +32,12 @@ pub record IsTable (cells : List Cell) (slots : List ℕ) : Type 0 where
   pub placed : (j : ℕ) → j < length cells → IsPlaced (length slots) slots (cell_at cells j) j
   pub numbers : (q : ℕ) → slot_at slots q ≢ empty → slot_at slots q < length cells
   pub single : (p q : ℕ) → slot_at slots p < length cells → slot_at slots p ≡ slot_at slots q → p ≡ q
+
+-- beside each slot stands the fingerprint of its cell, or that of a free one
+pub record IsMarked (cells : List Cell) (slots fingerprints : List ℕ) : Type 0 where
+  pub size : length fingerprints ≡ length slots
+  pub vacant : (q : ℕ) → slot_at slots q ≡ empty → get_or fingerprints q free ≡ free
+  pub taken : (q : ℕ) → slot_at slots q ≢ empty → get_or fingerprints q free ≡ fingerprint_of (hash_of (cell_at cells (slot_at slots q)))
 
 -- the slot at which a new cell goes in, behind so many others
 pub record IsFreeFor (slots : List ℕ) (c : Cell) (count q : ℕ) : Type 0 where

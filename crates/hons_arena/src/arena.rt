@@ -7,10 +7,10 @@ ghost use Rattle.hons_arena.specs.Cells.{cell_object, FitsBelow};
 ghost use Rattle.hons_arena.specs.Held.{Interns, IsWhole};
 
 use crate::cell::{Cell, of_parts, parts_of_cell, same_id};
-use crate::hash::home;
+use crate::hash::{fingerprint_of, hash, home};
 use crate::id::{Full, Id, Kind, Mark};
 use crate::probe::{Probe, end_for};
-use crate::slots::{EMPTY, FIRST_SLOTS, make_empty, make_room, most, slot_with};
+use crate::slots::{EMPTY, FIRST_SLOTS, FREE, make_empty, make_room, most, slot_with};
 use gl_logic::{NoMemory, TextId};
 use std::alloc::Global;
 use std::marker::Model;
@@ -21,11 +21,13 @@ use std::marker::Model;
 /// Contracts see the limit and the objects of the cells, in the order of their making. The cells lie in one
 /// vector beside a slot table, whose room is reserved at making: no later call takes memory. The table is small at
 /// first and grows fourfold within its room when it is half full, so that making an arena takes no longer for a high limit.
+/// Each slot has a byte beside it, which tells most cells apart without reading them.
 #[derive(Drop)]
 pub struct HonsArena {
     limit: u32,
     cells: Vec<Cell>,
     slots: Vec<u32>,
+    fingerprints: Vec<u8>,
 }
 
 impl Model for HonsArena {
@@ -41,7 +43,7 @@ impl Model for HonsArena {
 
     ghost view = { λ a. record { limit = a.limit; objects = objects_of a.cells.items } };
 
-    ghost invariant = { λ a. IsSound a.limit a.cells.items (vec_capacity a.cells) a.slots.items (vec_capacity a.slots) };
+    ghost invariant = { λ a. IsSound a.limit a.cells.items (vec_capacity a.cells) a.slots.items (vec_capacity a.slots) a.fingerprints.items (vec_capacity a.fingerprints) };
 }
 
 impl HonsArena {
@@ -51,11 +53,13 @@ impl HonsArena {
     {
         let cells = Vec::with_capacity(alloc, limit as usize)?;
         let mut slots = Vec::with_capacity(alloc, most(limit))?;
-        make_empty(&mut slots, FIRST_SLOTS.min(most(limit)));
+        let mut fingerprints = Vec::with_capacity(alloc, most(limit))?;
+        make_empty(&mut slots, &mut fingerprints, FIRST_SLOTS.min(most(limit)));
         Ok(HonsArena {
             limit,
             cells,
             slots,
+            fingerprints,
         })
     }
 
@@ -82,7 +86,14 @@ impl HonsArena {
         requires { FitsBelow (length self.old.objects) cell }
         ensures { Interns self.old self.new (cell_object self.old.objects cell) result }
     {
-        match end_for(self.cells.as_slice(), self.slots.as_slice(), cell) {
+        let hash = hash(cell);
+        match end_for(
+            self.cells.as_slice(),
+            self.slots.as_slice(),
+            self.fingerprints.as_slice(),
+            cell,
+            hash,
+        ) {
             Probe::Found(number) => Ok(cell_id(number)),
             Probe::Empty(slot) => {
                 let number = self.cells.len() as u32;
@@ -90,11 +101,17 @@ impl HonsArena {
                     return Err(Full);
                 }
                 self.slots[slot] = number;
+                self.fingerprints[slot] = fingerprint_of(hash);
                 match self.cells.push(cell) {
                     Ok(()) => {}
                     Err(_) => unreachable!(),
                 }
-                make_room(self.cells.as_slice(), &mut self.slots, most(self.limit));
+                make_room(
+                    self.cells.as_slice(),
+                    &mut self.slots,
+                    &mut self.fingerprints,
+                    most(self.limit),
+                );
                 Ok(cell_id(number))
             }
         }
@@ -232,9 +249,10 @@ impl HonsArena {
         ensures limit { self.new.limit ≡ self.old.limit }
     {
         let newest = self.cells.len() - 1;
-        let home = home(self.cells[newest], self.slots.len());
+        let home = home(hash(self.cells[newest]), self.slots.len());
         let slot = slot_with(self.slots.as_slice(), home, newest as u32);
         self.slots[slot] = EMPTY;
+        self.fingerprints[slot] = FREE;
         self.cells.truncate(newest);
     }
 

@@ -1,10 +1,10 @@
-//! The hash of a cell, from the cell's own words, and the slot where the walk for it begins.
+//! The hash of a cell, from the cell's own words, the slot where the walk for it begins, and its fingerprint.
 //!
 //! Cells that are made one after the other are mostly asked for one after the other, so their slots lie side by side: in one
 //! block of sixteen, which is a line of a processor's cache.
 
 ghost use Rattle.std.specs.Prelude.{◌≡◌, ◌<◌};
-ghost use Rattle.hons_arena.specs.Hash.{mixed, tag_of, apart, hash_of_parts, hash_of, home_of};
+ghost use Rattle.hons_arena.specs.Hash.{mixed, tag_of, apart, hash_of_parts, hash_of, home_at, fingerprint_of};
 
 use crate::cell::Cell;
 use crate::id::IdKind;
@@ -62,7 +62,7 @@ fn hash_parts(first_kind: IdKind, rest_kind: IdKind, first: u64, rest: u64) -> u
 /// The hash of a cell. Words that differ in their last bits alone, three of an integer and four of a cons, have hashes that
 /// differ in the last four alone. Integers take every second slot, which leaves room for others between them.
 #[tactic(auto, unfolding(crate::specs::Hash::hash_of))]
-fn hash(cell: Cell) -> u64
+pub fn hash(cell: Cell) -> u64
     ensures { result ≡ hash_of cell }
 {
     match cell {
@@ -79,17 +79,25 @@ fn hash(cell: Cell) -> u64
     }
 }
 
-/// The slot, of so many, at which the walk for a cell begins. The high half of the product of hash and blocks, which takes
-/// no division, is a block of sixteen slots; the hash's last four bits are the slot in it.
+/// The slot, of so many, at which the walk for a cell of this hash begins. The high half of the product of hash and blocks,
+/// which takes no division, is a block of sixteen slots; the hash's last four bits are the slot in it.
 #[inline(always)]
 #[tactic(auto, using(crate::proofs::Homes::home_fits, crate::proofs::Homes::product_fits))]
-pub fn home(cell: Cell, slots: usize) -> usize
+pub fn home(hash: u64, slots: usize) -> usize
     requires { 0 < slots }
-    ensures home { result ≡ home_of slots cell }
+    ensures home { result ≡ home_at slots hash }
     ensures within { result < slots }
 {
-    let hash = hash(cell);
     let product = u128::from(hash) * (slots / 16) as u128;
     let block = (product / (1 << 64)) as usize;
     (block * 16 + (hash % 16) as usize).min(slots - 1)
+}
+
+/// The fingerprint of a cell of this hash, from 1 to 128: the seven bits above those that are its slot in a block. Cells whose
+/// hashes differ in the last four bits alone share it, and have homes of their own; of other cells one in 128 has it.
+#[inline(always)]
+pub fn fingerprint_of(hash: u64) -> u8
+    ensures { result ≡ fingerprint_of hash }
+{
+    (hash / 16 % 128) as u8 + 1
 }

@@ -2,10 +2,11 @@ use Rattle.std.proofs.Common.{rules, arith, ◌≡◌, ◌≢◌, ◌≤◌, ◌
 use Rattle.std.specs.Vec.{vec_capacity}
 use Rattle.hons_arena.specs.declared.cell.Cell.{Cell}
 use Rattle.hons_arena.specs.Cells.{FitsBelow, cell_object}
+use Rattle.hons_arena.specs.Hash.{fingerprint_of}
 use Rattle.hons_arena.specs.Held.{Held, HasNoCell}
 use Rattle.hons_arena.specs.Probe.{IsFoundAt}
-use Rattle.hons_arena.specs.Table.{IsTable}
-use Rattle.hons_arena.proofs.Entering.{seen, count_is, whole_from, found, Has, found_here, IsEmptyEnd, empty_here, no_cell, added, Gets, sound_push, table_added}
+use Rattle.hons_arena.specs.Table.{IsTable, IsMarked}
+use Rattle.hons_arena.proofs.Entering.{seen, count_is, whole_from, found, Has, found_here, IsEmptyEnd, empty_here, no_cell, added, Gets, sound_push, table_added, marked_added}
 use Rattle.hons_arena.proofs.arena.HonsArena.enter.Goals as goal
 
 pub returns-in-Found : goal.returns-in-Found
@@ -34,6 +35,17 @@ make_room-requires-clause-table c =
     let grown : c.push.new.self.items ≡ inside.cells.items ++ c.args.cell ∷ [] = search rules in
     table_added inside.cells.items inside.slots.items c.args.cell c.in-Empty.slot c.len-number.result c.as_slice-in-Empty.result.now s.table end.within end.free many (omega (arith, many, apart, s.few, s.small)) (c.as_slice-in-Empty.ensures.value ∙ grown)
 
+pub make_room-requires-clause-marked : goal.make_room-requires-clause-marked
+make_room-requires-clause-marked c =
+    let inside = c.self.inside in
+    let s = c.self.invariant in
+    let end : IsEmptyEnd inside.cells.items inside.slots.items c.args.cell c.in-Empty.slot = empty_here _ _ _ _ _ _ c.as_slice.ensures.value c.as_slice-2.ensures.value c.in-Empty.ensures in
+    let many : length inside.cells.items ≡ c.len-number.result = search rules in
+    let apart : c.len-number.result ≢ inside.limit = search rules in
+    let grown : c.push.new.self.items ≡ inside.cells.items ++ c.args.cell ∷ [] = search rules in
+    marked_added inside.cells.items inside.slots.items inside.fingerprints.items c.args.cell c.in-Empty.slot c.len-number.result c.fingerprint_of.result c.as_slice-in-Empty.result.now s.table s.marked end.within many (omega (arith, many, apart, s.few, s.small)) (c.as_slice-in-Empty.ensures.value ∙ grown)
+    (c.fingerprint_of.ensures ∙ ap fingerprint_of c.hash-hash.ensures)
+
 pub invariant_of-self : goal.invariant_of-self
 invariant_of-self c =
     let inside = c.self.inside in
@@ -46,8 +58,10 @@ invariant_of-self c =
     let parts : FitsBelow (length inside.cells.items) c.args.cell = subst (λ (m : ℕ). FitsBelow m c.args.cell) (sym (count_is inside.limit inside.cells.items c.args.self.now s.interned c.self.view_is)) c.requires in
     let room : inside.limit ≤ vec_capacity c.push.new.self = search rules in
     let table : IsTable c.push.new.self.items c.make_room.new.slots.items = subst (λ (cs : List Cell). IsTable cs c.make_room.new.slots.items) value c.make_room.ensures.table in
-    sound_push inside.limit inside.cells.items (vec_capacity inside.cells) inside.slots.items (vec_capacity inside.slots) c.args.cell c.push.new.self.items (vec_capacity c.push.new.self) c.make_room.new.slots.items (vec_capacity c.make_room.new.slots) s parts end.absent (λ e. apart (sym many ∙ e)) grown room
-    table (omega (arith, ap length value, c.make_room.ensures.free)) (omega (arith, c.make_room.ensures.within, c.most.ensures)) c.make_room.ensures.capacity
+    let marked : IsMarked c.push.new.self.items c.make_room.new.slots.items c.make_room.new.fingerprints.items = subst (λ (cs : List Cell). IsMarked cs c.make_room.new.slots.items c.make_room.new.fingerprints.items) value c.make_room.ensures.marked in
+    sound_push inside.limit inside.cells.items (vec_capacity inside.cells) inside.slots.items (vec_capacity inside.slots) c.args.cell inside.fingerprints.items (vec_capacity inside.fingerprints) c.push.new.self.items (vec_capacity c.push.new.self) c.make_room.new.slots.items (vec_capacity c.make_room.new.slots)
+    c.make_room.new.fingerprints.items (vec_capacity c.make_room.new.fingerprints) s parts end.absent (λ e. apart (sym many ∙ e)) grown room
+    table (omega (arith, ap length value, c.make_room.ensures.free)) (omega (arith, c.make_room.ensures.within, c.most.ensures)) c.make_room.ensures.capacity marked c.make_room.ensures.capacity_beside
 
 pub returns-in-Ok : goal.returns-in-Ok
 returns-in-Ok c =
