@@ -1,5 +1,5 @@
 -- Calls, and what it means that one is kept.
-use Rattle.std.specs.Prelude.{◌≡◌, ◌≢◌, ℕ, List, AllPairs, Contains}
+use Rattle.std.specs.Prelude.{◌≢◌, ℕ, List, AllPairs, Contains}
 use Rattle.hons_arena.specs.declared.id.Id.{Id}
 
 -- a call of the function of this number with these arguments

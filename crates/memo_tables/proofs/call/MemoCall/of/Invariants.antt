@@ -1,4 +1,4 @@
-use Rattle.std.proofs.Common.{◌≡◌, ◌≤◌, length, IfOk, IsOk, ℕ, ◌+◌, ◌-◌, ◌*◌, ◌<◌, map, take}
+use Rattle.std.proofs.Common.{◌≡◌, ◌≤◌, length, take}
 use Rattle.memo_tables.proofs.call.MemoCall.of.Given as goal
 
 abbrev pub invariant-loop-id : goal.invariant-loop-id

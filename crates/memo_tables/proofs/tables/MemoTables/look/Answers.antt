@@ -1,4 +1,4 @@
-use Rattle.std.proofs.Common.{rules, ◌≡◌, sym, ◌∙◌, ap, subst, List}
+use Rattle.std.proofs.Common.{◌∙◌, ap, List}
 use Rattle.hons_arena.specs.declared.id.Id.{Id}
 use Rattle.std.specs.Map.{lookup}
 use Rattle.memo_tables.specs.Calls.{Call}
