@@ -1,5 +1,6 @@
 pub mod Alists
 pub mod Keys
+pub mod Latest
 pub mod Longer
 pub mod Makes
 pub mod Tables

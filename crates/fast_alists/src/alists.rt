@@ -1,24 +1,23 @@
 //! The tables of lists.
 
-ghost use Rattle.std.specs.Prelude.{◌≡◌, List, None, Some, IfOk, IfSome, IsSome, OnOk};
+ghost use Rattle.std.specs.Prelude.{◌≡◌, List, None, IfOk, IfSome, IsSome};
 ghost use Rattle.std.specs.Option.{option_map};
 ghost use Rattle.gl_logic.specs.Object.{Object};
 ghost use Rattle.hons_arena.specs.Held.{IsWhole};
 ghost use Rattle.hons_arena.specs.Ids.{object_at, IsLive};
 ghost use Rattle.fast_alists.specs.Alists.{pair_object, forked_object};
-ghost use Rattle.fast_alists.specs.Tables.{Agree, HasTable, IsTable, SetsTable, TakesOver, table_in};
+ghost use Rattle.fast_alists.specs.Tables.{Agree, HasTable, IsTable, SetsTable, TakesOver};
 ghost use Rattle.fast_alists.specs.Longer.{IsLonger, longer_object};
 ghost use Rattle.fast_alists.specs.Makes.{Makes};
 
 use crate::extend::{Longer, extend};
 use crate::fault::AlistFault;
 use crate::fork::fork_onto;
-use crate::key::Key;
 use crate::table::Table;
+use crate::tables::Tables;
 use crate::walk::{first_pair, parts, table_of};
 use gl_logic::NoMemory;
 use hons_arena::{HonsArena, Id};
-use indexmap::IndexMap;
 use std::alloc::Global;
 use std::marker::Model;
 
@@ -27,7 +26,7 @@ use std::marker::Model;
 #[derive(Drop)]
 pub struct FastAlists {
     alloc: Global,
-    tables: IndexMap<Key, Table>,
+    tables: Tables,
 }
 
 impl Model for FastAlists {
@@ -36,7 +35,7 @@ impl Model for FastAlists {
 
     ghost Value = { List (IdSeen × List (IdSeen × IdSeen)) };
 
-    ghost view = { λ f. f.tables.entries };
+    ghost view = { λ f. f.tables };
 }
 
 impl FastAlists {
@@ -46,7 +45,7 @@ impl FastAlists {
     {
         Ok(FastAlists {
             alloc,
-            tables: IndexMap::new(alloc),
+            tables: Tables::new(alloc),
         })
     }
 
@@ -83,7 +82,7 @@ impl FastAlists {
     {
         let key_is_live = arena.is_live(key);
         prove!(key_is_live);
-        match self.tables.get(&Key { id: alist }) {
+        match self.tables.get(alist) {
             Some(table) => table.pair(key),
             None => first_pair(arena, key, alist),
         }
@@ -103,7 +102,7 @@ impl FastAlists {
     {
         let mut table = self.table_for(arena, ans)?;
         let forked = fork_onto(arena, &mut table, alist, ans)?;
-        self.keep(forked, table)?;
+        self.tables.keep(forked, table)?;
         Ok(forked)
     }
 
@@ -112,7 +111,7 @@ impl FastAlists {
         ensures dropped { SetsTable self.old self.new alist None }
         ensures agree { (objects : List Object) → Agree objects self.old → Agree objects self.new }
     {
-        self.take(alist);
+        self.tables.take(alist);
     }
 
     /// Drops all tables.
@@ -120,15 +119,6 @@ impl FastAlists {
         ensures agree { (objects : List Object) → Agree objects self.new }
     {
         self.tables.clear();
-    }
-
-    /// Takes the table of a list out.
-    fn take(&mut self, alist: Id) -> Option<Table>
-        ensures table { result ≡ table_in self.old alist }
-        ensures others { SetsTable self.old self.new alist None }
-        ensures agree { (objects : List Object) → Agree objects self.old → Agree objects self.new }
-    {
-        self.tables.swap_remove(&Key { id: alist })
     }
 
     /// The table that goes over to an extension of the list.
@@ -140,7 +130,7 @@ impl FastAlists {
         ensures taken { HasTable self.old alist → IsSome result }
         ensures left { ¬ HasTable self.new alist }
     {
-        match self.take(alist) {
+        match self.tables.take(alist) {
             Some(table) => Some(table),
             None => match parts(arena, alist) {
                 Some(_) => None,
@@ -156,7 +146,7 @@ impl FastAlists {
         ensures table { IfOk result (λ t. IsTable arena.now.objects alist t) }
         ensures agree { Agree arena.now.objects self.new }
     {
-        match self.take(alist) {
+        match self.tables.take(alist) {
             Some(table) => Ok(table),
             None => table_of(self.alloc, arena, alist),
         }
@@ -181,18 +171,9 @@ impl FastAlists {
             None => Ok(longer.list),
             Some(mut table) => {
                 table.put(key, longer.pair)?;
-                self.keep(longer.list, table)?;
+                self.tables.keep(longer.list, table)?;
                 Ok(longer.list)
             }
         }
-    }
-
-    /// Puts a table in the place of any other of its list.
-    fn keep(&mut self, alist: Id, table: Table) -> Result<(), NoMemory>
-        ensures sets { OnOk result (SetsTable self.old self.new alist (Some table)) }
-        ensures agree { (objects : List Object) → IsTable objects alist table → Agree objects self.old → Agree objects self.new }
-    {
-        self.tables.insert(Key { id: alist }, table)?;
-        Ok(())
     }
 }

@@ -9,6 +9,7 @@ mod fork;
 mod key;
 pub mod laws;
 mod table;
+mod tables;
 mod walk;
 
 pub use alists::FastAlists;

@@ -1,9 +1,0 @@
-use Rattle.std.proofs.Common.{rules, None}
-use Rattle.fast_alists.specs.Tables.{SetsTable}
-use Rattle.fast_alists.proofs.Agreeing.{agree_taken}
-use Rattle.fast_alists.proofs.alists.FastAlists.take.Goals as goal
-
-pub returns-clause-agree : goal.returns-clause-agree
-returns-clause-agree c objects agree =
-    let sets : SetsTable c.args.self.now c.swap_remove.new.self.entries c.args.alist None = search rules in
-    agree_taken objects c.args.self.now c.swap_remove.new.self.entries c.args.alist sets agree

@@ -1,0 +1,113 @@
+//! Which list has which table.
+
+ghost use Rattle.std.specs.Prelude.{◌≡◌, List, [], None, Some, OnOk, OnErr};
+ghost use Rattle.std.specs.Option.{option_copied};
+ghost use Rattle.gl_logic.specs.Object.{Object};
+ghost use Rattle.fast_alists.specs.Latest.{in_front, SameTables};
+ghost use Rattle.fast_alists.specs.Tables.{Agree, IsTable, SetsTable, table_in};
+
+use crate::key::Key;
+use crate::table::Table;
+use gl_logic::NoMemory;
+use hons_arena::Id;
+use indexmap::IndexMap;
+use std::alloc::Global;
+use std::marker::Model;
+
+/// The table that was kept last, and its list.
+#[derive(Drop)]
+struct Latest {
+    list: Key,
+    table: Table,
+}
+
+/// The tables of lists. The one that was kept last stands by itself, since an extension mostly asks for it next.
+/// Contracts see each list that has a table, with the table.
+#[derive(Drop)]
+pub struct Tables {
+    latest: Option<Latest>,
+    others: IndexMap<Key, Table>,
+}
+
+impl Model for Tables {
+    ghost use Rattle.std.specs.Prelude.{List};
+    ghost use Rattle.hons_arena.specs.declared.id.Id.{Id as IdSeen};
+    ghost use Rattle.fast_alists.specs.Latest.{in_front, OthersLack};
+
+    ghost Value = { List (IdSeen × List (IdSeen × IdSeen)) };
+
+    ghost view = { λ t. in_front t.latest t.others.entries };
+
+    ghost invariant = { λ t. OthersLack t.latest t.others.entries };
+}
+
+impl Tables {
+    /// No tables. Takes no memory.
+    pub fn new(alloc: Global) -> Tables
+        ensures { result ≡ [] }
+    {
+        Tables {
+            latest: None,
+            others: IndexMap::new(alloc),
+        }
+    }
+
+    /// The table of a list.
+    pub fn get(&self, list: Id) -> Option<&Table>
+        ensures { option_copied result ≡ table_in self.now list }
+    {
+        let key = Key { id: list };
+        match &self.latest {
+            Some(latest) if key == latest.list => Some(&latest.table),
+            _ if self.others.is_empty() => None,
+            _ => self.others.get(&key),
+        }
+    }
+
+    /// Takes the table of a list out. Nothing is hashed for that of the latest list, or where there are no others.
+    pub fn take(&mut self, list: Id) -> Option<Table>
+        ensures table { result ≡ table_in self.old list }
+        ensures sets { SetsTable self.old self.new list None }
+    {
+        let key = Key { id: list };
+        match &self.latest {
+            Some(latest) if key == latest.list => self.latest.take().map(|latest| latest.table),
+            _ if self.others.is_empty() => None,
+            _ => self.others.swap_remove(&key),
+        }
+    }
+
+    /// Puts a table in the place of any other of its list. After a refusal some tables may be gone.
+    pub fn keep(&mut self, list: Id, table: Table) -> Result<(), NoMemory>
+        ensures sets { OnOk result (SetsTable self.old self.new list (Some table)) }
+        ensures agree { (objects : List Object) → IsTable objects list table → Agree objects self.old → Agree objects self.new }
+    {
+        self.take(list);
+        let before = self.latest.take();
+        put_among(&mut self.others, before)?;
+        self.latest = Some(Latest {
+            list: Key { id: list },
+            table,
+        });
+        Ok(())
+    }
+
+    /// Drops all tables.
+    pub fn clear(&mut self)
+        ensures { self.new ≡ [] }
+    {
+        self.latest = None;
+        self.others.clear();
+    }
+}
+
+/// Puts the table that was kept last among the others, which stay as they are after a refusal.
+fn put_among(others: &mut IndexMap<Key, Table>, latest: Option<Latest>) -> Result<(), NoMemory>
+    ensures ok { OnOk result (SameTables (in_front latest others.old.entries) others.new.entries) }
+    ensures err { OnErr result (others.new.entries ≡ others.old.entries) }
+{
+    if let Some(before) = latest {
+        others.insert(before.list, before.table)?;
+    }
+    Ok(())
+}
