@@ -10,7 +10,7 @@ use Rattle.lisp_eval.specs.Aheads.{BindsFound, BindsUpTo}
 use Rattle.lisp_eval.specs.Directs.{GivesAtOnce}
 use Rattle.lisp_eval.specs.Integers.{GivesInteger}
 use Rattle.lisp_eval.specs.Narrow.{IsNarrow}
-use Rattle.lisp_eval.specs.Outside.{locals_of}
+use Rattle.lisp_eval.specs.Outside.{locals_of, on_locals}
 use Rattle.lisp_eval.specs.Sights.{Sees}
 use Rattle.lisp_eval.specs.declared.value.Local.{Local}
 use Rattle.lisp_eval.specs.declared.value.Value.TheVariants as value
@@ -30,14 +30,10 @@ integer_told locals t left rest i x same g ds fs held whole = record {
   lacks = λ e. absurd cc;
 }
 
-pub all_terms : (ts : List Term) → drop 0 ts ≡ ts
-all_terms [] = refl
-all_terms (t ∷ ts) = refl
-
 -- one more is bound
-pub one_more : (locals : List Local) (names : List ℕ) (ts : List Term) (from left mid rest k : ℕ) (before middle late : List Local) → BindsUpTo (λ objects. locals_of objects locals) names ts from left mid before middle k
+pub one_more : (locals : List Local) (names : List ℕ) (ts : List Term) (from left mid rest k : ℕ) (before middle late : List Local) → BindsUpTo (on_locals locals) names ts from left mid before middle k
     → (t : Term) → slice_get ts k ≡ Some t → (l : Local) → slice_get names k ≡ Some l.name.number → (i x : ℤ) → x ≡ i → l.value ≡ value.Int x → GivesInteger locals (term_of t) mid rest i → late ≡ middle ++ l ∷ []
-    → BindsUpTo (λ objects. locals_of objects locals) names ts from left rest before late (k + 1)
+    → BindsUpTo (on_locals locals) names ts from left rest before late (k + 1)
 one_more locals names ts from left mid rest k before middle late first t there l name i x same is g all ds fs held new after answer whole h =
     let env = locals_of held.objects locals in
     let behind = subst (λ (ls : List Local). BindsFound ds fs env (drop (k + 1) names) (terms_of (drop (k + 1) ts)) rest held new ls after answer) all h in

@@ -1,4 +1,3 @@
-pub mod StepsAhead
 pub mod Along
 pub mod Amongs
 pub mod AppliedGo
@@ -19,10 +18,12 @@ pub mod IntegerGives
 pub mod Law
 pub mod Leads
 pub mod Levels
-pub mod More
 pub mod Locals
 pub mod Machines
+pub mod More
 pub mod MovesGo
+pub mod NextBound
+pub mod Placed
 pub mod PlacedConstants
 pub mod Places
 pub mod PrimValues
@@ -35,6 +36,7 @@ pub mod State
 pub mod StateAhead
 pub mod StateApplies
 pub mod StateGives
+pub mod StepsAhead
 pub mod Structural
 pub mod TableAnswers
 pub mod TableValues
@@ -44,7 +46,6 @@ pub mod Values
 pub mod WholeNarrow
 pub mod Within
 pub mod Worked
-pub mod Placed
 pub mod ZeroGives
 pub mod ZeroOver
 pub mod ZeroTells

@@ -116,6 +116,9 @@ module _ (ds : List Definition) (functions : List ℕ) (env : List (ℕ × Objec
     lacks = λ e. absurd cc;
   })
 
+  pub none_held : (held : Held) (names : List ℕ) (us : Exps) (left : ℕ) (before after : List Local) (answer : Result ℕ Stop) → IsWhole held → answer ≡ Err stop.Memory → Binds names us left held held before after answer
+  none_held held names us left before after answer whole is = subst (Binds names us left held held before after) (sym is) (record { adds = adds_none (SeeAll ds functions env us) held whole; binds = tt; lacks = λ e. absurd cc })
+
   module _ (us : Exps) (t : Exp) (ts : Exps) (same : us ≡ More t ts) (left : ℕ) (names : List ℕ) (old mid : Held) (before : List Local) where
     abbrev All : List Object → Type 0
     All = SeeAll ds functions env (More t ts)
@@ -249,10 +252,6 @@ module _ (all : List Local) (l : Local) (locals : List Local) (same : all ≡ l 
       part (Err e) g = tt
 
 -- ---- one step
-none_dropped : (xs : List ℕ) → drop 0 xs ≡ xs
-none_dropped [] = refl
-none_dropped (x ∷ xs) = refl
-
 module _ (ds : List Definition) (functions : List ℕ) (env : List (ℕ × Object)) where
   abbrev Takes : Exp → ℕ → Held → Held → List Local → Result Step Stop → Type 0
   Takes = StepTells ds functions env
@@ -293,11 +292,11 @@ module _ (ds : List Definition) (functions : List ℕ) (env : List (ℕ × Objec
       lacks = λ g. lacks_by There (SeeAll ds functions env ts) new (call_sees_parts ds functions env f ts) (h.lacks (stops_same e g));
     }))
 
-    module _ (d : Definition) (opens : OpensAtOnce ds functions f) (found : slice_get ds f ≡ Some d) (first : before ≡ []) (all : names ≡ drop 0 d.formals) (some : 0 < left) where
+    module _ (d : Definition) (opens : OpensAtOnce ds functions f) (found : slice_get ds f ≡ Some d) (first : before ≡ []) (all : names ≡ d.formals) (some : 0 < left) where
       body_way : (rest : ℕ) (v : Exp) → v ≡ d.body → AreBound ds functions env names ts (left - 1) new.objects before after rest → GoesInto ds functions env (Call f ts) left new.objects after v rest
       body_way rest v body h =
           let is : after ≡ h.made = h.is ∙ ap (λ ls. ls ++ h.made) first in
-          let env_is : extended d.formals h.values [] ≡ locals_of new.objects after = sym (none_more (bound d.formals h.values)) ∙ (ap (λ vs. bound vs h.values) (sym (all ∙ none_dropped d.formals)) ∙ (sym h.names_are ∙ ap (locals_of new.objects) (sym is))) in
+          let env_is : extended d.formals h.values [] ≡ locals_of new.objects after = sym (none_more (bound d.formals h.values)) ∙ (ap (λ vs. bound vs h.values) (sym all) ∙ (sym h.names_are ∙ ap (locals_of new.objects) (sym is))) in
           let leads = leads_call ds functions env f ts d h.values (left - 1 - rest) h.give opens found in
           record {
             way = record {

@@ -22,6 +22,10 @@ abbrev pub scope_env : List Object → Scope → List (ℕ × Object)
 scope_env objects (scope.Outer bindings) = env_of objects bindings.now
 scope_env objects (scope.Inner locals) = locals_of objects locals.now
 
+-- the same, in whatever arena
+abbrev pub in_scope : Scope → List Object → List (ℕ × Object)
+in_scope scope objects = scope_env objects scope
+
 abbrev pub IsLiveScope : List Object → Scope → Type 0
 IsLiveScope objects (scope.Outer bindings) = Every (λ b. IsLive objects b.value) bindings.now
 IsLiveScope objects (scope.Inner locals) = Every (λ l. IsLiveValue objects l.value) locals.now

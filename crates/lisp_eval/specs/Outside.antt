@@ -29,3 +29,7 @@ local_in (l ∷ locals) v = cond (eqb l.name.number v) l.value (local_in locals 
 
 abbrev pub locals_of : List Object → List Local → List (ℕ × Object)
 locals_of objects locals = map (λ l. (l.name.number, value_object objects l.value)) locals
+
+-- the same, in whatever arena
+abbrev pub on_locals : List Local → List Object → List (ℕ × Object)
+on_locals locals objects = locals_of objects locals

@@ -1,6 +1,6 @@
 //! Evaluations that go ahead without frames.
 
-ghost use Rattle.std.specs.Prelude.{◌≡◌, ◌≤◌, IfOk, IsTrue, [], ◌∷◌, drop, length};
+ghost use Rattle.std.specs.Prelude.{◌≡◌, ◌≤◌, IfOk, IsTrue, [], ◌∷◌, length};
 ghost use Rattle.fast_alists.specs.Tables.{Agree};
 ghost use Rattle.gl_logic.specs.Every.{Every};
 ghost use Rattle.gl_logic.specs.TermOf.{term_of, terms_of};
@@ -8,7 +8,7 @@ ghost use Rattle.hons_arena.specs.Held.{IsWhole};
 ghost use Rattle.hons_arena.specs.Ids.{IsLive};
 ghost use Rattle.lisp_eval.specs.Aheads.{AheadTells, StepTellsIn, MayOpen, BindsFoundIn, BindsUpTo, EntersLocals, AreLiveLocals};
 ghost use Rattle.lisp_eval.specs.Attempts.{TellsIn};
-ghost use Rattle.lisp_eval.specs.Directs.{scope_env, IsLiveScope};
+ghost use Rattle.lisp_eval.specs.Directs.{in_scope, IsLiveScope};
 ghost use Rattle.lisp_eval.specs.Outside.{IsLiveValue};
 ghost use Rattle.lisp_eval.specs.States.{env_of};
 
@@ -149,7 +149,6 @@ fn take_step<'a>(
                 arena,
                 alists,
                 &def.formals,
-                0,
                 terms.as_slice(),
                 scope,
                 next,
@@ -199,14 +198,12 @@ fn test_value(
     at_once(setting, arena, alists, term, scope, LEVELS, left)
 }
 
-/// Adds the names from a place on, each with the value of its term; the visits that are left.
-#[cycle(bind_found)]
+/// Adds the names, each with the value of its term; the visits that are left.
 fn bind_found(
     setting: &Setting,
     arena: &mut HonsArena,
     alists: &mut FastAlists,
     names: &Names,
-    from: usize,
     terms: &[Term],
     scope: &Scope,
     next: &mut Vec<Local>,
@@ -216,32 +213,24 @@ fn bind_found(
     requires scope { IsLiveScope arena.old.objects scope.now }
     requires agree { Agree arena.old.objects alists.old }
     requires count { length terms.now ≡ length names.now }
-    requires few { length names.now ≤ 16 }
-    requires within { from ≤ length terms.now }
-    ensures tells { BindsFoundIn setting.now scope.now (drop from names.now) (terms_of (drop from terms.now)) left arena.old arena.new next.old.items next.new.items result }
+    ensures tells { BindsFoundIn setting.now scope.now names.now (terms_of terms.now) left arena.old arena.new next.old.items next.new.items result }
     ensures agree { Agree arena.new.objects alists.new }
 {
     let mut rest = left;
-    let to = bind_first_integers(names, from, terms, scope, next, &mut rest)?;
-    if to >= terms.len() {
-        return Ok(rest);
+    let mut from = 0;
+    loop {
+        let to = bind_first_integers(names, from, terms, scope, next, &mut rest)?;
+        if to >= terms.len() {
+            return Ok(rest);
+        }
+        let found = at_once(setting, arena, alists, &terms[to], scope, LEVELS, rest)?;
+        next.push(Local {
+            name: *names.at(to as u64),
+            value: found.value,
+        })?;
+        rest = found.left;
+        from = to + 1;
     }
-    let found = at_once(setting, arena, alists, &terms[to], scope, LEVELS, rest)?;
-    next.push(Local {
-        name: *names.at(to as u64),
-        value: found.value,
-    })?;
-    bind_found(
-        setting,
-        arena,
-        alists,
-        names,
-        to + 1,
-        terms,
-        scope,
-        next,
-        found.left,
-    )
 }
 
 /// Adds the names from a place on with the integers that their terms give, up to the first term that gives none: its place.
@@ -256,7 +245,7 @@ fn bind_first_integers(
 ) -> Result<usize, NoMemory>
     requires count { length terms.now ≡ length names.now }
     requires within { from ≤ length terms.now }
-    ensures binds { IfOk result (BindsUpTo (λ objects. scope_env objects scope.now) names.now terms.now from left.old left.new next.old.items next.new.items) }
+    ensures binds { IfOk result (BindsUpTo (in_scope scope.now) names.now terms.now from left.old left.new next.old.items next.new.items) }
     ensures further { IfOk result (λ to. from ≤ to) }
 {
     match scope {

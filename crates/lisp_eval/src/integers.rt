@@ -9,7 +9,7 @@ ghost use Rattle.lisp_eval.specs.Aheads.{BindsUpTo};
 ghost use Rattle.lisp_eval.specs.Attempts.{unary_term, binary_term};
 ghost use Rattle.lisp_eval.specs.Integers.{GivesInteger, IsFoundOn};
 ghost use Rattle.lisp_eval.specs.Narrow.{IsNarrow};
-ghost use Rattle.lisp_eval.specs.Outside.{locals_of};
+ghost use Rattle.lisp_eval.specs.Outside.{locals_of, on_locals};
 
 use crate::attempt::{Found, local_value};
 use crate::direct::LEVELS;
@@ -33,7 +33,7 @@ pub fn bind_integers(
 ) -> Result<usize, NoMemory>
     requires count { length terms.now ≡ length names.now }
     requires within { from ≤ length terms.now }
-    ensures binds { IfOk result (BindsUpTo (λ objects. locals_of objects locals.now) names.now terms.now from left.old left.new next.old.items next.new.items) }
+    ensures binds { IfOk result (BindsUpTo (on_locals locals.now) names.now terms.now from left.old left.new next.old.items next.new.items) }
     ensures further { IfOk result (λ to. from ≤ to) }
 {
     for i in from..terms.len() {

@@ -4,7 +4,6 @@ use Rattle.gl_logic.specs.TermOf.{term_of, terms_of}
 use Rattle.gl_logic.specs.declared.term.Term.{Term}
 use Rattle.lisp_eval.specs.Aheads.{BindsFound}
 use Rattle.lisp_eval.specs.Directs.{scope_env}
-use Rattle.lisp_eval.proofs.FirstBound.{all_terms}
 use Rattle.lisp_eval.proofs.StepsAhead.{Told, told, test_stops, test_goes, arguments_stop, arguments_go}
 use Rattle.lisp_eval.proofs.TermForms.{if_term, call_term}
 use Rattle.lisp_eval.proofs.ahead.take_step.Goals as goal
@@ -53,11 +52,6 @@ bind_found-requires-clause-count c =
     let opens = c.goes_into.ensures c.if-not-goes_into.false in
     omega (arith, opens.formals (definition_of c.def-def.result.now) c.def-def.ensures.found, c.as_slice.ensures.len, c.as_slice-in-Call.ensures.len)
 
-pub bind_found-requires-clause-few : goal.bind_found-requires-clause-few
-bind_found-requires-clause-few c =
-    let opens = c.goes_into.ensures c.if-not-goes_into.false in
-    omega (arith, opens.formals (definition_of c.def-def.result.now) c.def-def.ensures.found, opens.few)
-
 pub returns-in_err-rest-in-Call-clause-tells : goal.returns-in_err-rest-in-Call-clause-tells
 returns-in_err-rest-in-Call-clause-tells c =
     let ds = c.args.setting.now.world.now.definitions in
@@ -65,12 +59,12 @@ returns-in_err-rest-in-Call-clause-tells c =
     let old = c.args.arena.now in
     let new = c.bind_found.new.arena in
     let env = scope_env old.objects c.args.scope.now in
-    let names = drop 0 c.def-def.result.now.formals in
+    let names = c.def-def.result.now.formals in
     let i = c.in-Call in
     let e = c.in_err-rest-in-Call.field-0.0 in
     let is : c.from_residual-in_err-rest-in-Call.result ≡ Err e = search rules in
     arguments_stop ds fs env (term_of c.args.term.now) i.f.number (terms_of i.terms.items) (ap term_of i.is ∙ call_term i.f i.terms) c.args.left old new names c.clear.new.self.items c.bind_found.new.next.items
-    e c.from_residual-in_err-rest-in-Call.result is (subst (λ (us : List Term). BindsFound ds fs env names (terms_of us) (c.args.left - 1) old new c.clear.new.self.items c.bind_found.new.next.items (Err e)) (all_terms c.as_slice-in-Call.result.now ∙ c.as_slice-in-Call.ensures.value) c.in_err-rest-in-Call.ensures.tells)
+    e c.from_residual-in_err-rest-in-Call.result is (subst (λ (us : List Term). BindsFound ds fs env names (terms_of us) (c.args.left - 1) old new c.clear.new.self.items c.bind_found.new.next.items (Err e)) c.as_slice-in-Call.ensures.value c.in_err-rest-in-Call.ensures.tells)
 
 pub returns-in_ok-rest-in-Call-clause-tells : goal.returns-in_ok-rest-in-Call-clause-tells
 returns-in_ok-rest-in-Call-clause-tells c =
@@ -80,10 +74,10 @@ returns-in_ok-rest-in-Call-clause-tells c =
     let new = c.bind_found.new.arena in
     let env = scope_env old.objects c.args.scope.now in
     let d = definition_of c.def-def.result.now in
-    let names = drop 0 d.formals in
+    let names = d.formals in
     let i = c.in-Call in
     let opens = (c.goes_into.ensures c.if-not-goes_into.false).opens in
     let rest = c.in_ok-rest-in-Call.rest in
     arguments_go ds fs env (term_of c.args.term.now) i.f.number (terms_of i.terms.items) (ap term_of i.is ∙ call_term i.f i.terms) c.args.left old new names c.clear.new.self.items c.bind_found.new.next.items
     d opens c.def-def.ensures.found c.clear.ensures.items refl (omega (arith, c.if-left-eq0.false)) rest _ refl
-    (subst (λ (us : List Term). BindsFound ds fs env names (terms_of us) (c.args.left - 1) old new c.clear.new.self.items c.bind_found.new.next.items (Ok rest)) (all_terms c.as_slice-in-Call.result.now ∙ c.as_slice-in-Call.ensures.value) c.in_ok-rest-in-Call.ensures.tells)
+    (subst (λ (us : List Term). BindsFound ds fs env names (terms_of us) (c.args.left - 1) old new c.clear.new.self.items c.bind_found.new.next.items (Ok rest)) c.as_slice-in-Call.ensures.value c.in_ok-rest-in-Call.ensures.tells)

@@ -2,7 +2,7 @@ use Rattle.std.proofs.Common.{rules, arith, ◌≡◌, subst, refl, length, Some
 use Rattle.std.specs.Int.{w64}
 use Rattle.lisp_eval.proofs.PlacedConstants.{at_index}
 use Rattle.lisp_eval.specs.Aheads.{BindsUpTo}
-use Rattle.lisp_eval.specs.Outside.{locals_of}
+use Rattle.lisp_eval.specs.Outside.{locals_of, on_locals}
 use Rattle.lisp_eval.specs.declared.value.Value.TheVariants as value
 use Rattle.lisp_eval.proofs.FirstBound.{one_more}
 use Rattle.lisp_eval.proofs.integers.bind_integers.Goals as goal
@@ -22,4 +22,4 @@ loop-i-preserved c =
 pub returns-clause-binds : goal.returns-clause-binds
 returns-clause-binds c =
     let last : c.loop-i.i ≡ length c.args.terms.now = omega (arith, c.loop-i-test.false, c.loop-i.auto.i-end, c.requires.within) in
-    subst (λ (k : ℕ). BindsUpTo (λ objects. locals_of objects c.args.locals.now) c.args.names.now c.args.terms.now c.args.from c.args.left.now c.loop-i.left c.args.next.now.items c.loop-i.next.items k) last c.loop-i.invariant.0
+    subst (λ (k : ℕ). BindsUpTo (on_locals c.args.locals.now) c.args.names.now c.args.terms.now c.args.from c.args.left.now c.loop-i.left c.args.next.now.items c.loop-i.next.items k) last c.loop-i.invariant.0

@@ -1,7 +1,7 @@
 use Rattle.std.proofs.Common.{◌≤◌}
 use Rattle.lisp_eval.specs.Aheads.{BindsUpTo}
-use Rattle.lisp_eval.specs.Outside.{locals_of}
+use Rattle.lisp_eval.specs.Outside.{locals_of, on_locals}
 use Rattle.lisp_eval.proofs.integers.bind_integers.Given as goal
 
 abbrev pub invariant-loop-i : goal.invariant-loop-i
-invariant-loop-i l = BindsUpTo (λ objects. locals_of objects l.locals) l.names l.terms l.from l.fn.left l.left l.fn.next.items l.next.items l.i × (l.from ≤ l.i)
+invariant-loop-i l = BindsUpTo (on_locals l.locals) l.names l.terms l.from l.fn.left l.left l.fn.next.items l.next.items l.i × (l.from ≤ l.i)
