@@ -2,7 +2,7 @@ use Rattle.std.proofs.Common.{rules, arith, ◌≡◌, subst, refl, length, Some
 use Rattle.std.specs.Int.{w64}
 use Rattle.lisp_eval.proofs.PlacedConstants.{at_index}
 use Rattle.lisp_eval.specs.Aheads.{BindsUpTo}
-use Rattle.lisp_eval.specs.Outside.{locals_of, on_locals}
+use Rattle.lisp_eval.specs.Outside.{on_locals}
 use Rattle.lisp_eval.specs.declared.value.Value.TheVariants as value
 use Rattle.lisp_eval.proofs.FirstBound.{one_more}
 use Rattle.lisp_eval.proofs.integers.bind_integers.Goals as goal

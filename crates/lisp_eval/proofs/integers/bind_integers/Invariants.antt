@@ -1,6 +1,6 @@
 use Rattle.std.proofs.Common.{◌≤◌}
 use Rattle.lisp_eval.specs.Aheads.{BindsUpTo}
-use Rattle.lisp_eval.specs.Outside.{locals_of, on_locals}
+use Rattle.lisp_eval.specs.Outside.{on_locals}
 use Rattle.lisp_eval.proofs.integers.bind_integers.Given as goal
 
 abbrev pub invariant-loop-i : goal.invariant-loop-i
