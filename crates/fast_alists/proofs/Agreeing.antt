@@ -8,12 +8,15 @@ use Rattle.hons_arena.specs.declared.id.Id.{Id}
 use Rattle.hons_arena.specs.Held.{AddsCellsOf}
 use Rattle.hons_arena.specs.Ids.{object_at, IsLive, IsIdOf}
 use Rattle.hons_arena.proofs.Placing.{id_kept}
+use Rattle.fast_alists.specs.declared.extend.Longer.{Longer}
 use Rattle.fast_alists.specs.Alists.{first_pair}
 use Rattle.fast_alists.specs.Keys.{id_eq}
-use Rattle.fast_alists.specs.Tables.{pair_in, table_in, IsTable, HasTable, Agree, SetsTable, TakesOver}
+use Rattle.fast_alists.specs.Latest.{HandsOn}
+use Rattle.fast_alists.specs.Longer.{IsLonger}
+use Rattle.fast_alists.specs.Tables.{pair_in, table_in, IsTable, HasTable, Agree, PutsPair, SetsTable, TakesOver}
 use Rattle.fast_alists.proofs.Equal.{id_same, id_itself}
 use Rattle.fast_alists.proofs.Pairs.{none_some, some_same, cond_true, cond_false}
-use Rattle.fast_alists.proofs.Covering.{OneId, lacks}
+use Rattle.fast_alists.proofs.Covering.{OneId, extended, lacks}
 
 -- where live ids stay live, for the same objects
 module _ (old new : List Object) (id_stays : (id : Id) → IsLive old id → IsIdOf new (object_at old id) id) where
@@ -124,3 +127,18 @@ takes_err old new alist (Err f) e = record { taken = λ h. tt; left = tt }
 
 pub takes_again : {E F : Type 0} (old new : List (Id × List (Id × Id))) (alist : Id) (id : Id) → TakesOver {E = E} old new alist (Ok id) → TakesOver {E = F} old new alist (Ok id)
 takes_again old new alist id t = record { taken = t.taken; left = t.left }
+
+-- ---- a table is handed on
+module _ (objects : List Object) (key alist : Id) (longer : Longer) (is : IsLonger objects key alist longer) where
+  -- the table that got the pair is the longer list's
+  pub table_of_longer : (same : OneId objects) (table after : List (Id × Id)) → PutsPair table after key longer.pair → IsTable objects alist table → IsTable objects longer.list after
+  table_of_longer same table after put t = extended objects same table after key longer.pair put is.key_live is.pair_live is.value is.pair alist longer.list is.list_live is.list t
+
+  module _ (old new : List (Id × List (Id × Id))) (hands : HandsOn old new alist longer.list key longer.pair) where
+    pub agree_handed : (same : OneId objects) → Agree objects old → Agree objects new
+    agree_handed same agree =
+        let table = table_of_longer same hands.table hands.after hands.put (agree alist hands.table hands.was) in
+        agree_kept objects hands.between new longer.list hands.after hands.kept table (agree_taken objects old hands.between alist hands.taken agree)
+
+    pub handed_over : TakesOver {E = NoMemory} old new alist (Ok longer.list)
+    handed_over = taken_over old hands.between new objects alist longer.list (object_at objects longer.pair) hands.after is.list (no_table old hands.between alist hands.taken) hands.kept

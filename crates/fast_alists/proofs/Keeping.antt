@@ -4,8 +4,8 @@ use Rattle.gl_logic.specs.Object.{Object}
 use Rattle.hons_arena.specs.declared.id.Id.{Id}
 use Rattle.fast_alists.specs.declared.tables.Latest.{Latest}
 use Rattle.fast_alists.specs.Keys.{id_eq, id_equiv}
-use Rattle.fast_alists.specs.Latest.{in_front, OthersLack, SameTables}
-use Rattle.fast_alists.specs.Tables.{table_in, Agree, SetsTable}
+use Rattle.fast_alists.specs.Latest.{in_front, HandsOn, OthersLack, SameTables}
+use Rattle.fast_alists.specs.Tables.{table_in, Agree, PutsPair, SetsTable}
 use Rattle.fast_alists.proofs.Equal.{id_same, id_itself}
 use Rattle.fast_alists.proofs.Pairs.{none_some, cond_true, cond_false}
 
@@ -57,6 +57,19 @@ sets_latest old taken others list table sets same id = by (id_eq list id) refl w
   by false e =
       let had : table_in others id ≡ table_in old id = same id ∙ (sets id ∙ cond_false (id_eq list id) None (table_in old id) e) in
       cond_false (id_eq id list) (Some table) (table_in others id) (id_equiv.symm id list ∙ e) ∙ (had ∙ sym (cond_false (id_eq list id) (Some table) (table_in old id) e))
+
+-- the latest table goes to the longer list, of which the others have none then
+pub hands_on : (latest : Latest) (others left : List (Id × List (Id × Id))) (list longer key pair : Id) (after : List (Id × Id)) → id_eq list latest.list ≡ true → table_in others latest.list ≡ None → PutsPair latest.table after key pair → SetsTable others left longer None
+    → HandsOn ((latest.list, latest.table) ∷ others) ((longer, after) ∷ left) list longer key pair
+hands_on latest others left list longer key pair after same alone put drops = record {
+  table = latest.table;
+  after = after;
+  between = others;
+  was = cond_true (id_eq list latest.list) (Some latest.table) (table_in others list) same;
+  put = put;
+  taken = sets_first latest others list same alone;
+  kept = sets_latest others left left longer after drops (λ id. refl);
+}
 
 -- a table beside the latest one is of another list
 lacks_latest : (latest : Latest) (others : List (Id × List (Id × Id))) (list : Id) (table : List (Id × Id)) → table_in others latest.list ≡ None → table_in others list ≡ Some table → id_eq list latest.list ≡ false

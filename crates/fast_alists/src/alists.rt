@@ -167,6 +167,9 @@ impl FastAlists {
         ensures agree { Agree arena.now.objects self.new }
         ensures table { TakesOver self.old self.new alist result }
     {
+        if self.tables.hand_on(alist, longer.list, key, longer.pair)? {
+            return Ok(longer.list);
+        }
         match self.table_to_extend(arena, alist) {
             None => Ok(longer.list),
             Some(mut table) => {

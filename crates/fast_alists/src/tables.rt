@@ -1,9 +1,9 @@
 //! Which list has which table.
 
-ghost use Rattle.std.specs.Prelude.{◌≡◌, List, [], None, Some, OnOk, OnErr};
+ghost use Rattle.std.specs.Prelude.{◌≡◌, List, [], true, false, None, Some, IfOk, OnOk, OnErr};
 ghost use Rattle.std.specs.Option.{option_copied};
 ghost use Rattle.gl_logic.specs.Object.{Object};
-ghost use Rattle.fast_alists.specs.Latest.{in_front, SameTables};
+ghost use Rattle.fast_alists.specs.Latest.{in_front, HandsOn, SameTables};
 ghost use Rattle.fast_alists.specs.Tables.{Agree, IsTable, SetsTable, table_in};
 
 use crate::key::Key;
@@ -92,6 +92,27 @@ impl Tables {
         Ok(())
     }
 
+    /// Puts a pair into the table of a list and makes it the longer list's, in its place: true. False, with nothing
+    /// changed, where the list is not the one whose table was kept last. After a refusal all is as before.
+    #[inline(always)]
+    pub fn hand_on(&mut self, list: Id, longer: Id, key: Id, pair: Id) -> Result<bool, NoMemory>
+        ensures handed { IfOk result (λ handed. handed ≡ true → HandsOn self.old self.new list longer key pair) }
+        ensures other { IfOk result (λ handed. handed ≡ false → self.new ≡ self.old) }
+        ensures err { OnErr result (self.new ≡ self.old) }
+    {
+        let shorter = Key { id: list };
+        let longer = Key { id: longer };
+        match &mut self.latest {
+            Some(latest) if shorter == latest.list => {
+                latest.table.put(key, pair)?;
+                latest.list = longer;
+            }
+            _ => return Ok(false),
+        }
+        drop_among(&mut self.others, longer);
+        Ok(true)
+    }
+
     /// Drops all tables.
     pub fn clear(&mut self)
         ensures { self.new ≡ [] }
@@ -110,4 +131,13 @@ fn put_among(others: &mut IndexMap<Key, Table>, latest: Option<Latest>) -> Resul
         others.insert(before.list, before.table)?;
     }
     Ok(())
+}
+
+/// Drops the table that the others have of a list. Nothing is hashed where there are no others.
+fn drop_among(others: &mut IndexMap<Key, Table>, list: Key)
+    ensures { SetsTable others.old.entries others.new.entries list None }
+{
+    if !others.is_empty() {
+        others.swap_remove(&list);
+    }
 }
