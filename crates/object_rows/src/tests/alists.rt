@@ -155,7 +155,7 @@ fn found(rt: &impl Abort, alists: &FastAlists, arena: &HonsArena, key: u64, alis
         None => 0,
         Some(pair) => {
             assert!(rt; arena.is_live(pair));
-            arena.cdr(pair).number
+            arena.cdr(pair).number()
         }
     }
 }
