@@ -1,5 +1,5 @@
 -- A node that is found, and one that is added.
-use Rattle.std.proofs.Common.{◌≡◌, ◌≢◌, ℕ, ◌+◌, ◌<◌, ◌≤◌, Bool, false, Option, Some, None, List, [], ◌∷◌, ◌++◌, length, get_or, slice_get, refl, ap, sym, ◌∙◌, arith, length-append, subst, inl, inr, Ok}
+use Rattle.std.proofs.Common.{◌≡◌, ◌≢◌, ℕ, ◌<◌, ◌≤◌, Bool, false, Some, List, [], ◌∷◌, ◌++◌, length, get_or, slice_get, ap, sym, ◌∙◌, arith, subst, inl, inr, Ok}
 use Rattle.std.proofs.lemmas.List.{length_push}
 use Rattle.std.proofs.lemmas.Option.{get_or_from_slice_get}
 use Rattle.bfr_store.specs.declared.edge.Edge.{Edge}
@@ -13,7 +13,7 @@ use Rattle.sym_objects.specs.Makes.{Makes}
 use Rattle.sym_objects.specs.Nodes.{values_from, object_by, constant_by, bits_by, node_at, EdgesLive}
 use Rattle.sym_objects.specs.Seen.{SobsSeen, IsLive, IsWhole, is_constant, is_constant_edge, stands_for, bits_in}
 use Rattle.sym_objects.specs.Table.{Marked, numbered}
-use Rattle.sym_objects.proofs.Keeping.{keeps_none, keeps_add, means_add, means_of, constant_add, constant_of, bits_old, bits_new, bits_of_node}
+use Rattle.sym_objects.proofs.Keeping.{keeps_none, keeps_add, means_add, means_of, constant_of, bits_old, bits_new, bits_of_node}
 use Rattle.sym_objects.proofs.Linked.{node-before, node-last, number_cases}
 use Rattle.sym_objects.proofs.Values.{PartsIn, values-push}
 

@@ -1,6 +1,6 @@
 -- The bits of integers.
-use Rattle.std.proofs.Common.{◌≡◌, ◌≢◌, ℕ, zero, suc, ◌+◌, ◌<◌, ◌≤◌, Bool, true, false, cond, ◌&&◌, List, [], ◌∷◌, ◌++◌, length, get_or, map, refl, ap, sym, ◌∙◌, arith, subst, inl, inr, true≢false, Result, Ok, Err, IfOk, Option, Some, None, IfSome, append_assoc}
-use Rattle.std.specs.Prelude.{◌+ℤ◌, ℤ}
+use Rattle.std.proofs.Common.{◌≡◌, ◌≢◌, ℕ, zero, suc, ◌+◌, ◌<◌, ◌≤◌, Bool, true, false, ◌&&◌, List, [], ◌∷◌, ◌++◌, length, get_or, map, refl, ap, sym, ◌∙◌, arith, subst, Result, Ok, Err, IfOk, Option, Some, None, IfSome, append_assoc}
+use Rattle.std.specs.Prelude.{◌+ℤ◌}
 use Rattle.std.specs.List.{All, list_all}
 use Rattle.std.proofs.lemmas.List.{length-map}
 use Rattle.std.proofs.lemmas.List.Elements.{All-nil, All-cons}
@@ -14,14 +14,14 @@ use Rattle.sym_objects.specs.declared.sob.Sob.{Sob}
 use Rattle.sym_objects.specs.declared.sob.SobNode.TheVariants as kind
 use Rattle.sym_objects.specs.declared.node.Node.{Node}
 use Rattle.sym_objects.specs.declared.node.Node.TheVariants as node
-use Rattle.sym_objects.specs.Bits.{put_bit, trimmed, IsTrimmed}
+use Rattle.sym_objects.specs.Bits.{trimmed, IsTrimmed}
 use Rattle.sym_objects.specs.Inside.{AreProper, IsProper}
 use Rattle.sym_objects.specs.Integers.{AreBitsOf, bits_behind}
 use Rattle.sym_objects.specs.Keeps.{Keeps}
 use Rattle.sym_objects.specs.Nodes.{object_by, constant_by, bits_by, kind_of, node_at, EdgesLive}
 use Rattle.sym_objects.specs.Seen.{SobsSeen, IsLive, IsWhole, is_constant, is_constant_edge, stands_for, bits_in}
 use Rattle.sym_objects.proofs.Adding.{bits_at, constant_at, means_at}
-use Rattle.sym_objects.proofs.Trimmed.{integer_cons, map_same, put_other, trimmed_cons, trims}
+use Rattle.sym_objects.proofs.Trimmed.{integer_cons, map_same, trimmed_cons, trims}
 use Rattle.sym_objects.specs.Makes.{Makes}
 
 and_unit : (b : Bool) → b ≡ (b && true)

@@ -1,9 +1,9 @@
 -- Constant symbolic objects on their way.
-use Rattle.std.proofs.Common.{◌≡◌, ◌≢◌, ◌∙◌, refl, sym, ap, subst, ℕ, zero, suc, ◌+◌, ◌<◌, ◌≤◌, Bool, true, false, ◌&&◌, cond, List, Option, Some, None, Result, Ok, Err, IfOk, arith}
+use Rattle.std.proofs.Common.{◌≡◌, ◌≢◌, ◌∙◌, refl, sym, ap, subst, ℕ, ◌<◌, ◌≤◌, Bool, true, false, ◌&&◌, List, Option, Some, Result, Ok, Err, IfOk, arith}
 use Rattle.bfr_store.specs.declared.edge.Full.{Full}
 use Rattle.bfr_store.specs.declared.meaning.Meaning.{Ghosts}
 use Rattle.gl_logic.specs.Lists.{size_of}
-use Rattle.gl_logic.specs.Object.{Object, Int, Character, Symbol, Text, Cons, nil, car, cdr, boolean_object}
+use Rattle.gl_logic.specs.Object.{Object, Int, Character, Symbol, Text, Cons, car, cdr, boolean_object}
 use Rattle.hons_arena.specs.Ids.{IsLive as IsIdLive, IsIdOf, kind_of as object_kind, object_at}
 use Rattle.hons_arena.specs.declared.id.Id.{Id}
 use Rattle.hons_arena.specs.declared.id.Kind.{Kind}
@@ -12,7 +12,7 @@ use Rattle.sym_objects.specs.declared.sob.Sob.{Sob}
 use Rattle.sym_objects.specs.Constants.{AreConsParts, IsConstantOf, object_of_kind, size_at}
 use Rattle.sym_objects.specs.Keeps.{Keeps}
 use Rattle.sym_objects.specs.Makes.{Makes}
-use Rattle.sym_objects.specs.Seen.{SobsSeen, IsLive, is_constant, stands_for}
+use Rattle.sym_objects.specs.Seen.{SobsSeen, is_constant, stands_for}
 use Rattle.sym_objects.specs.Walks.{IsNext}
 
 atom_is : (x : Object) (k : Kind) → object_kind x ≡ k → k ≢ kind.Cons → object_of_kind k ≡ x

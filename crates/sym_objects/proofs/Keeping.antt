@@ -1,13 +1,13 @@
 -- What calls leave of a table.
-use Rattle.std.proofs.Common.{◌≡◌, ℕ, ◌+◌, ◌<◌, ◌≤◌, Bool, false, List, [], ◌∷◌, ◌++◌, length, get_or, refl, ap, sym, ◌∙◌, arith, length-append, zero, suc, subst, Result}
-use Rattle.std.proofs.lemmas.List.{get_or_append_left, get_or_push}
+use Rattle.std.proofs.Common.{◌≡◌, ℕ, ◌<◌, Bool, false, List, [], ◌∷◌, ◌++◌, length, get_or, refl, ap, sym, ◌∙◌, arith, length-append, zero, suc, subst, Result}
+use Rattle.std.proofs.lemmas.List.{get_or_append_left}
 use Rattle.bfr_store.specs.declared.edge.Edge.{Edge}
 use Rattle.bfr_store.specs.declared.meaning.Meaning.{Ghosts}
 use Rattle.bfr_store.specs.Keeps.{Grows as StoreGrows, Keeps as StoreKeeps, Makes as StoreMakes}
 use Rattle.bfr_store.specs.declared.edge.Full.{Full}
 use Rattle.sym_objects.specs.Makes.{MakesEdge}
 use Rattle.bfr_store.proofs.Keeping.{keeps_none as store_keeps_none, keeps_then as store_keeps_then}
-use Rattle.gl_logic.specs.Object.{Object, nil}
+use Rattle.gl_logic.specs.Object.{nil}
 use Rattle.sym_objects.specs.declared.sob.Sob.{Sob}
 use Rattle.sym_objects.specs.declared.node.Node.{Node}
 use Rattle.sym_objects.specs.declared.node.Node.TheVariants as node

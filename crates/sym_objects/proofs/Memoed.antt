@@ -1,5 +1,5 @@
 -- Values that are kept by their keys.
-use Rattle.std.proofs.Common.{◌≡◌, ◌∙◌, refl, sym, ap, subst, ℕ, zero, suc, ◌<◌, Bool, true, false, true≢false, ◌&&◌, nat_eq, if◌then◌else◌, ◌⊎◌, inl, inr, List, [], ◌∷◌, length, get_or, Option, None, Some, IfSome, arith}
+use Rattle.std.proofs.Common.{◌≡◌, ◌∙◌, refl, sym, ap, subst, zero, suc, Bool, true, false, true≢false, ◌&&◌, nat_eq, if◌then◌else◌, ◌⊎◌, inl, inr, List, [], ◌∷◌, Option, None, Some, IfSome, arith}
 use Rattle.std.specs.Bool.{Decides}
 use Rattle.std.specs.Cmp.{unsigned_Decides}
 use Rattle.std.specs.List.{Contains}

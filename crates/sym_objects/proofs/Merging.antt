@@ -1,7 +1,6 @@
 -- The merge of two symbolic objects on its way.
-use Rattle.std.proofs.Common.{◌≡◌, ◌∙◌, refl, sym, ap, subst, ℕ, zero, suc, ◌+◌, ◌<◌, ◌≤◌, Bool, true, false, cond, List, [], ◌∷◌, ◌++◌, length, map, get_or, slice_get, Option, Some, None, Result, Ok, Err, IfOk, inl, inr, arith}
-use Rattle.std.specs.Prelude.{◌+ℤ◌, ℤ}
-use Rattle.std.specs.List.{All, Contains}
+use Rattle.std.proofs.Common.{◌≡◌, ◌∙◌, refl, sym, ap, subst, ℕ, ◌<◌, Bool, true, false, cond, List, length, map, Option, Some, Result, Ok, Err, IfOk, arith}
+use Rattle.std.specs.Prelude.{ℤ}
 use Rattle.bfr_store.specs.declared.edge.Edge.{Edge}
 use Rattle.bfr_store.specs.declared.edge.Full.{Full}
 use Rattle.bfr_store.specs.declared.meaning.Meaning.{Ghosts}
@@ -10,7 +9,7 @@ use Rattle.gl_logic.specs.TwosComplement.{integer_of}
 use Rattle.sym_objects.specs.declared.sob.Sob.{Sob}
 use Rattle.sym_objects.specs.declared.merge.Both.{Both}
 use Rattle.sym_objects.specs.Keeps.{Keeps}
-use Rattle.sym_objects.specs.Makes.{Makes, MakesEdge}
+use Rattle.sym_objects.specs.Makes.{Makes}
 use Rattle.sym_objects.specs.Merging.{IsMergeOf, ArePairsOf, AreLive}
 use Rattle.sym_objects.specs.Seen.{SobsSeen, IsLive, stands_for}
 use Rattle.sym_objects.specs.Walks.{IsNext}

@@ -1,10 +1,10 @@
 -- Constant symbolic objects on their way into an arena.
-use Rattle.std.proofs.Common.{◌≡◌, ◌≢◌, ◌∙◌, refl, sym, ap, subst, ℕ, ◌<◌, ◌⊎◌, inl, inr, Bool, true, false, ◌&&◌, List, [], ◌∷◌, length, Option, Some, None, Result, Ok, Err, IfOk, IsErrOf, IsErr, arith}
+use Rattle.std.proofs.Common.{◌≡◌, ◌∙◌, refl, sym, subst, ℕ, ◌<◌, ◌⊎◌, inl, inr, Bool, true, ◌&&◌, List, [], ◌∷◌, Option, Some, None, Result, Ok, Err, IsErrOf, IsErr, arith}
 use Rattle.bfr_store.specs.declared.meaning.Meaning.{Ghosts}
 use Rattle.gl_logic.specs.Object.{Object, Cons}
 use Rattle.hons_arena.specs.declared.id.Id.{Id}
 use Rattle.hons_arena.specs.declared.id.Full.{Full}
-use Rattle.hons_arena.specs.Held.{Held, IsWhole as IsArenaWhole, AddsCellsOf, LacksCell, HasNoRoomFor, Interns, Places as PlacesObject}
+use Rattle.hons_arena.specs.Held.{Held, IsWhole as IsArenaWhole, AddsCellsOf, LacksCell, Interns, Places as PlacesObject}
 use Rattle.hons_arena.specs.Ids.{IsIdOf, object_at}
 use Rattle.hons_arena.specs.Parts.{AreHeld}
 use Rattle.hons_arena.proofs.CellsIn.{IsPart}

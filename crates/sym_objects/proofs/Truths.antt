@@ -1,5 +1,5 @@
 -- The truth of a symbolic object on its way.
-use Rattle.std.proofs.Common.{◌≡◌, ◌∙◌, refl, sym, ap, subst, ℕ, ◌<◌, ◌≤◌, Bool, true, false, not, cond, eqb, List, length, inl, inr, arith}
+use Rattle.std.proofs.Common.{◌≡◌, ◌∙◌, refl, sym, ap, ℕ, Bool, true, false, not, cond, List, inl, inr, arith}
 use Rattle.std.proofs.lemmas.Bool.Decides.{eqb_tells}
 use Rattle.bfr_store.specs.declared.edge.Edge.{Edge}
 use Rattle.bfr_store.specs.declared.meaning.Meaning.{Ghosts}
@@ -10,9 +10,9 @@ use Rattle.sym_objects.specs.declared.node.Node.{Node}
 use Rattle.sym_objects.specs.declared.node.Node.TheVariants as node
 use Rattle.sym_objects.specs.Inside.{IsProper}
 use Rattle.sym_objects.specs.Keeps.{Keeps}
-use Rattle.sym_objects.specs.Nodes.{object_by, node_at}
+use Rattle.sym_objects.specs.Nodes.{object_by}
 use Rattle.sym_objects.specs.Seen.{SobsSeen, IsLive, stands_for}
-use Rattle.sym_objects.specs.Truths.{IsTruthOf, IsChoiceOf}
+use Rattle.sym_objects.specs.Truths.{IsTruthOf}
 
 pub boolean_truth : (b : Bool) → b ≡ not (is_nil (boolean_object b))
 boolean_truth true = refl

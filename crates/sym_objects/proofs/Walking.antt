@@ -1,9 +1,8 @@
 -- Turns of a work list.
-use Rattle.std.proofs.Common.{◌≡◌, ◌∙◌, refl, sym, ap, subst, ℕ, zero, suc, ◌+◌, ◌*◌, ◌<◌, ◌≤◌, List, [], ◌∷◌, Option, None, Some, arith}
+use Rattle.std.proofs.Common.{◌≡◌, refl, sym, subst, ℕ, zero, suc, ◌*◌, ◌<◌, ◌≤◌, List, [], ◌∷◌, Option, None, Some, arith}
 use Rattle.sym_objects.specs.declared.walk.Frame.{Frame}
-use Rattle.sym_objects.specs.declared.walk.Focus.{Focus}
 use Rattle.sym_objects.specs.declared.walk.Focus.TheVariants as focus
-use Rattle.sym_objects.specs.Walks.{IsNext, Await, IsSound, weight, frames_weight, focus_weight, Turns}
+use Rattle.sym_objects.specs.Walks.{IsNext, Await, weight, Turns}
 
 weight_some : (n : ℕ) → 8 ≤ weight n
 unfolding weight

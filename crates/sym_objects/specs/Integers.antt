@@ -7,7 +7,7 @@ use Rattle.gl_logic.specs.Object.{Int}
 use Rattle.gl_logic.specs.TwosComplement.{integer_of}
 use Rattle.sym_objects.specs.declared.sob.Sob.{Sob}
 use Rattle.sym_objects.specs.Bits.{IsTrimmed}
-use Rattle.sym_objects.specs.Seen.{SobsSeen, bits_in, is_constant, is_constant_edge, stands_for}
+use Rattle.sym_objects.specs.Seen.{SobsSeen, is_constant, is_constant_edge, stands_for}
 
 -- the node stands for the integer of these bits under every assignment: there are 1 to 128 of them, all live, the sign is
 -- not there twice, and the node is constant exactly where all of them are

@@ -1,6 +1,5 @@
 -- What calls leave of a table.
 use Rattle.std.specs.Prelude.{ℕ, Bool, ◌≡◌, ◌≤◌, ◌<◌, length, get_or}
-use Rattle.bfr_store.specs.declared.edge.Edge.{Edge}
 use Rattle.bfr_store.specs.declared.meaning.Meaning.{Ghosts}
 use Rattle.bfr_store.specs.Keeps.{Grows as StoreGrows, Keeps as StoreKeeps}
 use Rattle.sym_objects.specs.declared.sob.Sob.{Sob}

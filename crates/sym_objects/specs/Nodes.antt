@@ -1,5 +1,5 @@
 -- What nodes stand for, each from what its parts stand for.
-use Rattle.std.specs.Prelude.{ℕ, Bool, true, false, cond, ◌&&◌, ◌≡◌, ◌<◌, List, [], ◌∷◌, ◌++◌, length, get_or, ℤ, pos, ◌+ℤ◌}
+use Rattle.std.specs.Prelude.{ℕ, Bool, true, false, cond, ◌&&◌, ◌≡◌, ◌<◌, List, [], ◌∷◌, ◌++◌, get_or, ℤ, ◌+ℤ◌}
 use Rattle.bfr_store.specs.declared.edge.Edge.{Edge}
 use Rattle.gl_logic.specs.Object.{Object, Int, Character, Symbol, Text, Cons, boolean_object}
 use Rattle.gl_logic.specs.PrimValue.{integer_in}

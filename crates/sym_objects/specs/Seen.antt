@@ -5,7 +5,7 @@ use Rattle.bfr_store.specs.declared.meaning.Meaning.{Ghosts}
 use Rattle.gl_logic.specs.Object.{Object, nil}
 use Rattle.sym_objects.specs.declared.sob.Sob.{Sob}
 use Rattle.sym_objects.specs.declared.node.Node.{Node}
-use Rattle.sym_objects.specs.Nodes.{values_from, object_by, constant_by, bits_by, node_at, EdgesLive}
+use Rattle.sym_objects.specs.Nodes.{values_from, object_by, constant_by, bits_by, EdgesLive}
 
 -- what contracts see of a table: the store, the nodes in the order of their making, and how many there may be
 pub record SobsSeen (B : Type 0) : Type 0 where

@@ -1,6 +1,5 @@
 -- Nodes in a table that finds each of them again.
-use Rattle.std.specs.Prelude.{ℕ, Bool, ◌+◌, ◌≡◌, ◌≢◌, ◌≤◌, ◌<◌, List, length, get_or, max}
-use Rattle.sym_objects.specs.declared.sob.Sob.{Sob}
+use Rattle.std.specs.Prelude.{ℕ, Bool, ◌+◌, ◌≡◌, ◌≤◌, ◌<◌, List, length, get_or}
 use Rattle.sym_objects.specs.declared.node.Node.{Node}
 use Rattle.sym_objects.specs.declared.node.Node.TheVariants as node
 use Rattle.sym_objects.specs.Hashes.{bucket_of}

@@ -1,6 +1,6 @@
-use Rattle.std.proofs.Common.{rules, ◌≡◌, sym, subst, ℕ, Bool, false}
+use Rattle.std.proofs.Common.{sym, subst, false}
 use Rattle.sym_objects.specs.declared.sob.Sob.{Sob}
-use Rattle.sym_objects.specs.Arenas.{Extends, IsConsOf, IsConstantNode, IsIdOfNode}
+use Rattle.sym_objects.specs.Arenas.{IsConsOf, IsConstantNode, IsIdOfNode}
 use Rattle.sym_objects.specs.Seen.{stands_for}
 use Rattle.sym_objects.specs.Truths.{number_of, sob_of}
 use Rattle.sym_objects.proofs.Memoed.{right_kept, right_put}

@@ -1,4 +1,4 @@
-use Rattle.std.proofs.Common.{◌<◌, length, sym, arith}
+use Rattle.std.proofs.Common.{◌<◌, length, arith}
 use Rattle.std.proofs.lemmas.List.{get_or_default}
 use Rattle.sym_objects.specs.declared.node.Node.TheVariants as node
 use Rattle.sym_objects.proofs.Linked.{chained-next}

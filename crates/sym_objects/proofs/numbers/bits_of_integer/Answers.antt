@@ -3,7 +3,7 @@ use mir.Val.{to_z, of_z}
 use mir.Syntax.{w128}
 use Rattle.std.proofs.lemmas.Int.{ints}
 use Rattle.gl_logic.proofs.TwosComplement.{Within}
-use Rattle.sym_objects.proofs.Halves.{AreBits, IsAhead, IsConstantEdge, ahead_done, ahead_first, ahead_more}
+use Rattle.sym_objects.proofs.Halves.{AreBits, IsAhead, ahead_done, ahead_first, ahead_more}
 use Rattle.sym_objects.proofs.numbers.bits_of_integer.Goals as goal
 
 pub loop-init : goal.loop-init

@@ -1,4 +1,4 @@
-use Rattle.std.proofs.Common.{rules, ◌≡◌, ◌∙◌, ◌-◌, ℕ, Bool, false, sym, ap, arith, length, map, drop}
+use Rattle.std.proofs.Common.{rules, ◌≡◌, ◌∙◌, ◌-◌, false, sym, ap, arith}
 use mir.Val.{to_z, of_z}
 use mir.Syntax.{w128}
 use Rattle.bfr_store.specs.declared.edge.Edge.{Edge}

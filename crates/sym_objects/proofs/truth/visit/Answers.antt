@@ -1,9 +1,9 @@
-use Rattle.std.proofs.Common.{◌∙◌, ap, sym, subst, not, arith}
+use Rattle.std.proofs.Common.{◌∙◌, subst, arith}
 use Rattle.gl_logic.specs.Object.{boolean_object}
 use Rattle.sym_objects.specs.declared.sob.Sob.{Sob}
 use Rattle.sym_objects.specs.Nodes.{object_by}
 use Rattle.sym_objects.specs.Seen.{IsLive, bits_in, stands_for}
-use Rattle.sym_objects.specs.Truths.{IsChoiceOf, IsTruthOf, number_of, sob_of}
+use Rattle.sym_objects.specs.Truths.{IsChoiceOf, IsTruthOf, number_of}
 use Rattle.sym_objects.proofs.Truths.{boolean_truth, other_truth, truth_by}
 use Rattle.sym_objects.proofs.Walking.{turn_give, turn_two}
 use Rattle.sym_objects.proofs.truth.visit.Goals as goal

@@ -1,7 +1,5 @@
-use Rattle.std.proofs.Common.{rules, ◌≡◌, ◌<◌, ◌∷◌, ◌++◌, [], length, subst, sym, ap, ◌∙◌, List}
-use Rattle.sym_objects.specs.declared.node.Node.{Node}
+use Rattle.std.proofs.Common.{◌≡◌, ◌<◌, ◌∷◌, ◌++◌, [], length, subst, sym, ap, ◌∙◌}
 use Rattle.sym_objects.specs.Inside.{AreProper, IsSound}
-use Rattle.sym_objects.specs.Nodes.{node_at}
 use Rattle.sym_objects.specs.Seen.{SobsSeen}
 use Rattle.sym_objects.specs.Table.{Marked, numbered}
 use Rattle.sym_objects.proofs.Adding.{bits_at, bits_added, constant_at, makes_found, makes_added, sound_push}

@@ -1,4 +1,4 @@
-use Rattle.std.proofs.Common.{◌≡◌, ◌≤◌, ◌++◌, ◌∙◌, ◌<◌, ap, sym, subst, arith, length, Option, IfSome}
+use Rattle.std.proofs.Common.{◌≤◌, ◌++◌, ◌∙◌, ◌<◌, ap, sym, subst, arith, length, Option, IfSome}
 use Rattle.sym_objects.specs.declared.sob.Sob.{Sob}
 use Rattle.sym_objects.specs.Integers.{bits_behind}
 use Rattle.sym_objects.specs.Seen.{bits_in}

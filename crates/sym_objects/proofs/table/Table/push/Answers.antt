@@ -1,4 +1,4 @@
-use Rattle.std.proofs.Common.{ap, subst, sym, ◌∙◌, arith, ◌<◌, ◌≡◌, ◌≢◌, ℕ, List, length}
+use Rattle.std.proofs.Common.{ap, subst, sym, ◌∙◌, arith, ◌<◌, ◌≢◌, ℕ, List, length}
 use Rattle.sym_objects.specs.declared.node.Node.{Node}
 use Rattle.sym_objects.specs.Table.{Marked, numbered}
 use Rattle.sym_objects.proofs.Tables.{table-pushed}
