@@ -1,8 +1,10 @@
 -- Places of names, as a list grows.
-use Rattle.std.proofs.Common.{◌≡◌, ◌∙◌, ap, sym, refl, ℕ, zero, suc, ◌<◌, List, [], ◌∷◌, ◌++◌, map, Bool, true, false, cond, eqb, Option, Some, None, length, arith, ◌⊎◌, inl, inr, slice_get, get_or}
+use Rattle.std.proofs.Common.{◌≡◌, ◌≢◌, ◌∙◌, ap, sym, refl, ℕ, zero, suc, ◌<◌, List, [], ◌∷◌, ◌++◌, map, Bool, true, false, cond, eqb, Option, Some, None, length, arith, ◌⊎◌, inl, inr, slice_get, get_or, subst}
 use Rattle.std.specs.List.{find}
 use Rattle.std.specs.Option.{option_map}
 use Rattle.std.proofs.lemmas.Option.{slice_get_read, slice_get-map}
+use Rattle.std.proofs.lemmas.List.Quantifiers.{position-Some}
+use Rattle.std.proofs.lemmas.Bool.{cases_eq}
 use Rattle.gl_logic.specs.Named.{place_of, place_in, IsIndex, IsFree, names_of, object_named}
 use Rattle.gl_logic.specs.Object.{Object}
 
@@ -61,3 +63,55 @@ slice_push [] y zero x e = inr (refl, cc)
 slice_push [] y (suc i) x e = absurd cc
 slice_push (z ∷ xs) y zero x e = inl (omega arith, e)
 slice_push (z ∷ xs) y (suc i) x e = elim (slice_push xs y i x e) [ inl h ↦ inl (omega (arith, h.0), h.1) | inr h ↦ inr (omega (arith, h.0), h.1) ]
+
+-- ---- a list with one name less
+abbrev or_last : Option ℕ → Bool → ℕ → Option ℕ
+or_last (Some i) b k = Some i
+or_last None b k = cond b (Some k) None
+
+or_last-suc : (o : Option ℕ) (b : Bool) (k : ℕ) → option_map suc (or_last o b k) ≡ or_last (option_map suc o) b (suc k)
+or_last-suc (Some i) b k = refl
+or_last-suc None true k = refl
+or_last-suc None false k = refl
+
+or_last-cond : (c b : Bool) (o : Option ℕ) (k : ℕ) → cond c (Some 0) (or_last o b k) ≡ or_last (cond c (Some 0) o) b k
+or_last-cond true b o k = refl
+or_last-cond false b o k = refl
+
+place-last : (ns : List ℕ) (n name : ℕ) → place_of (ns ++ n ∷ []) name ≡ or_last (place_of ns name) (eqb name n) (length ns)
+place-last [] n name = place-cons n [] name
+place-last (m ∷ ns) n name =
+    place-cons m (ns ++ n ∷ []) name
+    ∙ ap (λ o. cond (eqb name m) (Some 0) (option_map suc o)) (place-last ns n name)
+    ∙ ap (cond (eqb name m) (Some 0)) (or_last-suc (place_of ns name) (eqb name n) (length ns))
+    ∙ or_last-cond (eqb name m) (eqb name n) (option_map suc (place_of ns name)) (suc (length ns))
+    ∙ ap (λ o. or_last o (eqb name n) (suc (length ns))) (sym (place-cons m ns name))
+
+or_last-no : (o : Option ℕ) (b : Bool) (k : ℕ) → b ≡ false → or_last o b k ≡ o
+or_last-no (Some i) b k h = refl
+or_last-no None true k h = absurd cc
+or_last-no None false k h = refl
+
+-- the index without the last name
+popped_here : (names : List ℕ) (n k : ℕ) (o old new : Option ℕ) → k ≡ length names → place_of names n ≡ o → old ≡ or_last o true (length names)
+    → (old ≡ Some k → new ≡ None) → ((old ≡ Some k → ⊥) → new ≡ old) → new ≡ o
+popped_here names n k None old new h p e gone same = gone (e ∙ ap (λ (i : ℕ). Some i) (sym h))
+popped_here names n k (Some i) old new h p e gone same =
+    let w = position-Some (eqb n) names i 0 p in
+    same (λ q. absurd (omega (arith, some_same i k (sym e ∙ q), h, w.0))) ∙ e
+
+other_number : (name n : ℕ) → name ≢ n → eqb name n ≡ false
+other_number name n h = grind (arith, h)
+
+same_number : (n : ℕ) → eqb n n ≡ true
+same_number n = grind arith
+
+pub index_pop : (old new : List ℕ) (names : List ℕ) (n k : ℕ) → k ≡ length names → IsIndex old (names ++ n ∷ [])
+    → (place_in old n ≡ Some k → place_in new n ≡ None) → ((place_in old n ≡ Some k → ⊥) → place_in new n ≡ place_in old n)
+    → ((other : ℕ) → (other ≡ n → ⊥) → place_in new other ≡ place_in old other) → IsIndex new names
+index_pop old new names n k h is gone same others name = elim (cases_eq name n) [
+  | inl at ↦
+      subst (λ (m : ℕ). place_in new m ≡ place_of names m) (sym at)
+      (popped_here names n k (place_of names n) (place_in old n) (place_in new n) h refl (is n ∙ place-last names n n ∙ ap (λ b. or_last (place_of names n) b (length names)) (same_number n)) gone same)
+  | inr e ↦ others name e ∙ is name ∙ place-last names n name ∙ or_last-no (place_of names name) (eqb name n) (length names) (other_number name n e)
+]

@@ -14,6 +14,7 @@ pub mod Optional
 pub mod OwnWalks
 pub mod FreeVariables
 pub mod MadeCalls
+pub mod Cuts
 pub mod DepthOfCounts
 pub mod OtherCounts
 pub mod Equality

@@ -37,6 +37,7 @@ pub mod Measures
 pub mod Steps
 pub mod IsAdmissible
 pub mod IsTotal
+pub mod Extents
 pub mod NewNames
 pub mod WorldSeen
 pub mod DefinitionOf

@@ -36,4 +36,4 @@ pub use term::Term;
 pub use terms::Terms;
 pub use texts::Texts;
 pub use tree::{Tree, TreeKind};
-pub use world::World;
+pub use world::{Extent, World};

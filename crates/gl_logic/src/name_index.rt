@@ -1,6 +1,6 @@
 //! Places kept by name.
 
-ghost use Rattle.std.specs.Prelude.{◌≡◌, ℕ, ◌-◌, ◌^◌, ◌<◌, ◌≤◌, [], length, take, if◌then◌else◌, eqb, Some, OnOk};
+ghost use Rattle.std.specs.Prelude.{◌≡◌, ℕ, ◌-◌, ◌^◌, ◌<◌, ◌≤◌, [], length, take, if◌then◌else◌, eqb, Some, None, OnOk};
 ghost use Rattle.gl_logic.specs.Named.{IsIndex, place_in};
 ghost use Rattle.gl_logic.specs.NewNames.{HasRoom, AreFreeFrom, numbers_of};
 
@@ -64,6 +64,17 @@ impl NameIndex {
         ensures places { (other : ℕ) → place_in self.new other ≡ (if eqb name.number other then Some place else place_in self.old other) }
     {
         self.places[name.number as usize] = place + 1;
+    }
+
+    /// Takes this place from a name, where it has it.
+    pub(crate) fn clear(&mut self, name: TextId, place: u64)
+        ensures gone { place_in self.old name.number ≡ Some place → place_in self.new name.number ≡ None }
+        ensures same { (place_in self.old name.number ≡ Some place → ⊥) → place_in self.new name.number ≡ place_in self.old name.number }
+        ensures others { (other : ℕ) → (other ≡ name.number → ⊥) → place_in self.new other ≡ place_in self.old other }
+    {
+        if self.get(name) == Some(place) {
+            self.places[name.number as usize] = 0;
+        }
     }
 
     /// Makes room for the names of these definitions. No place changes.

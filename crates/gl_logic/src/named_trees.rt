@@ -1,6 +1,6 @@
 //! Objects with a name each.
 
-ghost use Rattle.std.specs.Prelude.{◌≡◌, ◌↔◌, ◌<◌, [], ◌∷◌, ◌++◌, length, map, slice_get, Some, OnOk, OnErr};
+ghost use Rattle.std.specs.Prelude.{◌≡◌, ◌↔◌, ◌<◌, [], ◌∷◌, ◌++◌, ◌-◌, take, length, map, slice_get, Some, OnOk, OnErr};
 ghost use Rattle.std.specs.Option.{option_copied};
 ghost use Rattle.gl_logic.specs.Named.{IsFree, names_of, object_named};
 
@@ -60,6 +60,24 @@ impl NamedTrees {
         self.entries.push(NamedTree { name, tree })?;
         self.index.put(name, place);
         Ok(())
+    }
+
+    /// Takes the last object out.
+    pub(crate) fn pop(&mut self)
+        ensures { self.new ≡ take (length self.old - 1) self.old }
+    {
+        if let Some(last) = self.entries.pop() {
+            self.index.clear(last.name, self.entries.len() as u64);
+        }
+    }
+
+    /// Leaves so many, the first ones.
+    pub(crate) fn cut(&mut self, len: u64)
+        ensures { self.new ≡ take len self.old }
+    {
+        while len < self.len() {
+            self.pop();
+        }
     }
 
     /// How many objects there are.

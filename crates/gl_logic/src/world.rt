@@ -1,13 +1,15 @@
 //! Worlds: definitions, constants and accepted events.
 
-ghost use Rattle.std.specs.Prelude.{◌≡◌, ◌↔◌, ◌<◌, [], ◌∷◌, ◌++◌, length, map, slice_get, Some, IfOk, OnOk, OnErr};
+ghost use Rattle.std.specs.Prelude.{◌≡◌, ◌↔◌, ◌<◌, ◌-◌, [], ◌∷◌, ◌++◌, take, length, map, slice_get, Some, IfOk, OnOk, OnErr};
 ghost use Rattle.std.specs.Option.{option_copied, option_map};
 ghost use Rattle.gl_logic.specs.DefinitionOf.{definition_of};
 ghost use Rattle.gl_logic.specs.IsTermOf.{IsTermOf};
 ghost use Rattle.gl_logic.specs.IsGround.{IsGround};
-ghost use Rattle.gl_logic.specs.Named.{AreDifferentNames, AreFreeNames, IsFree, names_of, object_named, place_of};
+ghost use Rattle.gl_logic.specs.Named.{AreDifferentNames, AreFreeNames, IsFree, IsIndex, names_of, object_named, place_of};
 ghost use Rattle.gl_logic.specs.IsAdmissible.{IsAdmissible};
 ghost use Rattle.gl_logic.specs.IsTotal.{IsTotal};
+ghost use Rattle.gl_logic.specs.Extents.{world_cut};
+ghost use Rattle.gl_logic.specs.NewNames.{numbers_of};
 ghost use Rattle.gl_logic.specs.WorldSeen.{IsWorld, IsClique, IsDefinitionOf, definition_names, with_clique, with_definition, with_constant, with_event};
 
 use super::def::Def;
@@ -47,7 +49,68 @@ impl Model for World {
     ghost invariant = { λ w. IsIndex w.definition_index (definition_names (map definition_of w.definitions.items)) × IsWorld (map definition_of w.definitions.items) w.cliques.items };
 }
 
+/// How many definitions, cliques, constants and events a world has.
+#[derive(Clone, Copy, Debug, PartialEq, Eq)]
+pub struct Extent {
+    pub definitions: u64,
+    pub cliques: u64,
+    pub constants: u64,
+    pub events: u64,
+}
+
+/// Takes the last definition and its place out.
+fn pop_definition(definitions: &mut Vec<Def>, index: &mut NameIndex)
+    requires { IsIndex index.old (numbers_of definitions.old.items) }
+    ensures index { IsIndex index.new (numbers_of definitions.new.items) }
+    ensures rest { definitions.new.items ≡ take (length definitions.old.items - 1) definitions.old.items }
+{
+    if let Some(last) = definitions.pop() {
+        index.clear(last.name, definitions.len() as u64);
+    }
+}
+
+/// Leaves so many definitions, the first ones, and their places.
+fn cut_definitions(definitions: &mut Vec<Def>, index: &mut NameIndex, len: u64)
+    requires { IsIndex index.old (numbers_of definitions.old.items) }
+    ensures index { IsIndex index.new (numbers_of definitions.new.items) }
+    ensures rest { definitions.new.items ≡ take len definitions.old.items }
+{
+    while len < definitions.len() as u64 {
+        pop_definition(definitions, index);
+    }
+}
+
 impl World {
+    /// How many of each there are.
+    pub fn extent(&self) -> Extent
+        ensures definitions { result.definitions ≡ length self.now.definitions }
+        ensures cliques { result.cliques ≡ length self.now.cliques }
+        ensures constants { result.constants ≡ length self.now.constants }
+        ensures events { result.events ≡ length self.now.events }
+    {
+        Extent {
+            definitions: self.definitions.len() as u64,
+            cliques: self.cliques.len() as u64,
+            constants: self.constants.len(),
+            events: self.events.len(),
+        }
+    }
+
+    /// Leaves so many of each, the first ones: the world as it was when it had so many.
+    pub fn cut(&mut self, extent: Extent)
+        requires { IsWorld (take extent.definitions self.old.definitions) (take extent.cliques self.old.cliques) }
+        ensures { self.new ≡ world_cut extent self.old }
+    {
+        cut_definitions(
+            &mut self.definitions,
+            &mut self.definition_index,
+            extent.definitions,
+        );
+        self.cliques.truncate(extent.cliques as usize);
+        self.constants.cut(extent.constants);
+        self.events.cut(extent.events);
+    }
+
     /// No definitions, constants or events.
     pub fn new(alloc: Global) -> Result<World, NoMemory>
         ensures { IfOk result (λ w. (w.definitions ≡ []) × (w.cliques ≡ []) × (w.constants ≡ []) × (w.events ≡ [])) }
