@@ -10,3 +10,4 @@ pub mod Pushes
 pub mod Room
 pub mod Spread
 pub mod Stores
+pub mod Tests

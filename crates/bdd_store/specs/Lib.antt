@@ -2,3 +2,4 @@ pub mod Nodes
 pub mod Inside
 pub mod Plans
 pub mod Hashes
+pub mod Tests

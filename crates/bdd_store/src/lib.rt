@@ -51,9 +51,11 @@ pub mod entry;
 pub mod hash;
 pub mod node;
 mod operations;
+pub mod parts;
 pub mod plan;
 pub mod store;
 mod tables;
 mod walks;
 
+pub use parts::Test;
 pub use store::Bdd;

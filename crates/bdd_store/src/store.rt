@@ -107,6 +107,16 @@ impl Bdd {
         self.nodes[e.node() as usize].variable
     }
 
+    /// The node of an edge.
+    pub(crate) fn node_of(&self, e: Edge) -> Node
+        requires { IsLive self.now e }
+        ensures node { result ≡ node_at self.now.nodes (node_of e) }
+        ensures ordered { IsOrdered self.now.nodes self.now.width }
+        ensures distinct { IsDistinct self.now.nodes }
+    {
+        self.nodes[e.node() as usize]
+    }
+
     /// What the edge says where the variable is true, and what it says elsewhere. The variable is not past the edge's.
     pub(crate) fn branches(&self, e: Edge, variable: u32) -> (Edge, Edge)
         requires live { IsLive self.now e }
