@@ -1,5 +1,5 @@
 -- Logs of learned clauses.
-use Rattle.std.proofs.Common.{◌≡◌, ℕ, ℤ, Bool, true, false, ◌||◌, ◌<◌, ◌≤◌, List, [], ◌∷◌, ◌++◌, take, drop, length, refl, ap, ◌∙◌, sym, subst, arith}
+use Rattle.std.proofs.Common.{◌≡◌, ℕ, ℤ, Bool, true, false, ◌||◌, ◌<◌, ◌≤◌, ◌^◌, List, [], ◌∷◌, ◌++◌, take, drop, length, refl, ap, ◌∙◌, sym, subst, arith}
 use Rattle.std.specs.List.{All}
 use Rattle.std.proofs.lemmas.List.{append-nil, append_assoc, map-append, take-append-drop, take-append-le, drop-append-le, length_push}
 use Rattle.std.proofs.lemmas.List.Folds.{list_any-append}
@@ -42,13 +42,13 @@ abbrev pub book_of : List Entry → ℕ → BookSeen
 book_of entries first = record { entries = entries; first = first }
 
 module _ (old new : List Entry) (first : ℕ) (e : Entry) (is : new ≡ old ++ e ∷ []) where
-  pub book-push : IsBook (book_of old first) → length old < 4294967295 → IsClause e.clause → All (λ h. 0 < h) e.hints → IsShown (clauses_of old) e.clause e.hints → IsBook (book_of new first)
-  book-push b room clause hints shown = rw is (record {
+  pub book-push : IsBook (book_of old first) → length old < 4294967295 → IsClause e.clause → All (λ h. 0 < h) e.hints → All (λ h. h < 2 ^ 32) e.hints → IsShown (clauses_of old) e.clause e.hints → IsBook (book_of new first)
+  book-push b room clause some small shown = rw is (record {
     within = omega (arith, b.within, length_push old e);
     small = omega (arith, room, length_push old e);
     clauses = All-push (λ (x : Entry). IsClause x.clause) old e b.clauses clause;
     bare = subst (All (λ (x : Entry). x.hints ≡ [])) (sym front) b.bare;
-    hints = All-push (λ (x : Entry). All (λ h. 0 < h) x.hints) old e b.hints hints;
+    hints = All-push (λ (x : Entry). All (λ h. (0 < h) × (h < 2 ^ 32)) x.hints) old e b.hints (λ k d within. (some k d within, small k d within));
     log = rw (front, back) (log-push (clauses_of (take first old)) (drop first old) e b.log (subst (λ (cs : List (List ℤ)). IsShown cs e.clause e.hints) (sym (clauses-parts (book_of old first))) shown));
   })
     where

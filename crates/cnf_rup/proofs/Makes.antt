@@ -49,8 +49,8 @@ module _ (nodes : List AigNode) (width : ℕ) (o : IsOrdered nodes width) (root 
   pub are-small : length cone ≤ max 1 root → length entries ≤ 3 * root + 4
   are-small count = omega (arith, ap length made, length_push (entries_of_cone nodes cone) (record { clause = literal_of e ∷ []; hints = [] }), three-each nodes width o root live cone, count)
 
-  pub are-up-to : (limit : ℕ) → root ≤ limit → All (IsUpTo (limit + 1)) (clauses_of entries)
-  are-up-to limit h = All-map (IsUpTo (limit + 1)) (λ (x : Entry). x.clause) entries (λ k d under j l within. omega (arith, are-within k d under j l within, h))
+  pub are-up-to : (most : ℕ) → root + 1 ≤ most → All (IsUpTo most) (clauses_of entries)
+  are-up-to most h = All-map (IsUpTo most) (λ (x : Entry). x.clause) entries (λ k d under j l within. omega (arith, are-within k d under j l within, h))
 
   pub made-cnf : IsCnfOf nodes e (clauses_of entries)
   made-cnf = record {

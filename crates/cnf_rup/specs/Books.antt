@@ -40,7 +40,7 @@ pub record IsBook (b : BookSeen) : Type 0 where
   pub small : length b.entries < 2 ^ 32
   pub clauses : All (λ e. IsClause e.clause) b.entries
   pub bare : All (λ e. e.hints ≡ []) (take b.first b.entries)
-  pub hints : All (λ e. All (λ h. 0 < h) e.hints) b.entries
+  pub hints : All (λ e. All (λ h. (0 < h) × (h < 2 ^ 32)) e.hints) b.entries
   pub log : IsLogOk (first_clauses b) (log_of b)
 
 -- every clause of the book follows from the first ones

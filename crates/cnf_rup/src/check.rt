@@ -12,7 +12,7 @@ use super::turn::Turn;
 use gl_logic::NoMemory;
 
 /// Takes the literals of a clause as false, in a trail without a literal.
-fn take_as_false(trail: &mut Trail, clause: &[i32]) -> Result<(), NoMemory>
+pub fn take_as_false(trail: &mut Trail, clause: &[i32]) -> Result<(), NoMemory>
     requires none { trail.old.literals ≡ [] }
     requires within { AreWithin trail.old.room clause.now }
     requires unset { trail.old.unset ≤ trail.old.room }
@@ -28,7 +28,7 @@ fn take_as_false(trail: &mut Trail, clause: &[i32]) -> Result<(), NoMemory>
 }
 
 /// Whether one of the literals is true.
-fn is_one_true(trail: &Trail, clause: &[i32]) -> bool
+pub fn is_one_true(trail: &Trail, clause: &[i32]) -> bool
     requires { AreWithin trail.now.room clause.now }
     ensures { result ≡ list_any (is_among trail.now.literals) clause.now }
 {
@@ -41,7 +41,7 @@ fn is_one_true(trail: &Trail, clause: &[i32]) -> bool
 }
 
 /// What a clause is where the literals of the trail are true.
-fn turn(trail: &Trail, clause: &[i32]) -> Turn
+pub fn turn(trail: &Trail, clause: &[i32]) -> Turn
     requires within { AreWithin trail.now.room clause.now }
     requires small { trail.now.room < 2 ^ 32 }
     ensures turn { result ≡ turn_of trail.now.literals clause.now }

@@ -1,6 +1,6 @@
 //! Clauses, hints, and the entries of a book.
 
-ghost use Rattle.std.specs.Prelude.{◌≡◌, ◌<◌, [], ◌∷◌, ◌++◌, length, slice_get, Some, IfOk, OnOk, OnErr};
+ghost use Rattle.std.specs.Prelude.{◌≡◌, ◌<◌, ◌^◌, [], ◌∷◌, ◌++◌, All, length, slice_get, Some, IfOk, OnOk, OnErr};
 
 use gl_logic::NoMemory;
 use std::alloc::Global;
@@ -79,11 +79,13 @@ pub struct Hints {
 }
 
 impl Model for Hints {
-    ghost use Rattle.std.specs.Prelude.{List, ℕ};
+    ghost use Rattle.std.specs.Prelude.{List, ℕ, ◌<◌, ◌^◌, All};
 
     ghost Value = { List ℕ };
 
     ghost view = { λ h. h.clauses.items };
+
+    ghost invariant = { λ h. All (λ n. n < 2 ^ 32) h.clauses.items };
 }
 
 impl Hints {
@@ -122,7 +124,8 @@ impl Hints {
 
     /// The hints.
     pub fn as_slice(&self) -> &[u32]
-        ensures { result.now ≡ self.now }
+        ensures same { result.now ≡ self.now }
+        ensures small { All (λ n. n < 2 ^ 32) self.now }
     {
         self.clauses.as_slice()
     }

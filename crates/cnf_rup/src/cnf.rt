@@ -127,7 +127,7 @@ pub fn cnf_of(alloc: Global, aig: &Aig, e: Edge) -> Result<ClauseBook, NoMemory>
     ensures first { IfOk result (λ b. b.first ≡ length b.entries) }
     ensures clauses { IfOk result (λ b. IsCnfOf aig.now.nodes e (clauses_of b.entries)) }
     ensures few { IfOk result (λ b. b.first ≤ 3 * count_of aig.now + 2) }
-    ensures variables { IfOk result (λ b. All (IsUpTo (aig.now.limit + 1)) (clauses_of b.entries)) }
+    ensures variables { IfOk result (λ b. All (IsUpTo (length aig.now.nodes)) (clauses_of b.entries)) }
     ensures extends { IfOk result (λ b. IsTrueWhereSatisfied aig.now.nodes e (clauses_of b.entries)) }
 {
     let _limit = aig.limit();

@@ -7,13 +7,13 @@
 #![tactic(auto)]
 
 mod book;
-mod check;
-mod clause;
+pub mod check;
+pub mod clause;
 mod cnf;
 mod cone;
 pub mod laws;
-mod trail;
-mod turn;
+pub mod trail;
+pub mod turn;
 
 pub use book::{ClauseBook, Learn};
 pub use clause::{Clause, Entry, Hints};

@@ -1,5 +1,5 @@
 -- Books of decisions: what stays when a clause is learned, and what an answer stands on.
-use Rattle.std.proofs.Common.{◌≡◌, ◌≢◌, ◌↔◌, ◌⊎◌, ℕ, ℤ, Bool, true, false, ◌||◌, ◌+◌, ◌-◌, ◌<◌, ◌≤◌, List, [], ◌∷◌, ◌++◌, length, take, drop, refl, ap, ◌∙◌, sym, subst, inl, inr, arith, length-append, length-drop}
+use Rattle.std.proofs.Common.{◌≡◌, ◌≢◌, ◌↔◌, ◌⊎◌, ℕ, ℤ, Bool, true, false, ◌||◌, ◌+◌, ◌*◌, ◌-◌, ◌<◌, ◌≤◌, List, [], ◌∷◌, ◌++◌, length, take, drop, refl, ap, ◌∙◌, sym, subst, inl, inr, arith, length-append, length-drop}
 use Rattle.std.specs.List.{All}
 use Rattle.std.proofs.lemmas.List.{take-append-le, take_all, length_push}
 use Rattle.std.proofs.lemmas.List.Elements.{All-head, All-tail}
@@ -9,7 +9,7 @@ use Rattle.bfr_store.specs.declared.edge.Decision.TheVariants.{Never, Sometimes,
 use Rattle.aig_store.specs.declared.node.AigNode.{AigNode}
 use Rattle.aig_store.specs.Nodes.{truth_of}
 use Rattle.cnf_rup.specs.declared.clause.Entry.{Entry}
-use Rattle.cnf_rup.specs.Literals.{Satisfies, SatisfiesAll, Follows}
+use Rattle.cnf_rup.specs.Literals.{IsUpTo, Satisfies, SatisfiesAll, Follows}
 use Rattle.cnf_rup.specs.Books.{BookSeen, IsBook, AllFollow, clauses_of, first_clauses, holds_empty, is_empty, log_of}
 use Rattle.cnf_rup.specs.Cnfs.{IsCnfOf, IsTrueWhereSatisfied}
 use Rattle.sat_core.specs.Decisions.{IsBookOf, IsDecidedBy, LearnsOne, learned_in}
@@ -36,13 +36,14 @@ refuted nodes e b extends follow h a =
     false_unless (truth_of nodes e a) (λ t. let x = (extends a).0 t in none_satisfies (first_clauses b) x.0 x.2 b.entries follow h)
 
 -- a book of first clauses alone
-pub begins : (nodes : List AigNode) (e : Edge) (b : BookSeen) → IsBook b → b.first ≡ length b.entries → IsCnfOf nodes e (clauses_of b.entries) → IsTrueWhereSatisfied nodes e (clauses_of b.entries) → b.first ≤ 3000000002 → IsBookOf nodes e b 0
-begins nodes e b book all cnf extends few = record {
+pub begins : (nodes : List AigNode) (e : Edge) (b : BookSeen) → IsBook b → b.first ≡ length b.entries → IsCnfOf nodes e (clauses_of b.entries) → IsTrueWhereSatisfied nodes e (clauses_of b.entries) → b.first ≤ 3000000002 → b.first ≤ 3 * length nodes + 2 → All (IsUpTo (length nodes)) (clauses_of b.entries) → IsBookOf nodes e b 0
+begins nodes e b book all cnf extends few three variables = record {
   book = book;
   cnf = subst (IsCnfOf nodes e) (sym same) cnf;
   extends = subst (IsTrueWhereSatisfied nodes e) (sym same) extends;
   count = omega (arith, all);
   few = few;
+  small = record { few = three; variables = subst (All (IsUpTo (length nodes))) (sym same) variables };
 }
   where
     same : first_clauses b ≡ clauses_of b.entries
@@ -56,6 +57,7 @@ one_more nodes e old new n b learns book = record {
   extends = subst (IsTrueWhereSatisfied nodes e) (sym same) b.extends;
   count = rw learns.1 (omega (arith, length_push old.entries learns.0, b.count));
   few = rw learns.1 b.few;
+  small = record { few = rw learns.1 b.small.few; variables = subst (All (IsUpTo (length nodes))) (sym same) b.small.variables };
 }
   where
     same : first_clauses new ≡ first_clauses old
@@ -71,6 +73,7 @@ decided-never nodes e clauses b n is within h = record {
   book = is.book;
   cnf = is.cnf;
   extends = is.extends;
+  small = is.small;
   within = omega (arith, learned-count nodes e b n is);
   never = (λ _. h, λ _. refl);
   sometimes = λ d. cc;
@@ -82,6 +85,7 @@ decided-sometimes nodes e clauses b n is within early h = record {
   book = is.book;
   cnf = is.cnf;
   extends = is.extends;
+  small = is.small;
   within = omega (arith, count);
   never = (λ d. cc, λ d. cc);
   sometimes = λ _. subst (λ (k : ℕ). (k < clauses) ⊎ (k ≡ 0)) (sym count) early;
@@ -96,6 +100,7 @@ decided-spent nodes e clauses b is h = record {
   book = is.book;
   cnf = is.cnf;
   extends = is.extends;
+  small = is.small;
   within = omega (arith, count);
   never = (λ d. cc, λ d. cc);
   sometimes = λ d. cc;

@@ -1,5 +1,5 @@
 -- What a decision by search answers, and what stands behind the answer: the book of its clauses.
-use Rattle.std.specs.Prelude.{ℕ, ◌+◌, ◌*◌, Bool, true, false, ◌≡◌, ◌≢◌, ◌≤◌, ◌<◌, ◌⊎◌, ◌↔◌, ◌++◌, ◌∷◌, [], List, length, Option, None, Some}
+use Rattle.std.specs.Prelude.{ℕ, ◌+◌, ◌*◌, Bool, true, false, ◌≡◌, ◌≢◌, ◌≤◌, ◌<◌, ◌⊎◌, ◌↔◌, ◌++◌, ◌∷◌, [], List, length, All, Option, None, Some}
 use Rattle.bfr_store.specs.declared.edge.Edge.{Edge}
 use Rattle.bfr_store.specs.declared.edge.Decision.{Decision}
 use Rattle.bfr_store.specs.declared.edge.Decision.TheVariants.{Never, Sometimes, Spent}
@@ -7,6 +7,7 @@ use Rattle.aig_store.specs.declared.node.AigNode.{AigNode}
 use Rattle.aig_store.specs.Nodes.{Graph}
 use Rattle.cnf_rup.specs.declared.clause.Entry.{Entry}
 use Rattle.cnf_rup.specs.Books.{BookSeen, IsBook, first_clauses, holds_empty, log_of}
+use Rattle.cnf_rup.specs.Literals.{IsUpTo}
 use Rattle.cnf_rup.specs.Cnfs.{IsCnfOf, IsTrueWhereSatisfied}
 
 -- the graph; how many clauses a decision may learn; the book of the last decision, until it is taken; whether that decision
@@ -21,6 +22,11 @@ pub record SatSeen : Type 0 where
 abbrev pub learned_in : BookSeen → ℕ
 learned_in b = length (log_of b)
 
+-- a node gives at most three clauses, and its variable
+pub record IsSmall (nodes : List AigNode) (b : BookSeen) : Type 0 where
+  pub few : b.first ≤ 3 * length nodes + 2
+  pub variables : All (IsUpTo (length nodes)) (first_clauses b)
+
 -- the first clauses of the book are those of the edge's cone, and it has learned so many
 pub record IsBookOf (nodes : List AigNode) (e : Edge) (b : BookSeen) (learned : ℕ) : Type 0 where
   pub book : IsBook b
@@ -28,6 +34,7 @@ pub record IsBookOf (nodes : List AigNode) (e : Edge) (b : BookSeen) (learned : 
   pub extends : IsTrueWhereSatisfied nodes e (first_clauses b)
   pub count : length b.entries ≡ b.first + learned
   pub few : b.first ≤ 3000000002
+  pub small : IsSmall nodes b
 
 -- one clause more was learned
 abbrev pub LearnsOne : BookSeen → BookSeen → Type 0
@@ -40,6 +47,7 @@ pub record IsDecidedBy (nodes : List AigNode) (e : Edge) (clauses : ℕ) (b : Bo
   pub book : IsBook b
   pub cnf : IsCnfOf nodes e (first_clauses b)
   pub extends : IsTrueWhereSatisfied nodes e (first_clauses b)
+  pub small : IsSmall nodes b
   pub within : learned_in b ≤ clauses
   pub never : (d ≡ Never) ↔ (holds_empty b.entries ≡ true)
   pub sometimes : d ≡ Sometimes → (learned_in b < clauses) ⊎ (learned_in b ≡ 0)

@@ -105,8 +105,8 @@ returns-clause-variables c =
     let fits : FitsSigned w32 c.literal_of.result = search rules in
     let pushed : c.push_clause.new.entries.items ≡ c.push_cone.new.entries.items ++ record { clause = c.literal_of.result ∷ []; hints = [] } ∷ [] = simp to_z-of_z at c.in_ok-push_clause.ensures in
     let made = made-by c.args.aig.now.nodes c.args.e c.new-entries.result.items c.push_cone.new.entries.items c.push_clause.new.entries.items c.in_ok-cone.cone.items c.deref.result.now c.literal_of.result c.new-entries.ensures.items c.in_ok-push_cone.ensures c.deref.ensures.value c.literal_of.ensures.literal pushed in
-    IfOk-weaker c.of.result (λ (b : BookSeen). b ≡ record { entries = c.push_clause.new.entries.items; first = length c.push_clause.new.entries.items }) (λ (b : BookSeen). All (IsUpTo (c.args.aig.now.limit + 1)) (clauses_of b.entries))
-    (λ (b : BookSeen) is. subst (λ (x : BookSeen). All (IsUpTo (c.args.aig.now.limit + 1)) (clauses_of x.entries)) (sym is) (are-up-to c.args.aig.now.nodes c.args.aig.now.width order c.number_of-root.result live small c.in_ok-cone.cone.items c.in_ok-cone.ensures.cone c.args.e at c.push_clause.new.entries.items made c.args.aig.now.limit c.number_of-root.ensures.within)) c.of.ensures
+    IfOk-weaker c.of.result (λ (b : BookSeen). b ≡ record { entries = c.push_clause.new.entries.items; first = length c.push_clause.new.entries.items }) (λ (b : BookSeen). All (IsUpTo (length c.args.aig.now.nodes)) (clauses_of b.entries))
+    (λ (b : BookSeen) is. subst (λ (x : BookSeen). All (IsUpTo (length c.args.aig.now.nodes)) (clauses_of x.entries)) (sym is) (are-up-to c.args.aig.now.nodes c.args.aig.now.width order c.number_of-root.result live small c.in_ok-cone.cone.items c.in_ok-cone.ensures.cone c.args.e at c.push_clause.new.entries.items made (length c.args.aig.now.nodes) (omega (arith, live)))) c.of.ensures
 
 pub returns-clause-extends : goal.returns-clause-extends
 returns-clause-extends c =
