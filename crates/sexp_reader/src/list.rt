@@ -66,4 +66,11 @@ impl FormList {
     {
         &self.items[i as usize]
     }
+
+    /// The forms themselves, in order. Takes no memory.
+    pub fn into_forms(self) -> Vec<Form>
+        ensures { result.items ≡ self }
+    {
+        self.items
+    }
 }

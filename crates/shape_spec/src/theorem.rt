@@ -4,11 +4,13 @@ use super::binding_list::Bindings;
 use super::fn_set::FnSet;
 use gl_logic::{Term, TextId};
 
-/// How a theorem is decided: by binary decision diagrams or by satisfiability.
+/// How a theorem is decided: by binary decision diagrams, by satisfiability, or by diagrams with its conclusion run on inputs
+/// that meet the hypothesis alone.
 #[derive(Clone, Copy, Debug, PartialEq, Eq)]
 pub enum Mode {
     Bdd,
     Sat,
+    Param,
 }
 
 /// A part of a theorem.
