@@ -15,43 +15,29 @@ use Rattle.gl_logic.specs.declared.def.Measure.TheVariants as measure
 use Rattle.gl_translate.specs.Translation.{translation}
 use Rattle.gl_translate.specs.declared.fault.TermFault.TheVariants as term_fault
 use Rattle.gl_translate.specs.declared.scope.Scope.{Scope}
-use Rattle.gl_translate.proofs.LaterNames.{meant_later}
 use Rattle.shape_spec.specs.Wording.{spells, elements, both, all_meant}
 use Rattle.shape_spec.specs.declared.theorem.Mode.{Mode}
 use Rattle.event_world.specs.declared.fault.EventFault.{EventFault}
 use Rattle.event_world.specs.declared.fault.EventFault.TheVariants as code
 use Rattle.event_world.specs.declared.word.EventWord.{EventWord}
 use Rattle.event_world.specs.declared.word.EventWord.TheVariants as word
-use Rattle.event_world.specs.EventSeen.{EventSeen, Nothing, Value, Assert, Memoize, Unmemoize, Defconst, Theorem}
+use Rattle.event_world.specs.EventSeen.{EventSeen, Nothing, Value, Assert, Memoize, Unmemoize, Defconst}
 use Rattle.event_world.specs.Outcomes.{Outcome, and_then, found_or, holds_or, of_term}
 use Rattle.event_world.specs.EventWords.{event_word, word_of, behind_head}
 use Rattle.event_world.specs.PartsOf.{one_of, two_of, three_of, two_in, three_in, four_in, split_last}
 use Rattle.event_world.specs.NamesMeant.{plain_name, constant_name, is_taken}
 use Rattle.event_world.specs.Keywords.{pairs_of, value_of, are_options}
-use Rattle.event_world.specs.KeywordTexts.{xargs_texts, option_texts}
+use Rattle.event_world.specs.KeywordTexts.{xargs_texts}
 use Rattle.event_world.specs.MeasureMeant.{is_formal, of_formal, gap_of, of_gap, of_part, natural_of, natural_meant, is_one, one_more_of, ordinal_of, measure_meant}
 use Rattle.event_world.specs.Declares.{is_text, is_declare, is_ignored, declared_pairs, all_pairs, pairs_before, xargs_of, stated_of, stated_in, stated_measure}
 use Rattle.event_world.specs.DefunMeant.{DefunParts, texts_in, may_stand_before, with_body, named_parts, defun_parts, checked_formals, formals_meant, body_meant, judged, definition_made, defun_made, defun_meant}
 use Rattle.event_world.specs.CliqueMeant.{headed_parts, member_parts, are_members, checked_members, clique_parts, StatedMember, stated_member, all_stated, is_new, are_new, MadeMember, made_member, all_made, owns_of, members_meant, clique_judged, clique_made, clique_meant}
-use Rattle.event_world.specs.TheoremMeant.{TheoremParts, with_required, with_options, theorem_parts, clock_of, clocks_with, clocks_meant, claim_meant, hyp_meant, binds, bound_meant, theorem_made, theorem_claimed, theorem_meant}
 use Rattle.event_world.specs.PlainMeant.{is_string, is_package, is_book, quoted_in, quoted_part, function_named, memo_meant, closed_meant, evaluation_meant, ConstantParts, constant_with, constant_in, defconst_meant}
 use Rattle.event_world.specs.RedundantMeant.{repeated_name, repeated_member, checked_repeated, redundant_clique, redundant_meant}
 use Rattle.event_world.specs.EventMeant.{checked, unless_redundant, meant_behind, event_meant}
 use Rattle.event_world.proofs.LaterTexts.{map_has, then_has, then_same, both_has, cond_has, all_meant_same, all_meant_has, all_same, every_append, one_has, two_has, three_has, split_has, Known, IsKnown, later, text_same, spells_same, elements_known, two_in_known, three_in_known, four_in_known, plain_same, plain_known, constant_same, constant_known, taken_same, PairKnown, pairs_same, pairs_known, value_same, value_known, options_same}
-use Rattle.event_world.proofs.LaterShapes.{bindings_same}
-
--- ---- outcomes
-found_same : {A B : Type 0} (P : A → Type 0) (c : EventFault) (o : Option A) (f g : A → Outcome B) → IfSome o P → ((a : A) → P a → f a ≡ g a) → found_or c o f ≡ found_or c o g
-found_same P c None f g h k = refl
-found_same P c (Some a) f g h k = k a h
-
-anything : {A : Type 0} (o : Option A) → IfSome o (λ a. Unit {0})
-anything None = tt
-anything (Some a) = tt
-
-next_same : {A B : Type 0} (o : Outcome A) (f g : A → Outcome B) → ((a : A) → f a ≡ g a) → and_then o f ≡ and_then o g
-next_same (Ok a) f g k = k a
-next_same (Err c) f g k = refl
+use Rattle.event_world.proofs.LaterTheorems.{found_same, anything, translated_same, theorem_same}
+use Rattle.event_world.proofs.LaterCases.{param_same}
 
 module _ (names more : List (List ℕ)) (n : ℕ) (unnamed : number_of [] names ≡ Some n) (w : WorldSeen) where
   abbrev Here : Object → Type 0
@@ -59,9 +45,6 @@ module _ (names more : List (List ℕ)) (n : ℕ) (unnamed : number_of [] names 
 
   abbrev new : List (List ℕ)
   new = later names more
-
-  translated_same : (scope : Scope) (form : Object) → Here form → translation new w scope form ≡ translation names w scope form
-  translated_same scope form h = sym (meant_later names new n w scope form unnamed (more, refl) h)
 
   spelled : (word : List ℕ) (x : Object) → Here x → spells new word x ≡ spells names word x
   spelled = spells_same names more
@@ -212,7 +195,7 @@ module _ (names more : List (List ℕ)) (n : ℕ) (unnamed : number_of [] names 
   formals_same xs h = ap checked_formals (all_meant_same Here (plain_name new) (plain_name names) xs h (plain_same names more))
 
   body_same : (own : List (ℕ × ℕ)) (vs : List ℕ) (form : Object) → Here form → body_meant new w own vs form ≡ body_meant names w own vs form
-  body_same own vs form h = ap of_term (translated_same (record { vars = vs; every = false; own = own }) form h)
+  body_same own vs form h = ap of_term (translated_same names more n unnamed w (record { vars = vs; every = false; own = own }) form h)
 
   made_same : (d : DefunParts) (stated : Option Measure) → DefunKnown d → defun_made new w d stated ≡ defun_made names w d stated
   made_same d stated h =
@@ -284,71 +267,6 @@ module _ (names more : List (List ℕ)) (n : ℕ) (unnamed : number_of [] names 
       ap (λ o. found_or code.BadEvent (checked_members o) (clique_made new w)) (all_meant_same Here (member_parts new) (member_parts names) xs h member_parts_same)
       ∙ found_same (Every DefunKnown) code.BadEvent (clique_parts names xs) (clique_made new w) (clique_made names w) (members_known (all_meant (member_parts names) xs) (all_meant_has Here DefunKnown (member_parts names) xs h member_parts_known)) clique_made_same
 
-  -- ---- theorems
-  record TheoremKnown (p : TheoremParts) : Type 0 where
-    name : IsKnown names more p.name
-    hyp : IfSome p.hyp Here
-    concl : Here p.concl
-    bindings : Here p.bindings
-    options : Every Pair p.options
-
-  required_same : (t : ℕ) (ps : List (ℕ × Object)) → Every Pair ps → (o p : Option Object) → with_required new t ps o p ≡ with_required names t ps o p
-  required_same t ps h None None = refl
-  required_same t ps h None (Some b) = refl
-  required_same t ps h (Some c) None = refl
-  required_same t ps h (Some c) (Some b) = ap (λ (o : Option Object). Some (record { name = t; hyp = o; concl = c; bindings = b; options = ps })) (value_same names more (codes ":HYP") ps h)
-
-  required_known : (t : ℕ) (ps : List (ℕ × Object)) → IsKnown names more t → Every Pair ps → (o p : Option Object) → IfSome o Here → IfSome p Here → IfSome (with_required names t ps o p) TheoremKnown
-  required_known t ps l h None None ho hp = tt
-  required_known t ps l h None (Some b) ho hp = tt
-  required_known t ps l h (Some c) None ho hp = tt
-  required_known t ps l h (Some c) (Some b) ho hp = record { name = l; hyp = value_known names more (codes ":HYP") ps h; concl = ho; bindings = hp; options = h }
-
-  options_at : (o : Option ℕ) (p : Option (List (ℕ × Object))) → IfSome p (Every Pair) → with_options new o p ≡ with_options names o p
-  options_at None None h = refl
-  options_at None (Some ps) h = refl
-  options_at (Some t) None h = refl
-  options_at (Some t) (Some ps) h =
-      (λ i. with_required new t ps (value_same names more (codes ":CONCL") ps h i) (value_same names more (codes ":G-BINDINGS") ps h i))
-      ∙ required_same t ps h (value_of names (codes ":CONCL") ps) (value_of names (codes ":G-BINDINGS") ps)
-
-  options_known : (o : Option ℕ) (p : Option (List (ℕ × Object))) → IfSome o (IsKnown names more) → IfSome p (Every Pair) → IfSome (with_options names o p) TheoremKnown
-  options_known None None l h = tt
-  options_known None (Some ps) l h = tt
-  options_known (Some t) None l h = tt
-  options_known (Some t) (Some ps) l h = required_known t ps l h (value_of names (codes ":CONCL") ps) (value_of names (codes ":G-BINDINGS") ps) (value_known names more (codes ":CONCL") ps h) (value_known names more (codes ":G-BINDINGS") ps h)
-
-  theorem_parts_same : (xs : List Object) → Every Here xs → theorem_parts new xs ≡ theorem_parts names xs
-  theorem_parts_same [] h = refl
-  theorem_parts_same (a ∷ behind) h = (λ i. with_options new (plain_same names more a h.0 i) (pairs_same names more behind h.1 i)) ∙ options_at (plain_name names a) (pairs_of names behind) (pairs_known names more behind h.1)
-
-  theorem_parts_known : (xs : List Object) → Every Here xs → IfSome (theorem_parts names xs) TheoremKnown
-  theorem_parts_known [] h = tt
-  theorem_parts_known (a ∷ behind) h = options_known (plain_name names a) (pairs_of names behind) (plain_known names more a h.0) (pairs_known names more behind h.1)
-
-  clocks_same : (ps : List (ℕ × Object)) → Every Pair ps → clocks_meant new ps ≡ clocks_meant names ps
-  clocks_same ps h = λ i. cond (options_same names more option_texts ps h i) (clocks_with (clock_of (value_same names more (codes ":HYP-CLK") ps h i)) (clock_of (value_same names more (codes ":CONCL-CLK") ps h i))) None
-
-  claim_same : (form : Object) → Here form → claim_meant new w form ≡ claim_meant names w form
-  claim_same form h = ap of_term (translated_same (record { vars = []; every = true; own = [] }) form h)
-
-  hyp_same : (o : Option Object) → IfSome o Here → hyp_meant new w o ≡ hyp_meant names w o
-  hyp_same None h = refl
-  hyp_same (Some form) h = claim_same form h
-
-  bound_same : (form : Object) (h c : Exp) → Here form → bound_meant new form h c ≡ bound_meant names form h c
-  bound_same form h c k = ap (λ o. found_or code.BadBindings o (λ b. holds_or code.BadBindings (binds b h c) (Ok b))) (bindings_same names more form k)
-
-  claimed_same : (now : Mode) (memoized : List ℕ) (p : TheoremParts) (clocks : ℕ × ℕ) → TheoremKnown p → theorem_claimed new w now memoized p clocks ≡ theorem_claimed names w now memoized p clocks
-  claimed_same now memoized p clocks h =
-      (λ i. and_then (hyp_same p.hyp h.hyp i) (λ a. and_then (claim_same p.concl h.concl i) (λ c. and_then (bound_same p.bindings a c h.bindings i) (λ b. Ok (Theorem (theorem_made now memoized p clocks a c b))))))
-
-  theorem_same : (now : Mode) (memoized : List ℕ) (xs : List Object) → Every Here xs → theorem_meant new w now memoized xs ≡ theorem_meant names w now memoized xs
-  theorem_same now memoized xs h =
-      ap (λ o. found_or code.BadEvent o (λ p. found_or code.BadOption (clocks_meant new p.options) (λ clocks. holds_or code.Redefined (not (is_taken new w p.name)) (theorem_claimed new w now memoized p clocks)))) (theorem_parts_same xs h)
-      ∙ found_same TheoremKnown code.BadEvent (theorem_parts names xs) _ _ (theorem_parts_known xs h) (λ p k.
-      λ i. found_or code.BadOption (clocks_same p.options k.options i) (λ clocks. holds_or code.Redefined (not (taken_at p.name k.name i)) (claimed_same now memoized p clocks k i)))
-
   -- ---- the others
   string_same : (text : List ℕ) (x : Object) → Here x → is_string new text x ≡ is_string names text x
   string_same text (Int z) h = refl
@@ -374,7 +292,7 @@ module _ (names more : List (List ℕ)) (n : ℕ) (unnamed : number_of [] names 
   memo_same event xs h = ap (λ o. and_then (found_or code.BadEvent o (λ x. found_or (code.Term term_fault.UnknownFunction) (function_named w x) (λ f. Ok f))) (λ f. Ok (event f))) (quoted_same xs h)
 
   closed_same : (form : Object) → Here form → closed_meant new w form ≡ closed_meant names w form
-  closed_same form h = ap of_term (translated_same (record { vars = []; every = false; own = [] }) form h)
+  closed_same form h = ap of_term (translated_same names more n unnamed w (record { vars = []; every = false; own = [] }) form h)
 
   evaluation_same : (event : Exp → EventSeen) (xs : List Object) → Every Here xs → evaluation_meant new w event xs ≡ evaluation_meant names w event xs
   evaluation_same event xs h = found_same Here code.BadEvent (one_of xs) _ _ (one_has Here xs h) (λ form k. ap (λ o. and_then o (λ t. Ok (event t))) (closed_same form k))
@@ -410,7 +328,9 @@ module _ (names more : List (List ℕ)) (n : ℕ) (unnamed : number_of [] names 
   checked_same now memoized word.Unmemoize xs h = memo_same Unmemoize xs h
   checked_same now memoized word.BddMode xs h = refl
   checked_same now memoized word.SatMode xs h = refl
-  checked_same now memoized word.Theorem xs h = theorem_same now memoized xs h
+  checked_same now memoized word.ParamMode xs h = refl
+  checked_same now memoized word.ParamTheorem xs h = param_same names more n unnamed w now memoized xs h
+  checked_same now memoized word.Theorem xs h = theorem_same names more n unnamed w now memoized xs h
 
   -- ---- redundant events, and the whole
   repeated_same : (x : Object) → Here x → repeated_member new w x ≡ repeated_member names w x
@@ -435,7 +355,9 @@ module _ (names more : List (List ℕ)) (n : ℕ) (unnamed : number_of [] names 
   redundant_same word.Unmemoize form o h = refl
   redundant_same word.BddMode form o h = refl
   redundant_same word.SatMode form o h = refl
+  redundant_same word.ParamMode form o h = refl
   redundant_same word.Theorem form o h = refl
+  redundant_same word.ParamTheorem form o h = refl
 
   behind_same : (now : Mode) (memoized : List ℕ) (k : EventWord) (form : Object) (o : Option (List Object)) → IfSome o (Every Here) → meant_behind new w now memoized k form o ≡ meant_behind names w now memoized k form o
   behind_same now memoized k form o h = λ i. unless_redundant (redundant_same k form o h i) (found_same (Every Here) code.BadEvent o (checked new w now memoized k) (checked names w now memoized k) h (checked_same now memoized k) i)

@@ -11,10 +11,15 @@ pub mod Different
 pub mod EmptyCalls
 pub mod Forms
 pub mod Inversions
+pub mod Fronts
 pub mod LaterTexts
 pub mod LaterShapes
+pub mod LaterTheorems
+pub mod LaterCases
 pub mod LaterEvents
 pub mod MemberLists
 pub mod Suited
 pub mod SuitedCliques
+pub mod SuitedCases
+pub mod KeptNames
 pub mod SuitedEvents

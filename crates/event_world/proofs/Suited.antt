@@ -36,6 +36,7 @@ use Rattle.event_world.specs.PartsOf.{one_of, two_of}
 use Rattle.event_world.specs.DefunMeant.{defun_parts, formals_meant, checked_formals, are_formals, body_meant, admitted, definition_made, defun_meant}
 use Rattle.event_world.specs.Declares.{stated_measure}
 use Rattle.event_world.specs.NamesMeant.{plain_name}
+use Rattle.event_world.specs.KeywordTexts.{option_texts}
 use Rattle.event_world.specs.TheoremMeant.{theorem_parts, clocks_meant, claim_meant, hyp_meant, has_only, have_only, binds, bound_meant, theorem_made, theorem_meant}
 use Rattle.event_world.specs.Suits.{IsClosedTerm, IsNewName, Suits}
 use Rattle.event_world.proofs.Inversions.{same_given, no_code, none_some, or_true, then_ok, found_ok, holds_ok, term_ok, true_not_false, and_true, not_turns, unless_true, not_some, none_of, some_same, map_some, if_some, different_names}
@@ -175,10 +176,10 @@ mutual
       and_true (has_only bound t) (have_only bound ts) h (λ ht hts.
       or_true (is_free_in t v) (is_free_in_some ts v) f (only_free t bound v ht) (only_free_in ts bound v hts))
 
-claim_term : (names : List (List ℕ)) (w : WorldSeen) (form : Object) (t : Exp) → claim_meant names w form ≡ Ok t → IsTermOf w.definitions t
+pub claim_term : (names : List (List ℕ)) (w : WorldSeen) (form : Object) (t : Exp) → claim_meant names w form ≡ Ok t → IsTermOf w.definitions t
 claim_term names w form t e = term_of_world names w true form t (term_ok (translation names w (scope_with true) form) t e)
 
-hyp_term : (names : List (List ℕ)) (w : WorldSeen) (o : Option Object) (t : Exp) → hyp_meant names w o ≡ Ok t → IsTermOf w.definitions t
+pub hyp_term : (names : List (List ℕ)) (w : WorldSeen) (o : Option Object) (t : Exp) → hyp_meant names w o ≡ Ok t → IsTermOf w.definitions t
 hyp_term names w None t e = subst (IsTermOf w.definitions) (same_given (Const true_object) t e) tt
 hyp_term names w (Some form) t e = claim_term names w form t e
 
@@ -192,7 +193,7 @@ bound_ok names form h c b e g =
 pub theorem_suits : (names : List (List ℕ)) (w : WorldSeen) (now : Mode) (memoized : List ℕ) (parts : List Object) (e : EventSeen) → theorem_meant names w now memoized parts ≡ Ok e → Suits w e
 theorem_suits names w now memoized parts e h =
     found_ok code.BadEvent (theorem_parts names parts) _ e h (λ p hp h1.
-    found_ok code.BadOption (clocks_meant names p.options) _ e h1 (λ clocks hk h2.
+    found_ok code.BadOption (clocks_meant names option_texts p.options) _ e h1 (λ clocks hk h2.
     holds_ok code.Redefined (not (is_taken names w p.name)) _ e h2 (λ new h3.
     then_ok (hyp_meant names w p.hyp) _ e h3 (λ a ha h4.
     then_ok (claim_meant names w p.concl) _ e h4 (λ c hc h5.

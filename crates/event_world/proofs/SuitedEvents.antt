@@ -22,6 +22,7 @@ use Rattle.event_world.specs.Suits.{Suits}
 use Rattle.event_world.proofs.Inversions.{given, same_given, found_ok, holds_ok, none_some, map_some, if_some}
 use Rattle.event_world.proofs.Suited.{evaluation_suits, defconst_suits, memo_suits, defun_suits, theorem_suits}
 use Rattle.event_world.proofs.SuitedCliques.{clique_suits}
+use Rattle.event_world.proofs.SuitedCases.{param_suits}
 
 -- ---- events that ask nothing of the world
 nothing_suits : (w : WorldSeen) (t : Bool) (event e : EventSeen) → Suits w event → holds_or code.BadEvent t (Ok event) ≡ Ok e → Suits w e
@@ -39,7 +40,9 @@ checked_suits names w now memoized word.Memoize xs e h = memo_suits names w Memo
 checked_suits names w now memoized word.Unmemoize xs e h = memo_suits names w Unmemoize xs e (λ f k. k) h
 checked_suits names w now memoized word.BddMode xs e h = nothing_suits w (is_empty xs) (SetMode mode.Bdd) e tt h
 checked_suits names w now memoized word.SatMode xs e h = nothing_suits w (is_empty xs) (SetMode mode.Sat) e tt h
+checked_suits names w now memoized word.ParamMode xs e h = nothing_suits w (is_empty xs) (SetMode mode.Param) e tt h
 checked_suits names w now memoized word.Theorem xs e h = theorem_suits names w now memoized xs e h
+checked_suits names w now memoized word.ParamTheorem xs e h = param_suits names w now memoized xs e h
 
 -- ---- redundant events
 repeated_suits : (w : WorldSeen) (form : Object) (e : EventSeen) → redundant w form ≡ Some e → Suits w e
@@ -61,7 +64,9 @@ redundant_suits names w word.Memoize form o e h = none_some e h
 redundant_suits names w word.Unmemoize form o e h = none_some e h
 redundant_suits names w word.BddMode form o e h = none_some e h
 redundant_suits names w word.SatMode form o e h = none_some e h
+redundant_suits names w word.ParamMode form o e h = none_some e h
 redundant_suits names w word.Theorem form o e h = repeated_suits w form e h
+redundant_suits names w word.ParamTheorem form o e h = repeated_suits w form e h
 
 unless_suits : (w : WorldSeen) (o : Option EventSeen) (further : Outcome EventSeen) (e : EventSeen) → ((r : EventSeen) → o ≡ Some r → Suits w r) → (further ≡ Ok e → Suits w e) → unless_redundant o further ≡ Ok e → Suits w e
 unless_suits w (Some r) further e f g h = subst (Suits w) (same_given r e h) (f r refl)

@@ -4,13 +4,13 @@
 --   1. V1: the form is a list whose head is the word of an event
 --   2. a named event whose form equals the accepted one of its name is redundant, and accepted
 --   3. V2: the parts of the event, and a name that it may have
---   4. V11: options, keywords and `declare` forms
+--   4. V11: options, keywords and `declare` forms; then V13: the cases of a theorem by cases
 --   5. V3: the name is not taken
 --   6. V7: formals
 --   7. V4, V5, V6, V7, V12: the terms
 --   8. V10: bindings
 --   9. V8: recursive calls. (V9, a constant without a value, is not told by the form)
--- Checks 3 to 9 stand with each event: package_meant, book_meant, mode_meant, memo_meant, evaluation_meant and defconst_meant in PlainMeant, defun_meant, clique_meant, theorem_meant.
+-- Checks 3 to 9 stand with each event: package_meant, book_meant, mode_meant, memo_meant, evaluation_meant and defconst_meant in PlainMeant, defun_meant, clique_meant, theorem_meant, param_meant.
 use Rattle.std.specs.Prelude.{ℕ, List, Option, Some, None, Ok}
 use Rattle.gl_logic.specs.Object.{Object}
 use Rattle.gl_logic.specs.WorldSeen.{WorldSeen}
@@ -28,6 +28,7 @@ use Rattle.event_world.specs.PlainMeant.{package_meant, book_meant, mode_meant, 
 use Rattle.event_world.specs.DefunMeant.{defun_meant}
 use Rattle.event_world.specs.CliqueMeant.{clique_meant}
 use Rattle.event_world.specs.TheoremMeant.{theorem_meant}
+use Rattle.event_world.specs.CasesMeant.{param_meant}
 
 -- checks 3 to 9 of a proper list, by what stands behind the word
 abbrev pub checked : List (List ℕ) → WorldSeen → Mode → List ℕ → EventWord → List Object → Outcome EventSeen
@@ -42,7 +43,9 @@ checked names w now memoized word.Memoize parts = memo_meant names w Memoize par
 checked names w now memoized word.Unmemoize parts = memo_meant names w Unmemoize parts
 checked names w now memoized word.BddMode parts = mode_meant mode.Bdd parts
 checked names w now memoized word.SatMode parts = mode_meant mode.Sat parts
+checked names w now memoized word.ParamMode parts = mode_meant mode.Param parts
 checked names w now memoized word.Theorem parts = theorem_meant names w now memoized parts
+checked names w now memoized word.ParamTheorem parts = param_meant names w now memoized parts
 
 -- a redundant event is accepted before all further checks
 abbrev pub unless_redundant : Option EventSeen → Outcome EventSeen → Outcome EventSeen

@@ -2,19 +2,9 @@
 use Rattle.std.specs.Prelude.{ℕ, List}
 use Rattle.gl_logic.specs.Exp.{Exp}
 use Rattle.gl_logic.specs.Definition.{Definition}
-use Rattle.shape_spec.specs.ShapeSeen.{ShapeSeen}
 use Rattle.shape_spec.specs.declared.theorem.Mode.{Mode}
-
--- a theorem: its name, its terms, the shapes of its variables, its clocks, and the mode and the functions whose calls are kept at its place
-pub record TheoremSeen : Type 0 where
-  pub name : ℕ
-  pub hyp : Exp
-  pub concl : Exp
-  pub bindings : List (ℕ × ShapeSeen)
-  pub hyp_clk : ℕ
-  pub concl_clk : ℕ
-  pub mode : Mode
-  pub memoized : List ℕ
+use Rattle.gl_cases.specs.Parts.{ParamSeen}
+pub use Rattle.gl_cases.specs.TheoremSeen.{TheoremSeen}
 
 -- names, definitions and functions by their numbers
 pub data EventSeen : Type 0 where
@@ -28,5 +18,6 @@ pub data EventSeen : Type 0 where
   Unmemoize : ℕ → EventSeen
   SetMode : Mode → EventSeen
   Theorem : TheoremSeen → EventSeen
+  Cases : ParamSeen → EventSeen
   Clique : List Definition → EventSeen
   RedundantClique : List ℕ → EventSeen

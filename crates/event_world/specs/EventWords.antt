@@ -19,7 +19,9 @@ event_word text =
     else if bytes_eq text (codes "UNMEMOIZE") then Some word.Unmemoize
     else if bytes_eq text (codes "GL-BDD-MODE") then Some word.BddMode
     else if bytes_eq text (codes "GL-SATLINK-MODE") then Some word.SatMode
+    else if bytes_eq text (codes "GL-PARAM-MODE") then Some word.ParamMode
     else if bytes_eq text (codes "DEF-GL-THM") then Some word.Theorem
+    else if bytes_eq text (codes "DEF-GL-PARAM-THM") then Some word.ParamTheorem
     else None
 
 -- the event of a list whose head is a symbol of the table

@@ -14,6 +14,11 @@ ignored_texts = codes ":RULE-CLASSES" ∷ codes ":COV-HINTS" ∷ codes ":COV-THE
 abbrev pub option_texts : List (List ℕ)
 option_texts = codes ":HYP" ∷ codes ":CONCL" ∷ codes ":G-BINDINGS" ∷ codes ":HYP-CLK" ∷ codes ":CONCL-CLK" ∷ ignored_texts
 
+-- of `def-gl-param-thm`
+abbrev pub case_texts : List (List ℕ)
+case_texts = codes ":HYP" ∷ codes ":CONCL" ∷ codes ":PARAM-HYP" ∷ codes ":PARAM-BINDINGS" ∷ codes ":COV-BINDINGS" ∷ codes ":HYP-CLK" ∷ codes ":CONCL-CLK" ∷ []
+
 abbrev pub texts_of : KeywordTable → List (List ℕ)
 texts_of table.Xargs = xargs_texts
 texts_of table.Theorem = option_texts
+texts_of table.ParamTheorem = case_texts

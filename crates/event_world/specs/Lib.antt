@@ -23,3 +23,4 @@ pub mod FormsSeen
 pub mod CallsOf
 pub mod NextState
 pub mod Suits
+pub mod CasesMeant

@@ -5,7 +5,7 @@ use Rattle.gl_logic.specs.Object.{Object, Cons}
 use Rattle.gl_logic.specs.Definition.{Definition}
 use Rattle.gl_logic.specs.WorldSeen.{WorldSeen, with_definition, with_clique, with_constant, with_event}
 use Rattle.shape_spec.specs.declared.theorem.Mode.{Mode}
-use Rattle.event_world.specs.EventSeen.{EventSeen, Defun, Defconst, Memoize, Unmemoize, SetMode, Theorem, Clique}
+use Rattle.event_world.specs.EventSeen.{EventSeen, Defun, Defconst, Memoize, Unmemoize, SetMode, Theorem, Cases, Clique}
 use Rattle.event_world.specs.EventWords.{behind_head}
 
 -- what the events so far have made
@@ -32,6 +32,7 @@ next_world w form (Defun d) value = with_event (with_definition w d) d.name form
 next_world w form (Clique ds) value = with_members (with_clique w ds) ds (behind_head form)
 next_world w form (Defconst name t) value = with_event (with_constant w name value) name form
 next_world w form (Theorem thm) value = with_event w thm.name form
+next_world w form (Cases thm) value = with_event w thm.cover.name form
 next_world w form _ value = w
 
 abbrev pub next_mode : Mode → EventSeen → Mode

@@ -56,5 +56,6 @@ abbrev pub redundant_meant : List (List ℕ) → WorldSeen → EventWord → Obj
 redundant_meant names w word.Defun form parts = redundant w form
 redundant_meant names w word.Defconst form parts = redundant w form
 redundant_meant names w word.Theorem form parts = redundant w form
+redundant_meant names w word.ParamTheorem form parts = redundant w form
 redundant_meant names w word.MutualRecursion form parts = redundant_clique names w parts
 redundant_meant names w _ form parts = None

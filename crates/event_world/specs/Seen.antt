@@ -1,22 +1,11 @@
 -- The event that a value of the program stands for.
 use Rattle.gl_logic.specs.TermOf.{term_of}
 use Rattle.gl_logic.specs.DefinitionOf.{definition_of}
-use Rattle.shape_spec.specs.declared.theorem.Thm.{Thm}
+pub use Rattle.gl_cases.specs.TheoremSeen.{theorem_seen}
+use Rattle.gl_cases.specs.ParamMade.{param_seen}
 use Rattle.event_world.specs.declared.event.Event.{Event}
 use Rattle.event_world.specs.declared.event.Event.TheVariants as event
-use Rattle.event_world.specs.EventSeen.{TheoremSeen, EventSeen, Nothing, Redundant, Defun, Defconst, Value, Assert, Memoize, Unmemoize, SetMode, Theorem, Clique, RedundantClique}
-
-abbrev pub theorem_seen : Thm → TheoremSeen
-theorem_seen thm = record {
-  name = thm.name.number;
-  hyp = term_of thm.hyp;
-  concl = term_of thm.concl;
-  bindings = thm.bindings;
-  hyp_clk = thm.hyp_clk;
-  concl_clk = thm.concl_clk;
-  mode = thm.mode;
-  memoized = thm.memoized;
-}
+use Rattle.event_world.specs.EventSeen.{EventSeen, Nothing, Redundant, Defun, Defconst, Value, Assert, Memoize, Unmemoize, SetMode, Theorem, Cases, Clique, RedundantClique}
 
 abbrev pub event_seen : Event → EventSeen
 event_seen event.Nothing = Nothing
@@ -29,5 +18,6 @@ event_seen (event.Memoize f) = Memoize f.number
 event_seen (event.Unmemoize f) = Unmemoize f.number
 event_seen (event.Mode m) = SetMode m
 event_seen (event.Theorem thm) = Theorem (theorem_seen thm)
+event_seen (event.Cases thm) = Cases (param_seen thm)
 event_seen (event.Clique ds) = Clique ds
 event_seen (event.RedundantClique names) = RedundantClique names

@@ -11,7 +11,8 @@ use Rattle.gl_logic.specs.FreeVariables.{is_free_in}
 use Rattle.gl_logic.specs.Named.{IsFree, AreDifferentNames, names_of}
 use Rattle.gl_logic.specs.WorldSeen.{WorldSeen, IsClique, definition_names}
 use Rattle.shape_spec.specs.Indices.{variables_of}
-use Rattle.event_world.specs.EventSeen.{TheoremSeen, EventSeen, Defun, Defconst, Value, Assert, Memoize, Unmemoize, Theorem, Clique}
+use Rattle.event_world.specs.EventSeen.{TheoremSeen, EventSeen, Defun, Defconst, Value, Assert, Memoize, Unmemoize, Theorem, Cases, Clique}
+use Rattle.gl_cases.specs.Parts.{ParamSeen, IsByCases}
 
 -- all ground definitions are there
 abbrev pub HasAllGround : WorldSeen → Type 0
@@ -50,6 +51,13 @@ pub record IsNewTheorem (w : WorldSeen) (thm : TheoremSeen) : Type 0 where
   pub hyp_bound : (v : ℕ) → is_free_in thm.hyp v ≡ true → list_any (eqb v) (variables_of thm.bindings) ≡ true
   pub concl_bound : (v : ℕ) → is_free_in thm.concl v ≡ true → list_any (eqb v) (variables_of thm.bindings) ≡ true
 
+-- a theorem by cases that may be noted and decided
+pub record IsNewParam (w : WorldSeen) (thm : ParamSeen) : Type 0 where
+  pub cover : IsNewTheorem w thm.cover
+  pub cases : Every (IsNewTheorem w) thm.cases
+  pub parts : IsByCases thm
+  pub few : length thm.cases ≤ 64
+
 abbrev pub Suits : WorldSeen → EventSeen → Type 0
 Suits w (Defun d) = IsNewDefinition w d
 Suits w (Clique ds) = IsNewClique w ds
@@ -59,4 +67,5 @@ Suits w (Assert t) = IsClosedTerm w t
 Suits w (Memoize f) = f < length w.definitions
 Suits w (Unmemoize f) = f < length w.definitions
 Suits w (Theorem thm) = IsNewTheorem w thm
+Suits w (Cases thm) = IsNewParam w thm
 Suits w _ = Unit {0}

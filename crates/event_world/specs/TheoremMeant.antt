@@ -51,8 +51,8 @@ clocks_with (Some h) (Some c) = Some (h, c)
 clocks_with _ _ = None
 
 -- the clock of the hypothesis and that of the conclusion
-abbrev pub clocks_meant : List (List ℕ) → List (ℕ × Object) → Option (ℕ × ℕ)
-clocks_meant names options = if are_options names option_texts options then clocks_with (clock_of (value_of names (codes ":HYP-CLK") options)) (clock_of (value_of names (codes ":CONCL-CLK") options)) else None
+abbrev pub clocks_meant : List (List ℕ) → List (List ℕ) → List (ℕ × Object) → Option (ℕ × ℕ)
+clocks_meant names texts options = if are_options names texts options then clocks_with (clock_of (value_of names (codes ":HYP-CLK") options)) (clock_of (value_of names (codes ":CONCL-CLK") options)) else None
 
 -- ---- check 7: the terms, in which every legal variable is in scope. The hypothesis that is not written is T
 abbrev pub claim_meant : List (List ℕ) → WorldSeen → Object → Outcome Exp
@@ -108,6 +108,6 @@ theorem_claimed names w now memoized p clocks =
 abbrev pub theorem_meant : List (List ℕ) → WorldSeen → Mode → List ℕ → List Object → Outcome EventSeen
 theorem_meant names w now memoized parts =
     found_or code.BadEvent (theorem_parts names parts) (λ p.
-    found_or code.BadOption (clocks_meant names p.options) (λ clocks.
+    found_or code.BadOption (clocks_meant names option_texts p.options) (λ clocks.
     holds_or code.Redefined (not (is_taken names w p.name)) (
     theorem_claimed names w now memoized p clocks)))

@@ -14,7 +14,7 @@ use shape_spec::Bindings;
 use std::alloc::Global;
 
 /// Puts names into a set, behind those that are there.
-fn bind(bound: &mut NameSet, names: &Names) -> Result<(), NoMemory>
+pub(crate) fn bind(bound: &mut NameSet, names: &Names) -> Result<(), NoMemory>
     ensures same { OnOk result (take (length bound.old) bound.new ≡ bound.old) }
     ensures bound { OnOk result ((v : ℕ) → list_any (eqb v) bound.new ≡ (list_any (eqb v) names.now || list_any (eqb v) bound.old)) }
 {

@@ -1,5 +1,6 @@
 //! Events.
 
+use gl_cases::ParamThm;
 use gl_logic::{Def, Defs, FnId, Names, Term, TextId};
 use shape_spec::{Mode, Thm};
 
@@ -26,6 +27,8 @@ pub enum Event {
     Mode(Mode),
     /// A theorem to decide.
     Theorem(Thm),
+    /// A theorem to prove by cases.
+    Cases(ParamThm),
     /// Definitions that may call one another, admitted together.
     Clique(Defs),
     /// The names of a clique whose members' forms equal the accepted ones, in order.

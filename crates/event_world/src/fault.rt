@@ -25,6 +25,8 @@ pub enum EventFault {
     /// V11: an option, a keyword or a `declare` that there is not, one given twice, a clock out of range,
     /// or a measure of another form.
     BadOption,
+    /// V13: the cases are refused, or a parameter stands where it may not.
+    BadCases,
     /// Memory was refused, or a term would have more than 16,777,216 subterms.
     Memory,
 }

@@ -7,4 +7,6 @@ pub enum KeywordTable {
     Xargs,
     /// The options of `def-gl-thm`.
     Theorem,
+    /// The options of `def-gl-param-thm`.
+    ParamTheorem,
 }

@@ -119,6 +119,7 @@ fn is_of(table: KeywordTable, text: &[u8]) -> bool
     match table {
         KeywordTable::Xargs => is_of_xargs(text),
         KeywordTable::Theorem => is_of_theorem(text),
+        KeywordTable::ParamTheorem => is_of_cases(text),
     }
 }
 
@@ -139,6 +140,17 @@ fn is_of_theorem(text: &[u8]) -> bool
         || (same(text, b":CONCL")
             || (same(text, b":G-BINDINGS")
                 || (same(text, b":HYP-CLK") || (same(text, b":CONCL-CLK") || is_ignored(text)))))
+}
+
+fn is_of_cases(text: &[u8]) -> bool
+    ensures { result ≡ is_one_of (texts_of KeywordTable.ParamTheorem) text.now }
+{
+    same(text, b":HYP")
+        || (same(text, b":CONCL")
+            || (same(text, b":PARAM-HYP")
+                || (same(text, b":PARAM-BINDINGS")
+                    || (same(text, b":COV-BINDINGS")
+                        || (same(text, b":HYP-CLK") || (same(text, b":CONCL-CLK") || false))))))
 }
 
 /// The options of `def-gl-thm` that are read and ignored.

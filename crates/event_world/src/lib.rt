@@ -7,6 +7,8 @@
 
 mod bound;
 mod calls;
+mod cases;
+mod cases_form;
 mod clique;
 mod clique_form;
 mod declares;
@@ -23,6 +25,7 @@ mod measure;
 mod name_set;
 mod names;
 mod one_event;
+mod parameters;
 mod parts;
 mod plain;
 mod redundant;

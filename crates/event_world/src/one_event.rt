@@ -12,6 +12,7 @@ ghost use Rattle.event_world.specs.EventWords.{behind_head};
 ghost use Rattle.event_world.specs.EventMeant.{checked as checked_meant, meant_behind, event_meant};
 ghost use Rattle.event_world.specs.Suits.{Suits};
 
+use super::cases::by_cases;
 use super::clique::clique;
 use super::defun::defun;
 use super::event::Event;
@@ -114,6 +115,8 @@ fn checked(
         EventWord::Unmemoize => unmemoize(texts, world, parts),
         EventWord::BddMode => mode_event(Mode::Bdd, parts),
         EventWord::SatMode => mode_event(Mode::Sat, parts),
+        EventWord::ParamMode => mode_event(Mode::Param, parts),
         EventWord::Theorem => theorem(alloc, texts, world, mode, memoized, parts),
+        EventWord::ParamTheorem => by_cases(alloc, texts, world, mode, memoized, parts),
     }
 }

@@ -156,6 +156,7 @@ pub(crate) fn redundant_event(
         EventWord::Defun => Ok(repeated(world, form)),
         EventWord::Defconst => Ok(repeated(world, form)),
         EventWord::Theorem => Ok(repeated(world, form)),
+        EventWord::ParamTheorem => Ok(repeated(world, form)),
         EventWord::MutualRecursion => match parts {
             Some(members) => repeated_clique(alloc, texts, world, members),
             None => Ok(None),

@@ -1,6 +1,6 @@
 //! Theorems.
 
-ghost use Rattle.std.specs.Prelude.{◌≡◌, [], IfOk};
+ghost use Rattle.std.specs.Prelude.{◌≡◌, []};
 ghost use Rattle.std.specs.Option.{option_copied};
 ghost use Rattle.gl_logic.specs.Names.{with_name};
 ghost use Rattle.gl_logic.specs.TermOf.{term_of};
@@ -12,27 +12,18 @@ ghost use Rattle.event_world.specs.TheoremMeant.{hyp_meant, bound_meant, theorem
 use super::bound::binds;
 use super::event::Event;
 use super::fault::EventFault;
+use super::keyword_table::KeywordTable;
 use super::names::is_taken;
 use super::parts::Parts;
 use super::theorem_form::{TheoremForm, clocks, theorem_form};
 use super::translated::claim_term;
-use gl_logic::{NoMemory, Term, TextId, Texts, Tree, World};
+use gl_cases::copied_functions;
+use gl_logic::{Term, TextId, Texts, Tree, World};
 use shape_spec::{BindFault, Bindings, FnSet, Mode, Thm, bindings};
 use std::alloc::Global;
 
-/// An equal set of its own.
-fn copy_of(alloc: Global, functions: &FnSet) -> Result<FnSet, NoMemory>
-    ensures { IfOk result (λ fs. fs ≡ functions.now) }
-{
-    let mut all = FnSet::new(alloc);
-    for i in 0..functions.len() {
-        all.push(*functions.at(i))?;
-    }
-    Ok(all)
-}
-
 /// The term of a hypothesis, which is T where none is written.
-fn hypothesis(
+pub(crate) fn hypothesis(
     alloc: Global,
     texts: &mut Texts,
     world: &World,
@@ -84,7 +75,7 @@ fn claimed(
     ensures meant { Gives event_seen (theorem_claimed texts.old world.now mode memoized.now (theorem_form_seen form.now) (clocks.0, clocks.1)) result }
     ensures texts { texts.new ≡ texts.old }
 {
-    let memoized = copy_of(alloc, memoized)?;
+    let memoized = copied_functions(alloc, memoized)?;
     let hyp = hypothesis(alloc, texts, world, form.hyp)?;
     let concl = match claim_term(alloc, form.concl, world, texts) {
         Ok(concl) => concl,
@@ -128,7 +119,7 @@ pub(crate) fn theorem(
     let Some(form) = theorem_form(alloc, texts, parts)? else {
         return Err(EventFault::BadEvent);
     };
-    let Some(clocks) = clocks(alloc, texts, &form.options)? else {
+    let Some(clocks) = clocks(alloc, texts, KeywordTable::Theorem, &form.options)? else {
         return Err(EventFault::BadOption);
     };
     if is_taken(texts, world, form.name) {

@@ -3,6 +3,7 @@
 ghost use Rattle.std.specs.Prelude.{◌≡◌, IfOk};
 ghost use Rattle.std.specs.Option.{option_map, option_copied};
 ghost use Rattle.event_world.specs.TheoremMeant.{required_in, theorem_parts, clock_of, clocks_meant};
+ghost use Rattle.event_world.specs.KeywordTexts.{texts_of};
 ghost use Rattle.event_world.specs.FormsSeen.{theorem_form_seen};
 
 use super::keyword_table::KeywordTable;
@@ -86,11 +87,12 @@ fn clock(value: Option<&Tree>) -> Option<u32>
 pub(crate) fn clocks(
     alloc: Global,
     texts: &Texts,
+    table: KeywordTable,
     options: &Keywords<'_>,
 ) -> Result<Option<(u32, u32)>, NoMemory>
-    ensures { IfOk result (λ o. option_map (λ p. (p.0, p.1)) o ≡ clocks_meant texts.now options.now) }
+    ensures { IfOk result (λ o. option_map (λ p. (p.0, p.1)) o ≡ clocks_meant texts.now (texts_of table) options.now) }
 {
-    if !options.are_of(alloc, texts, KeywordTable::Theorem)? {
+    if !options.are_of(alloc, texts, table)? {
         return Ok(None);
     }
     let Some(hyp) = clock(options.value(texts, b":HYP-CLK")) else {

@@ -31,8 +31,11 @@ pub enum EventWord {
     BddMode,
     /// `gl-satlink-mode`
     SatMode,
+    ParamMode,
     /// `def-gl-thm`
     Theorem,
+    /// `def-gl-param-thm`
+    ParamTheorem,
 }
 
 #[tactic(auto, unfolding(crate::specs::EventWords::event_word))]
@@ -61,8 +64,12 @@ fn event_word(text: &[u8]) -> Option<EventWord>
         Some(EventWord::BddMode)
     } else if same(text, b"GL-SATLINK-MODE") {
         Some(EventWord::SatMode)
+    } else if same(text, b"GL-PARAM-MODE") {
+        Some(EventWord::ParamMode)
     } else if same(text, b"DEF-GL-THM") {
         Some(EventWord::Theorem)
+    } else if same(text, b"DEF-GL-PARAM-THM") {
+        Some(EventWord::ParamTheorem)
     } else {
         None
     }

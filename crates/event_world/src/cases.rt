@@ -1,0 +1,171 @@
+//! Theorems by cases.
+
+ghost use Rattle.std.specs.Prelude.{◌≡◌, [], ◌∷◌, map, IfOk};
+ghost use Rattle.std.specs.Option.{option_map};
+ghost use Rattle.gl_logic.specs.Object.{Cons, nil};
+ghost use Rattle.gl_logic.specs.Names.{with_name};
+ghost use Rattle.shape_spec.specs.Wording.{all_meant};
+ghost use Rattle.shape_spec.specs.BindingsMeant.{bindings_meant};
+ghost use Rattle.gl_cases.specs.TheoremSeen.{theorem_seen};
+ghost use Rattle.gl_cases.specs.Parts.{case_seen};
+ghost use Rattle.gl_cases.specs.ParamMade.{param_seen};
+ghost use Rattle.event_world.specs.Outcomes.{Gives};
+ghost use Rattle.event_world.specs.Seen.{event_seen};
+ghost use Rattle.event_world.specs.FormsSeen.{cases_form_seen, case_form_seen, quoted_form_seen};
+ghost use Rattle.event_world.specs.CasesMeant.{case_bound as bound_case, binds_its_own as own_bound, are_bound as bound_are, cases_claimed, param_meant};
+
+use super::bound::binds;
+use super::cases_form::{CaseForm, CasesForm, QuotedForm, cases_form, quoted_cases};
+use super::event::Event;
+use super::fault::EventFault;
+use super::keyword_table::KeywordTable;
+use super::names::is_taken;
+use super::parts::Parts;
+use super::theorem::hypothesis;
+use super::theorem_form::clocks;
+use super::translated::claim_term;
+use gl_cases::{Case, CaseList, ParamThm, copied_functions, param_of};
+use gl_logic::{NoMemory, Texts, Tree, World};
+use shape_spec::{BindFault, Bindings, FnSet, Mode, Thm, bindings};
+use std::alloc::Global;
+
+/// The bindings of a form, where it means any.
+fn bindings_in(alloc: Global, texts: &Texts, form: &Tree) -> Result<Option<Bindings>, NoMemory>
+    ensures { IfOk result (λ o. o ≡ bindings_meant texts.now form.now) }
+{
+    match bindings(alloc, form, texts) {
+        Ok(bound) => Ok(Some(bound)),
+        Err(BindFault::Bad) => Ok(None),
+        Err(BindFault::Memory) => Err(NoMemory),
+    }
+}
+
+/// `(mark b)`: the bindings of a case, as `:g-bindings` has them.
+fn marked(alloc: Global, mark: &Tree, bindings: &Tree) -> Result<Tree, NoMemory>
+    ensures { IfOk result (λ t. t ≡ Cons mark.now (Cons bindings.now nil)) }
+{
+    let rest = Tree::pair(alloc, bindings.copy(alloc)?, Tree::nil())?;
+    Tree::pair(alloc, mark.copy(alloc)?, rest)
+}
+
+/// A case with its bindings.
+fn case_bound(
+    alloc: Global,
+    texts: &Texts,
+    mark: &Tree,
+    case: CaseForm<'_>,
+) -> Result<Option<Case>, NoMemory>
+    ensures { IfOk result (λ o. option_map case_seen o ≡ bound_case texts.now mark.now (case_form_seen case.entry)) }
+{
+    let form = marked(alloc, mark, case.bindings)?;
+    match bindings_in(alloc, texts, &form)? {
+        Some(bindings) => Ok(Some(Case {
+            constants: case.constants,
+            bindings,
+        })),
+        None => Ok(None),
+    }
+}
+
+/// The cases with their bindings.
+fn all_bound(
+    alloc: Global,
+    texts: &Texts,
+    mark: &Tree,
+    cases: Vec<CaseForm<'_>>,
+) -> Result<Option<CaseList>, NoMemory>
+    ensures { IfOk result (λ o. o ≡ all_meant (bound_case texts.now mark.now) (map case_form_seen cases.entry.items)) }
+{
+    let mut all = CaseList::new(alloc);
+    for case in cases {
+        let Some(bound) = case_bound(alloc, texts, mark, case)? else {
+            return Ok(None);
+        };
+        all.push(bound)?;
+    }
+    Ok(Some(all))
+}
+
+/// Whether the bindings of a theorem bind its variables.
+fn binds_its_own(alloc: Global, thm: &Thm) -> Result<bool, NoMemory>
+    ensures { IfOk result (λ b. b ≡ own_bound (theorem_seen thm.now)) }
+{
+    binds(alloc, &thm.bindings, &thm.hyp, &thm.concl)
+}
+
+/// Whether each part binds its variables.
+fn are_bound(alloc: Global, thm: &ParamThm) -> Result<bool, NoMemory>
+    ensures { IfOk result (λ b. b ≡ bound_are (param_seen thm.now)) }
+{
+    if !binds_its_own(alloc, &thm.cover)? {
+        return Ok(false);
+    }
+    for i in 0..thm.cases.len() {
+        if !binds_its_own(alloc, thm.cases.at(i))? {
+            return Ok(false);
+        }
+    }
+    Ok(true)
+}
+
+/// A theorem by cases that has passed the checks of its options, its cases and its name, with the settings that a
+/// command has where it says nothing.
+fn claimed(
+    alloc: Global,
+    texts: &mut Texts,
+    world: &World,
+    form: &CasesForm<'_>,
+    quoted: QuotedForm<'_>,
+) -> Result<ParamThm, EventFault>
+    requires { with_name texts.old [] ≡ texts.old }
+    ensures meant { Gives param_seen (cases_claimed texts.old world.now (cases_form_seen form.now) (quoted_form_seen quoted.entry)) result }
+    ensures texts { texts.new ≡ texts.old }
+{
+    let hyp = hypothesis(alloc, texts, world, form.hyp)?;
+    let concl = claim_term(alloc, form.concl, world, texts)?;
+    let term = claim_term(alloc, form.term, world, texts)?;
+    let Some(cover) = bindings_in(alloc, texts, form.cover)? else {
+        return Err(EventFault::BadBindings);
+    };
+    let Some(cases) = all_bound(alloc, texts, quoted.mark, quoted.cases)? else {
+        return Err(EventFault::BadBindings);
+    };
+    let thm = param_of(alloc, form.name, hyp, concl, term, cases, cover)?;
+    if are_bound(alloc, &thm)? {
+        Ok(thm)
+    } else {
+        Err(EventFault::BadBindings)
+    }
+}
+
+/// `(def-gl-param-thm n :hyp h :concl c :param-hyp p :param-bindings q :cov-bindings b ..)`, by what stands behind
+/// `def-gl-param-thm`.
+pub(crate) fn by_cases(
+    alloc: Global,
+    texts: &mut Texts,
+    world: &World,
+    mode: Mode,
+    memoized: &FnSet,
+    parts: &Parts<'_>,
+) -> Result<Event, EventFault>
+    requires { with_name texts.old [] ≡ texts.old }
+    ensures meant { Gives event_seen (param_meant texts.old world.now mode memoized.now parts.now) result }
+    ensures texts { texts.new ≡ texts.old }
+{
+    let Some(form) = cases_form(alloc, texts, parts)? else {
+        return Err(EventFault::BadEvent);
+    };
+    let Some(clocks) = clocks(alloc, texts, KeywordTable::ParamTheorem, &form.options)? else {
+        return Err(EventFault::BadOption);
+    };
+    let Some(quoted) = quoted_cases(alloc, texts, &form)? else {
+        return Err(EventFault::BadCases);
+    };
+    if is_taken(texts, world, form.name) {
+        return Err(EventFault::Redefined);
+    }
+    let memoized = copied_functions(alloc, memoized)?;
+    let mut thm = claimed(alloc, texts, world, &form, quoted)?;
+    thm.set(alloc, clocks.0, clocks.1, mode, memoized)?;
+    Ok(Event::Cases(thm))
+}
