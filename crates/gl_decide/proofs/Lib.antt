@@ -10,3 +10,4 @@ pub mod Symbolic
 pub mod Left
 pub mod Tried
 pub mod Begun
+pub mod Certified

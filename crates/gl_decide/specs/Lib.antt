@@ -12,3 +12,4 @@ pub mod Placed
 pub mod Trials
 pub mod Pieces
 pub mod Answered
+pub mod Certificates

@@ -1,5 +1,5 @@
 -- What the stores of a decision hold at its end.
-use Rattle.std.specs.Prelude.{◌≡◌, ℕ, ◌<◌}
+use Rattle.std.specs.Prelude.{◌≡◌, ◌≢◌, ℕ, ◌<◌}
 use Rattle.bdd_store.specs.Nodes.{Diagrams}
 use Rattle.bfr_store.specs.declared.meaning.Meaning.{Ghosts}
 use Rattle.sat_core.specs.Decisions.{SatSeen}
@@ -44,9 +44,9 @@ pub record AreStoresFor {B : Type 0} (g : Ghosts B) (nodes : ℕ) (s : SobsSeen 
   pub store : g.limit_of s.store ≡ nodes
   pub full : IsFullAfter g s v
 
--- the stores are those of the theorem's mode; so there are none of decision diagrams after Clauses, which is a verdict of
+-- the stores are those of the theorem's mode, diagrams in each but Sat; so there are none of decision diagrams after Clauses, which is a verdict of
 -- mode Sat
 abbrev pub LeavesStores : Ghosts Diagrams → Ghosts SatSeen → Bounds → Theorem → Verdict → Room → Type 0
 LeavesStores g h bounds thm v room.Empty = IsUnbegun v
-LeavesStores g h bounds thm v (room.Bdd s) = (thm.mode ≡ mode.Bdd) × AreStoresFor g bounds.nodes s v
+LeavesStores g h bounds thm v (room.Bdd s) = (thm.mode ≢ mode.Sat) × AreStoresFor g bounds.nodes s v
 LeavesStores g h bounds thm v (room.Sat s) = (thm.mode ≡ mode.Sat) × AreStoresFor h bounds.nodes s v × IsGivenUpAfter bounds.clauses s.store v × (bounds.enum_bits < width_of thm.bindings → IsShownAfter s.store v)

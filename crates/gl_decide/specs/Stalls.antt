@@ -1,5 +1,5 @@
 -- Decisions that ran out of nodes or clauses, as contracts see them.
-use Rattle.std.specs.Prelude.{◌≡◌, ℕ, zero, List, refl}
+use Rattle.std.specs.Prelude.{◌≡◌, ℕ, zero, suc, List, refl}
 use Rattle.std.specs.Coded.{Coded, code_by, coded×, coded⊎, coded_ℕ, coded_list}
 use Rattle.std.proofs.Common.{◌⊎◌, inl, inr}
 use Rattle.gl_logic.specs.Object.{Object}
@@ -47,14 +47,17 @@ coded_cause = code_by (ℕ ⊎ ℕ) (coded⊎ coded_ℕ coded_ℕ) cause_split c
 abbrev pub mode_number : Mode → ℕ
 mode_number mode.Bdd = 0
 mode_number mode.Sat = 1
+mode_number mode.Param = 2
 
 abbrev pub mode_numbered : ℕ → Mode
 mode_numbered zero = mode.Bdd
-mode_numbered _ = mode.Sat
+mode_numbered (suc zero) = mode.Sat
+mode_numbered _ = mode.Param
 
 pub mode_back : (m : Mode) → mode_numbered (mode_number m) ≡ m
 mode_back mode.Bdd = refl
 mode_back mode.Sat = refl
+mode_back mode.Param = refl
 
 abbrev pub coded_mode : Coded Mode
 coded_mode = code_by ℕ coded_ℕ mode_number mode_numbered mode_back

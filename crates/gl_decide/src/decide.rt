@@ -115,7 +115,7 @@ fn give_up<R: Threads + Sync>(
 }
 
 /// The verdict that a decision ran out.
-fn stalled(world: &World, thm: &Thm, cause: StallCause) -> Verdict
+pub(crate) fn stalled(world: &World, thm: &Thm, cause: StallCause) -> Verdict
     ensures { IsStalled world.now (theorem_of thm.now) cause result }
 {
     let stall = make_stall(cause, world, thm);

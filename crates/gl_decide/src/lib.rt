@@ -4,6 +4,7 @@
 //! [`scan`], which tries every input of a theorem of few indices on any number of workers at once.
 #![tactic(auto)]
 
+mod certify;
 mod decide;
 mod gate;
 mod join;
@@ -18,6 +19,7 @@ mod told;
 mod trial;
 mod verdict;
 
+pub use certify::certificate;
 pub use decide::decide_theorem;
 pub use gate::{Gate, OpenGate};
 pub use gl_symbolic::Room;

@@ -4,4 +4,5 @@ pub mod Nil
 pub mod Stopped
 pub mod Running
 pub mod Narrowing
+pub mod Parameters
 pub mod Begun

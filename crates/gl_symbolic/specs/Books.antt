@@ -1,11 +1,11 @@
 -- What the book of a search's last decision shows.
 use Rattle.std.specs.Prelude.{◌≡◌, ℕ, true, false, Some}
 use Rattle.cnf_rup.specs.Books.{BookSeen, holds_empty}
-use Rattle.sat_core.specs.Decisions.{SatSeen, learned_in}
+use Rattle.sat_core.specs.Decisions.{IsSmall, SatSeen, learned_in}
 
--- the book of the last decision is there, and the empty clause is in it
+-- the book of the last decision is there, the empty clause is in it, and its first clauses are no more than its graph gives
 abbrev pub HoldsEmpty : SatSeen → Type 0
-HoldsEmpty s = (b : BookSeen) × (s.book ≡ Some b) × (holds_empty b.entries ≡ true)
+HoldsEmpty s = (b : BookSeen) × (s.book ≡ Some b) × (holds_empty b.entries ≡ true) × IsSmall s.graph.nodes b
 
 -- it is there, so many clauses were learned, and the empty one is not among them
 abbrev pub IsGivenUp : ℕ → SatSeen → Type 0

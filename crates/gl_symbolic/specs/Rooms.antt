@@ -1,5 +1,5 @@
 -- What the stores of a decision hold at its end.
-use Rattle.std.specs.Prelude.{◌≡◌, ℕ, length}
+use Rattle.std.specs.Prelude.{◌≡◌, ◌≢◌, ℕ, length}
 use Rattle.bdd_store.specs.Nodes.{Diagrams}
 use Rattle.bfr_store.specs.declared.meaning.Meaning.{Ghosts}
 use Rattle.sat_core.specs.Decisions.{SatSeen}
@@ -39,9 +39,9 @@ pub record IsRoomFor {B : Type 0} (g : Ghosts B) (nodes : ℕ) (s : SobsSeen B) 
   pub store : g.limit_of s.store ≡ nodes
   pub run_out : HasRunOut g s d
 
--- the stores are those of the theorem's mode. In mode Sat an answer that no assignment makes a function true is shown by the
--- book of the last decision
+-- the stores are those of the theorem's mode: diagrams in each but Sat. In mode Sat an answer that no assignment makes a
+-- function true is shown by the book of the last decision
 abbrev pub LeavesRoom : Ghosts Diagrams → Ghosts SatSeen → ℕ → ℕ → Thm → Decision → Room → Type 0
 LeavesRoom g h nodes clauses thm d room.Empty = IsUnbegun d
-LeavesRoom g h nodes clauses thm d (room.Bdd s) = (thm.mode ≡ mode.Bdd) × IsRoomFor g nodes s d
+LeavesRoom g h nodes clauses thm d (room.Bdd s) = (thm.mode ≢ mode.Sat) × IsRoomFor g nodes s d
 LeavesRoom g h nodes clauses thm d (room.Sat s) = (thm.mode ≡ mode.Sat) × IsRoomFor h nodes s d × IsShown (HoldsEmpty s.store) d × GivesUpWell clauses s.store d

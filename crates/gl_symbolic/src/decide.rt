@@ -50,7 +50,9 @@ pub fn decide_symbolically<B: Settles>(
         Ok((env, hyp)) => match reach(alloc, objs, hyp) {
             Ok(None) => Decision::Vacuous,
             Ok(Some(found)) => match thm.mode {
-                Mode::Bdd => conclude_narrowed(alloc, objs, machine, world, thm, hyp, &found),
+                Mode::Bdd | Mode::Param => {
+                    conclude_narrowed(alloc, objs, machine, world, thm, hyp, &found)
+                }
                 Mode::Sat => conclude(alloc, objs, machine, world, thm, &env, hyp),
             },
             Err(fault) => given_up(fault),

@@ -13,6 +13,7 @@ mod condition;
 pub mod decide;
 pub mod decision;
 mod narrow;
+mod parametrised;
 pub mod room;
 pub mod runs;
 pub mod settles;

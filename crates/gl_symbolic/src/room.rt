@@ -1,6 +1,6 @@
 //! A decision in a theorem's mode, with stores of its own.
 
-ghost use Rattle.std.specs.Prelude.{◌≡◌};
+ghost use Rattle.std.specs.Prelude.{◌≡◌, ◌≢◌};
 ghost use Rattle.gl_logic.specs.IsTermOf.{IsTermOf};
 ghost use Rattle.gl_logic.specs.TermOf.{term_of};
 ghost use Rattle.lisp_eval.specs.Machines.{AreFunctionsOf};
@@ -10,6 +10,7 @@ ghost use Rattle.gl_symbolic.specs.Rooms.{IsUnplaced, LeavesRoom};
 
 use super::decide::decide_symbolically;
 use super::decision::Decision;
+use super::parametrised::decide_parametrised;
 use bdd_store::Bdd;
 use bfr_store::Meaning;
 use gl_base::limits::Limits;
@@ -50,6 +51,7 @@ pub fn decide_in_mode(alloc: Global, world: &World, thm: &Thm, limits: &Limits) 
     match machine.begin(world, &thm.memoized) {
         Ok(()) => match thm.mode {
             Mode::Bdd => by_diagrams(alloc, &mut machine, world, thm, limits),
+            Mode::Param => by_parameters(alloc, &mut machine, world, thm, limits),
             Mode::Sat => by_search(alloc, &mut machine, world, thm, limits),
         },
         Err(EvalFault::Cells) => (unplaced(alloc, thm), Room::Empty),
@@ -67,6 +69,36 @@ fn unplaced(alloc: Global, thm: &Thm) -> Decision
     }
 }
 
+/// Decides over decision diagrams, with the conclusion run on an input that meets the hypothesis under every assignment.
+/// Where the nodes suffice for the hypothesis and not for that, decides once more without it, in new stores.
+fn by_parameters(
+    alloc: Global,
+    machine: &mut Machine,
+    world: &World,
+    thm: &Thm,
+    limits: &Limits,
+) -> (Decision, Room)
+    requires ready { IsReady world.now thm.now machine.old }
+    requires hyp { IsTermOf world.now.definitions (term_of thm.now.hyp) }
+    requires concl { IsTermOf world.now.definitions (term_of thm.now.concl) }
+    requires mode { thm.now.mode ≢ Mode.Sat }
+    ensures proper { IsProper world.now machine.old.steps machine.old.arena.limit thm.now result.0 }
+    ensures room { LeavesRoom ⟦<Bdd as Meaning>⟧ ⟦<AigSat as Meaning>⟧ limits.now.nodes limits.now.clauses thm.now result.0 result.1 }
+{
+    let nodes = limits.nodes;
+    let Ok(store) = Bdd::new(alloc, nodes) else {
+        return (Decision::Memory, Room::Empty);
+    };
+    let Ok(mut objs) = Sobs::new(alloc, store, nodes) else {
+        return (Decision::Memory, Room::Empty);
+    };
+    if let Some(decision) = decide_parametrised(alloc, &mut objs, machine, world, thm) {
+        return (decision, Room::Bdd(objs));
+    }
+    drop(objs);
+    by_diagrams(alloc, machine, world, thm, limits)
+}
+
 /// Decides over decision diagrams.
 fn by_diagrams(
     alloc: Global,
@@ -78,7 +110,7 @@ fn by_diagrams(
     requires ready { IsReady world.now thm.now machine.old }
     requires hyp { IsTermOf world.now.definitions (term_of thm.now.hyp) }
     requires concl { IsTermOf world.now.definitions (term_of thm.now.concl) }
-    requires mode { thm.now.mode ≡ Mode.Bdd }
+    requires mode { thm.now.mode ≢ Mode.Sat }
     ensures proper { IsProper world.now machine.old.steps machine.old.arena.limit thm.now result.0 }
     ensures room { LeavesRoom ⟦<Bdd as Meaning>⟧ ⟦<AigSat as Meaning>⟧ limits.now.nodes limits.now.clauses thm.now result.0 result.1 }
 {
