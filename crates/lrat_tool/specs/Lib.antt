@@ -1,0 +1,17 @@
+pub mod Words
+pub mod Pieces
+pub mod Numbers
+pub mod Flat
+pub mod Formulas
+pub mod Logs
+pub mod Judgements
+pub mod Places
+pub mod HintWords
+pub mod Reading
+pub mod Bad
+pub mod Held
+pub mod Ends
+pub mod Models
+pub mod Written
+pub mod Long
+pub mod Ranks
