@@ -1,14 +1,15 @@
 -- The entries that end a book, their lines and the status.
-use Rattle.std.proofs.Common.{◌≡◌, ◌∙◌, ap, sym, refl, ℕ, ◌+◌, ◌<◌, ◌≤◌, ◌-◌, ◌^◌, List, [], ◌∷◌, ◌++◌, length, true, false, Bool, cond, Option, Some, None, append-nil, arith}
+use Rattle.std.proofs.Common.{◌≡◌, ◌∙◌, ap, sym, refl, ℕ, ◌+◌, List, [], ◌∷◌, ◌++◌, true, false, Bool, cond, Option, Some, None, append-nil, arith}
 use Rattle.std.specs.Prelude.{count_by, ◌||◌}
 use Rattle.std.specs.List.{flat_map, list_any}
-use Rattle.std.proofs.lemmas.List.Sums.{count_by-le-length, sum_by-append, sum_by-cons}
+use Rattle.std.proofs.lemmas.List.Sums.{sum_by-append, sum_by-cons}
 use Rattle.std.proofs.lemmas.List.Folds.{list_any-append}
 use Rattle.gl_base.specs.declared.status.Status.TheVariants as status
+use Rattle.book_shelf.specs.declared.item.Mark.{Mark}
 use Rattle.event_world.specs.EventSeen.{EventSeen}
-use Rattle.gl_book.specs.Entry.{Entry, Answered, Refused}
+use Rattle.gl_book.specs.Entry.{Entry, Answered, Marked, Refused}
 use Rattle.gl_book.specs.Lines.{entry_lines, done_line, is_answer, is_proved, is_vacuous, is_refuted, is_undecided, is_failed, counts_of, is_refusal, status_by, status_of}
-use Rattle.gl_book.specs.Stops.{one_more, counts_with, HasRoom, closing_lines, closing_status}
+use Rattle.gl_book.specs.Stops.{one_more, counts_with, closing_lines, closing_status}
 use Rattle.gl_book.specs.declared.answer.Answer.{Answer}
 use Rattle.gl_book.specs.declared.refusal.Refusal.{Refusal}
 
@@ -26,14 +27,11 @@ module _ (done : List Entry) where
   pub counts_more : (e : EventSeen) (a : Answer) → counts_with (counts_of done) a ≡ counts_of (done ++ Answered e a ∷ [])
   counts_more e a = rw (count_more (is_answer is_proved) done (Answered e a), count_more (is_answer is_vacuous) done (Answered e a), count_more (is_answer is_refuted) done (Answered e a), count_more (is_answer is_undecided) done (Answered e a), count_more (is_answer is_failed) done (Answered e a)) refl
 
+  pub counts_marked : (m : Mark) → counts_of (done ++ Marked m ∷ []) ≡ counts_of done
+  counts_marked m = rw (count_more (is_answer is_proved) done (Marked m), count_more (is_answer is_vacuous) done (Marked m), count_more (is_answer is_refuted) done (Marked m), count_more (is_answer is_undecided) done (Marked m), count_more (is_answer is_failed) done (Marked m)) refl
+
   pub counts_refused : (r : Refusal) → counts_of (done ++ Refused r ∷ []) ≡ counts_of done
   counts_refused r = rw (count_more (is_answer is_proved) done (Refused r), count_more (is_answer is_vacuous) done (Refused r), count_more (is_answer is_refuted) done (Refused r), count_more (is_answer is_undecided) done (Refused r), count_more (is_answer is_failed) done (Refused r)) refl
-
-  pub room : length done < 2 ^ 64 - 1 → HasRoom (counts_of done)
-  room h =
-      let few : (p : Entry → Bool) → count_by p done ≤ length done = λ p. count_by-le-length p done in
-      let one : (p : Entry → Bool) → count_by p done < 2 ^ 64 - 1 = λ p. let k = few p in omega (arith, k, h) in
-      (one (is_answer is_proved), one (is_answer is_vacuous), one (is_answer is_refuted), one (is_answer is_undecided), one (is_answer is_failed))
 
 -- ---- the end
 abbrev pub closing : Option Refusal → List Entry
@@ -54,3 +52,6 @@ module _ (names : List (List ℕ)) (done : List Entry) where
 
 pub still_answered : (done : List Entry) (e : EventSeen) (a : Answer) → list_any is_refusal done ≡ false → list_any is_refusal (done ++ Answered e a ∷ []) ≡ false
 still_answered done e a none = list_any-append is_refusal done (Answered e a ∷ []) ∙ ap (λ b. b || false) none
+
+pub still_unrefused : (done : List Entry) (m : Mark) → list_any is_refusal done ≡ false → list_any is_refusal (done ++ Marked m ∷ []) ≡ false
+still_unrefused done m none = list_any-append is_refusal done (Marked m ∷ []) ∙ ap (λ b. b || false) none

@@ -14,62 +14,68 @@ use Rattle.gl_base.specs.Outside.{Grows}
 use Rattle.gl_base.proofs.Growth.{grows-then}
 use Rattle.gl_base.specs.declared.status.Status.{Status}
 use Rattle.sexp_reader.specs.declared.list.Form.{Form}
-use Rattle.sexp_reader.specs.declared.ends.End.{End}
-use Rattle.sexp_reader.specs.declared.ends.End.TheVariants.{Clean, Bad}
+use Rattle.book_shelf.specs.declared.item.Item.{Item}
+use Rattle.book_shelf.specs.declared.item.Item.TheVariants as item
+use Rattle.book_shelf.specs.declared.item.Mark.{Mark}
 use Rattle.event_world.specs.declared.fault.EventFault.{EventFault}
-use Rattle.event_world.specs.EventSeen.{EventSeen, Nothing, Redundant, Defun, Defconst, Value, Assert, Memoize, Unmemoize, SetMode, Theorem, Clique, RedundantClique}
+use Rattle.event_world.specs.EventSeen.{EventSeen, Nothing, Redundant, Defun, Defconst, Value, Assert, Memoize, Unmemoize, SetMode, Theorem, Cases, Clique, RedundantClique}
 use Rattle.event_world.specs.NextState.{BookState, next_state}
 use Rattle.gl_decide.specs.Bounds.{Bounds}
 use Rattle.gl_decide.specs.Stalls.{StallSeen}
 use Rattle.gl_decide.specs.declared.verdict.Verdict.TheVariants as verdict
-use Rattle.gl_book.specs.Answers.{IsAnswerable, IsProperAnswer}
+use Rattle.gl_book.specs.Answers.{IsAnswerable, IsOfDefinitions, IsProperAnswer}
+use Rattle.gl_book.specs.declared.cases.CasesVerdict.TheVariants as whole
+use Rattle.gl_book.proofs.PartsDecided.{memory_decides}
 use Rattle.gl_book.specs.Courses.{AreBehind, Course, EndsPhaseByFront, HasRoomFor, IsQuiet, KeepsPhase, KeepsPhaseFront, Place, Stands, WritesPhase, WritesPhaseFront, counts_after, count_waited, phase_lines, waited}
-use Rattle.gl_book.specs.Entry.{Entry, Answered, Refused, entry_stalls, stalls_of, stalls_in}
-use Rattle.gl_book.specs.Lines.{entry_lines, event_lines, done_line, counts_of, is_answer, is_proved, is_vacuous, is_refuted, is_undecided, is_failed, is_refusal, transcript_lines}
+use Rattle.gl_book.specs.Entry.{Entry, Answered, Marked, Refused, entry_stalls, stalls_of, stalls_in}
+use Rattle.gl_book.specs.Lines.{entry_lines, event_lines, mark_line, done_line, counts_of, is_answer, is_proved, is_vacuous, is_refuted, is_undecided, is_failed, is_refusal, transcript_lines}
 use Rattle.gl_book.specs.Phases.{JobSeen, AreAnswered, CanBeAnswered, IsFollowed, ends_phase, is_job, new_job}
-use Rattle.gl_book.specs.Stops.{counts_with, end_refusal, closing_lines, closing_status, told_before, WritesLines, WritesLinesFront, WritesWalk, WritesWalkFront}
+use Rattle.gl_book.specs.Stops.{counts_with, refusal_of, closing_lines, closing_status, told_before, WritesLines, WritesLinesFront, WritesWalk, WritesWalkFront}
 use Rattle.gl_book.specs.Transcript.{told}
-use Rattle.gl_book.specs.Walk.{CanGoOn, Walk, ended, bad, refused, without_value, event, event_in, refusal_at, refused_cause, state_after}
+use Rattle.gl_book.specs.Walk.{CanGoOn, Walk, marked, refused, without_value, event, event_in, refusal_at, refused_cause, state_after}
 use Rattle.gl_book.specs.declared.answer.Answer.{Answer}
 use Rattle.gl_book.specs.declared.answer.Answer.TheVariants as answer
 use Rattle.gl_book.specs.declared.answer.Cause.{Cause}
 use Rattle.gl_book.specs.declared.answer.Cause.TheVariants as cause
 use Rattle.gl_book.specs.declared.refusal.Refusal.{Refusal}
 use Rattle.gl_book.specs.declared.refusal.RefusalCode.TheVariants as code
-use Rattle.gl_book.proofs.Closing.{counts_more, closing, lines_that_close, status_that_closes, still_answered}
+use Rattle.gl_book.proofs.Closing.{counts_more, counts_marked, closing, lines_that_close, status_that_closes, still_answered, still_unrefused}
 use Rattle.gl_book.proofs.GoOn.{after_event}
 use Rattle.gl_book.proofs.Looks.{before_event}
-use Rattle.gl_book.proofs.Onward.{some_walk}
+use Rattle.gl_book.proofs.Onward.{last_walk, some_walk}
 use Rattle.gl_book.proofs.Told.{front_then, grows_is, grows_nothing, so_far, told_before_split, told_whole}
 use Rattle.gl_book.proofs.Waited.{HasLast, with_lines, waited_lines, waited_stalls, waited_counts, waited_stand, waited_count, none_behind, few_jobs, behind_push, count_push, last_answered, waited_push, has_last, behind_more, count_more, answered_without, waited_more}
 
 -- ---- answers that memory alone does not hinder
 abbrev memory_answer : EventSeen → Answer
 memory_answer (Theorem thm) = answer.Decided verdict.Memory
+memory_answer (Cases thm) = answer.ByCases (whole.Cover verdict.Memory)
 memory_answer e = answer.Undecided cause.Memory
 
 memory_is_other : cause.Memory ≡ cause.Size → ⊥
 memory_is_other e = cc
 
-memory_proper : (bounds : Bounds) (w : WorldSeen) (memoized : List ℕ) (e : EventSeen) → is_job e ≡ true → IsProperAnswer bounds w memoized e (memory_answer e)
-memory_proper bounds w memoized (Value t) h = tt
-memory_proper bounds w memoized (Assert t) h = record { has = tt; no_size = memory_is_other }
-memory_proper bounds w memoized (Theorem thm) h = tt
-memory_proper bounds w memoized Nothing h = absurd cc
-memory_proper bounds w memoized (Redundant n) h = absurd cc
-memory_proper bounds w memoized (Defun d) h = absurd cc
-memory_proper bounds w memoized (Defconst n t) h = absurd cc
-memory_proper bounds w memoized (Memoize f) h = absurd cc
-memory_proper bounds w memoized (Unmemoize f) h = absurd cc
-memory_proper bounds w memoized (SetMode m) h = absurd cc
-memory_proper bounds w memoized (Clique ds) h = absurd cc
-memory_proper bounds w memoized (RedundantClique ns) h = absurd cc
+memory_proper : (bounds : Bounds) (w : WorldSeen) (memoized : List ℕ) (definitions : List Definition) (e : EventSeen) → is_job e ≡ true → IsOfDefinitions definitions e → IsProperAnswer bounds w memoized e (memory_answer e)
+memory_proper bounds w memoized definitions (Value t) h k = tt
+memory_proper bounds w memoized definitions (Assert t) h k = record { has = tt; no_size = memory_is_other }
+memory_proper bounds w memoized definitions (Theorem thm) h k = tt
+memory_proper bounds w memoized definitions (Cases thm) h k = memory_decides bounds w thm k.parts
+memory_proper bounds w memoized definitions Nothing h k = absurd cc
+memory_proper bounds w memoized definitions (Redundant n) h k = absurd cc
+memory_proper bounds w memoized definitions (Defun d) h k = absurd cc
+memory_proper bounds w memoized definitions (Defconst n t) h k = absurd cc
+memory_proper bounds w memoized definitions (Memoize f) h k = absurd cc
+memory_proper bounds w memoized definitions (Unmemoize f) h k = absurd cc
+memory_proper bounds w memoized definitions (SetMode m) h k = absurd cc
+memory_proper bounds w memoized definitions (Clique ds) h k = absurd cc
+memory_proper bounds w memoized definitions (RedundantClique ns) h k = absurd cc
 
 pub some_answers : (bounds : Bounds) (w : WorldSeen) (definitions : List Definition) (js : List JobSeen) → All (CanBeAnswered definitions) js → (given : List Answer) × AreAnswered bounds w js given
 some_answers bounds w definitions [] h = ([], tt)
 some_answers bounds w definitions (j ∷ js) h =
     let rest = some_answers bounds w definitions js (All-tail (CanBeAnswered definitions) j js h) in
-    (memory_answer j.event ∷ rest.0, (memory_proper bounds w j.memoized j.event (All-head (CanBeAnswered definitions) j js h).job, rest.1))
+    let first = All-head (CanBeAnswered definitions) j js h in
+    (memory_answer j.event ∷ rest.0, (memory_proper bounds w j.memoized definitions j.event first.job first.can.event, rest.1))
 
 pub nothing_ended : (names : List (List ℕ)) (bounds : Bounds) (w : WorldSeen) (last : Bool) (js : List JobSeen) (written : Option (List ℕ)) (stalls : List StallSeen) → All (CanBeAnswered w.definitions) js → EndsPhaseByFront names bounds w last js written stalls written stalls
 nothing_ended names bounds w last js written stalls h =
@@ -88,6 +94,7 @@ job_state s form (Memoize f) a h = refl
 job_state s form (Unmemoize f) a h = refl
 job_state s form (SetMode m) a h = refl
 job_state s form (Theorem thm) a h = refl
+job_state s form (Cases thm) a h = refl
 job_state s form (Clique ds) a h = absurd cc
 job_state s form (RedundantClique ns) a h = refl
 
@@ -102,6 +109,7 @@ job_valued (Memoize f) a h = refl
 job_valued (Unmemoize f) a h = refl
 job_valued (SetMode m) a h = refl
 job_valued (Theorem thm) a h = refl
+job_valued (Cases thm) a h = refl
 job_valued (Clique ds) a h = absurd cc
 job_valued (RedundantClique ns) a h = refl
 
@@ -116,6 +124,7 @@ job_ends_none (Memoize f) h = absurd cc
 job_ends_none (Unmemoize f) h = absurd cc
 job_ends_none (SetMode m) h = absurd cc
 job_ends_none (Theorem thm) h = refl
+job_ends_none (Cases thm) h = refl
 job_ends_none (Clique ds) h = absurd cc
 job_ends_none (RedundantClique ns) h = absurd cc
 
@@ -131,6 +140,7 @@ answers_before bounds s form (Memoize f) js given h k = k
 answers_before bounds s form (Unmemoize f) js given h k = k
 answers_before bounds s form (SetMode m) js given h k = k
 answers_before bounds s form (Theorem thm) js given h k = before_event bounds s.world (s.world.events ++ (thm.name, form) ∷ []) js given k
+answers_before bounds s form (Cases thm) js given h k = before_event bounds s.world (s.world.events ++ (thm.cover.name, form) ∷ []) js given k
 answers_before bounds s form (Clique ds) js given h k = absurd cc
 answers_before bounds s form (RedundantClique ns) js given h k = k
 
@@ -145,6 +155,7 @@ same_definitions s form (Memoize f) h = refl
 same_definitions s form (Unmemoize f) h = refl
 same_definitions s form (SetMode m) h = refl
 same_definitions s form (Theorem thm) h = refl
+same_definitions s form (Cases thm) h = refl
 same_definitions s form (Clique ds) h = absurd cc
 same_definitions s form (RedundantClique ns) h = refl
 
@@ -155,6 +166,7 @@ done_quiet e (answer.Value x) bounds w memoized p = absurd p
 done_quiet e (answer.Truth b) bounds w memoized p = absurd p
 done_quiet e (answer.Undecided c) bounds w memoized p = absurd p
 done_quiet e (answer.Decided v) bounds w memoized p = absurd p
+done_quiet e (answer.ByCases v) bounds w memoized p = absurd p
 
 named_quiet : (e : EventSeen) (f : ℕ) (a : Answer) (bounds : Bounds) (w : WorldSeen) (memoized : List ℕ) → IsProperAnswer bounds w memoized (Memoize f) a → IsQuiet (Answered e a)
 named_quiet e f (answer.Function t) bounds w memoized p = tt
@@ -163,6 +175,7 @@ named_quiet e f (answer.Value x) bounds w memoized p = absurd p
 named_quiet e f (answer.Truth b) bounds w memoized p = absurd p
 named_quiet e f (answer.Undecided c) bounds w memoized p = absurd p
 named_quiet e f (answer.Decided v) bounds w memoized p = absurd p
+named_quiet e f (answer.ByCases v) bounds w memoized p = absurd p
 
 answer_quiet : (bounds : Bounds) (w : WorldSeen) (memoized : List ℕ) (e : EventSeen) (a : Answer) → is_job e ≡ false → ends_phase e ≡ false → IsProperAnswer bounds w memoized e a → IsQuiet (Answered e a)
 answer_quiet bounds w memoized Nothing a h k p = done_quiet Nothing a bounds w memoized p
@@ -175,6 +188,7 @@ answer_quiet bounds w memoized (Memoize f) a h k p = named_quiet (Memoize f) f a
 answer_quiet bounds w memoized (Unmemoize f) a h k p = named_quiet (Unmemoize f) f a bounds w memoized p
 answer_quiet bounds w memoized (SetMode m) a h k p = done_quiet (SetMode m) a bounds w memoized p
 answer_quiet bounds w memoized (Theorem thm) a h k p = absurd cc
+answer_quiet bounds w memoized (Cases thm) a h k p = absurd cc
 answer_quiet bounds w memoized (Clique ds) a h k p = absurd cc
 answer_quiet bounds w memoized (RedundantClique ns) a h k p = done_quiet (RedundantClique ns) a bounds w memoized p
 
@@ -212,12 +226,12 @@ kept_front xs ys zs whole m is =
     (length front, sym (ap (take (length front)) apart ∙ take-append_seam front (drop m ys ++ zs)))
 
 -- ---- the way
-next_form : (forms : List Form) (i : ℕ) (form : Form) → slice_get forms i ≡ Some form → drop i forms ≡ form ∷ drop (i + 1) forms
-next_form forms i form at =
+next_item : (items : List Item) (i : ℕ) (x : Item) → slice_get items i ≡ Some x → drop i items ≡ x ∷ drop (i + 1) items
+next_item items i x at =
     let e : suc i ≡ i + 1 = omega arith in
-    drop-cons forms i form (slice_get_within forms i form at) ∙ (ap (λ y. y ∷ drop (suc i) forms) (get_or_from_slice_get forms i form form at) ∙ ap (λ n. form ∷ drop n forms) e)
+    drop-cons items i x (slice_get_within items i x at) ∙ (ap (λ y. y ∷ drop (suc i) items) (get_or_from_slice_get items i x x at) ∙ ap (λ n. x ∷ drop n items) e)
 
-none_left : (forms : List Form) (i : ℕ) → length forms ≤ i → drop i forms ≡ []
+none_left : (items : List Item) (i : ℕ) → length items ≤ i → drop i items ≡ []
 none_left [] zero h = refl
 none_left [] (suc i) h = refl
 none_left (x ∷ xs) zero h = absurd (omega (arith, h))
@@ -225,7 +239,7 @@ none_left (x ∷ xs) (suc i) h = none_left xs i (omega (arith, h))
 
 module _ (names : List (List ℕ)) (bounds : Bounds) (last : Bool) (c : Course) where
   abbrev IsWhole : List Entry → Type 0
-  IsWhole entries = Walk names bounds c.first c.book.list c.book.end entries
+  IsWhole entries = Walk names bounds c.first c.book.items c.book.finish entries
 
   abbrev StandsAt : ℕ → Place → Type 0
   StandsAt i p = Stands names bounds last c i p
@@ -269,7 +283,7 @@ module _ (names : List (List ℕ)) (bounds : Bounds) (last : Bool) (c : Course) 
 
     -- ---- entries more, with these lines and these stalls, after which the walk stands before form j in another state
     module _ (more : List Entry) (lines : List (List ℕ)) (kept : List StallSeen) (lines_are : flat_map (entry_lines names) more ≡ lines) (stalls_are : stalls_in more ≡ kept)
-        (state : BookState) (j : ℕ) (can : CanGoOn state) (onward : (entries : List Entry) → Walk names bounds state (drop j c.book.list) c.book.end entries → IsWhole ((s.done ++ more) ++ entries)) where
+        (state : BookState) (j : ℕ) (can : CanGoOn state) (onward : (entries : List Entry) → Walk names bounds state (drop j c.book.items) c.book.finish entries → IsWhole ((s.done ++ more) ++ entries)) where
       more_told : so_far last names (s.done ++ more) ≡ so_far last names s.done ++ told_before last lines
       more_told =
           ap (told_before last) (flat_map-append (entry_lines names) s.done more ∙ ap (λ ls. flat_map (entry_lines names) s.done ++ ls) lines_are)
@@ -281,7 +295,7 @@ module _ (names : List (List ℕ)) (bounds : Bounds) (last : Bool) (c : Course) 
       -- a front of their lines was written, and a front of their stalls was kept
       more_front : (now : Option (List ℕ)) (after : List StallSeen) → (n : ℕ) × Grows p.written now (take n (told_before last lines)) → (m : ℕ) × (after ≡ p.stalls ++ take m kept) → Front now after
       more_front now after g k =
-          let rest = some_walk names bounds c.book.end state (drop j c.book.list) can in
+          let rest = some_walk names bounds c.book.finish state (drop j c.book.items) can in
           let done = s.done ++ more in
           let entries = done ++ rest.0 in
           let ys = told_before last lines in
@@ -302,7 +316,7 @@ module _ (names : List (List ℕ)) (bounds : Bounds) (last : Bool) (c : Course) 
         ready = subst (λ (js : List JobSeen). All (CanBeAnswered q.state.world.definitions) js) (sym none) (All-nil (CanBeAnswered q.state.world.definitions));
         follow = subst (λ (js : List JobSeen). AreBehind names js []) (sym none) tt;
         onward = λ bs h entries w.
-            subst (λ (js : List JobSeen). IsWhole ((s.done ++ more) ++ (waited js [] bs ++ entries))) (sym none) (onward entries (subst (λ (st : BookState). Walk names bounds st (drop j c.book.list) c.book.end entries) same w));
+            subst (λ (js : List JobSeen). IsWhole ((s.done ++ more) ++ (waited js [] bs ++ entries))) (sym none) (onward entries (subst (λ (st : BookState). Walk names bounds st (drop j c.book.items) c.book.finish entries) same w));
         counted = n;
         many = omega (arith, m);
         answered = r;
@@ -315,7 +329,7 @@ module _ (names : List (List ℕ)) (bounds : Bounds) (last : Bool) (c : Course) 
       abbrev entries_of_phase : List Entry
       entries_of_phase = waited p.waiting s.behind given
 
-      phase_onward : (entries : List Entry) → Walk names bounds p.state (drop i c.book.list) c.book.end entries → IsWhole ((s.done ++ entries_of_phase) ++ entries)
+      phase_onward : (entries : List Entry) → Walk names bounds p.state (drop i c.book.items) c.book.finish entries → IsWhole ((s.done ++ entries_of_phase) ++ entries)
       phase_onward entries w = subst IsWhole (sym (append_assoc s.done entries_of_phase entries)) (s.onward given proper entries w)
 
       pub phase_front : (now : Option (List ℕ)) (after : List StallSeen) → WritesPhaseFront names last p.waiting given p.written now → KeepsPhaseFront given p.stalls after → Front now after
@@ -337,20 +351,65 @@ module _ (names : List (List ℕ)) (bounds : Bounds) (last : Bool) (c : Course) 
         let a = some_answers bounds p.state.world p.state.world.definitions p.waiting s.ready in
         phase_front a.0 a.1 now after (0, subst (λ (o : Option (List ℕ)). Grows p.written o []) (sym e) (grows_nothing p.written)) (0, f ∙ sym (append-nil p.stalls))
 
+    -- ---- an entry behind a job, after which the walk stands before the next item in a state with the same definitions
+    module _ (x : Entry) (quiet : IsQuiet x) (state : BookState) (can : CanGoOn state) (same : state.world.definitions ≡ p.state.world.definitions) (before : (js : List JobSeen) (given : List Answer) → AreAnswered bounds state.world js given → AreAnswered bounds p.state.world js given)
+        (walk_on : (entries : List Entry) → Walk names bounds state (drop (i + 1) c.book.items) c.book.finish entries → Walk names bounds p.state (drop i c.book.items) c.book.finish (x ∷ entries)) where
+      module _ (l : HasLast names bounds p.state.world p.waiting s.behind) where
+        abbrev longer : List JobSeen
+        longer = l.before ++ with_lines names bounds p.state.world l.last (entry_lines names x) ∷ []
+
+        abbrev further : List (List Entry)
+        further = l.entries ++ (l.behind ++ x ∷ []) ∷ []
+
+        split : AreBehind names (l.before ++ l.last ∷ []) (l.entries ++ l.behind ∷ [])
+        split = subst (λ (ess : List (List Entry)). AreBehind names (l.before ++ l.last ∷ []) ess) l.entries_are (subst (λ (js : List JobSeen). AreBehind names js s.behind) l.jobs_are s.follow)
+
+        joins_onward : (given : List Answer) → AreAnswered bounds state.world longer given → (entries : List Entry) → Walk names bounds state (drop (i + 1) c.book.items) c.book.finish entries → IsWhole (s.done ++ (waited longer further given ++ entries))
+        joins_onward given h entries w =
+            let without = answered_without names bounds p.state.world l.before l.last (entry_lines names x) given (before longer given h) in
+            let onto : AreAnswered bounds p.state.world p.waiting given = subst (λ (js : List JobSeen). AreAnswered bounds p.state.world js given) (sym l.jobs_are) without in
+            let whole = s.onward given onto (x ∷ entries) (walk_on entries w) in
+            let apart : IsWhole (s.done ++ (waited (l.before ++ l.last ∷ []) (l.entries ++ l.behind ∷ []) given ++ (x ∷ entries))) = subst (λ (ess : List (List Entry)). IsWhole (s.done ++ (waited (l.before ++ l.last ∷ []) ess given ++ (x ∷ entries)))) l.entries_are (subst (λ (js : List JobSeen). IsWhole (s.done ++ (waited js s.behind given ++ (x ∷ entries)))) l.jobs_are whole) in
+            subst (λ (zs : List Entry). IsWhole (s.done ++ zs)) (waited_more names bounds p.state.world l.before l.last (entry_lines names x) l.entries l.behind given x entries split without) apart
+
+        joins_stands : (later : List JobSeen) → later ≡ longer → StandsAt (i + 1) (record { state = state; counts = p.counts; waiting = later; written = p.written; stalls = p.stalls })
+        joins_stands later is = subst (λ (js : List JobSeen). StandsAt (i + 1) (record { state = state; counts = p.counts; waiting = js; written = p.written; stalls = p.stalls })) (sym is) (record {
+          done = s.done;
+          behind = further;
+          can = can;
+          ready = subst (λ (ds : List Definition). All (CanBeAnswered ds) longer) (sym same) (longer_ready l.before l.last (entry_lines names x) (subst (λ (js : List JobSeen). All (CanBeAnswered p.state.world.definitions) js) l.jobs_are s.ready));
+          follow = behind_more names bounds p.state.world l.before l.last l.entries l.behind x quiet split;
+          onward = joins_onward;
+          counted = s.counted;
+          many = let m = s.many in let n : count_waited s.behind ≡ count_waited (l.entries ++ l.behind ∷ []) = ap count_waited l.entries_are in omega (arith, m, n, count_more names bounds p.state.world l.entries l.behind x);
+          answered = s.answered;
+          written = s.written;
+          stalls = s.stalls;
+        })
+
+      joins : 0 < length p.waiting → (later : List JobSeen) → IsFollowed p.waiting (entry_lines names x) later → StandsAt (i + 1) (record { state = state; counts = p.counts; waiting = later; written = p.written; stalls = p.stalls })
+      joins some later f =
+          let l = has_last names bounds p.state.world p.waiting s.behind some s.follow in
+          joins_stands l later (f.says l.before l.last l.jobs_are)
+
+    walk_mark : (m : Mark) → slice_get c.book.items i ≡ Some (item.Mark m) → (entries : List Entry) → Walk names bounds p.state (drop (i + 1) c.book.items) c.book.finish entries → Walk names bounds p.state (drop i c.book.items) c.book.finish (Marked m ∷ entries)
+    walk_mark m at entries w =
+        subst (λ (xs : List Item). Walk names bounds p.state xs c.book.finish (Marked m ∷ entries)) (sym (next_item c.book.items i (item.Mark m) at)) (marked p.state m (drop (i + 1) c.book.items) c.book.finish entries w)
+
     -- ---- an event that waits
-    module _ (form : Form) (at : slice_get c.book.list i ≡ Some form) (e : EventSeen) (means : event_in names p.state form.tree ≡ Ok e) (stays : ends_phase e ≡ false) where
+    module _ (form : Form) (at : slice_get c.book.items i ≡ Some (item.Form form)) (e : EventSeen) (means : event_in names p.state form.tree ≡ Ok e) (stays : ends_phase e ≡ false) where
       abbrev next : BookState
       next = next_state p.state form.tree e nil
 
       can_next : CanGoOn next
       can_next = subst CanGoOn (job_state p.state form.tree e answer.Done stays) (after_event names p.state form.tree e answer.Done s.can means)
 
-      walk_next : (a : Answer) → IsProperAnswer bounds p.state.world p.state.memoized e a → (entries : List Entry) → Walk names bounds next (drop (i + 1) c.book.list) c.book.end entries
-          → Walk names bounds p.state (drop i c.book.list) c.book.end (Answered e a ∷ entries)
+      walk_next : (a : Answer) → IsProperAnswer bounds p.state.world p.state.memoized e a → (entries : List Entry) → Walk names bounds next (drop (i + 1) c.book.items) c.book.finish entries
+          → Walk names bounds p.state (drop i c.book.items) c.book.finish (Answered e a ∷ entries)
       walk_next a proper entries w =
-          subst (λ (fs : List Form). Walk names bounds p.state fs c.book.end (Answered e a ∷ entries)) (sym (next_form c.book.list i form at))
-          (event p.state form (drop (i + 1) c.book.list) c.book.end entries e a means proper (job_valued e a stays)
-          (subst (λ (st : BookState). Walk names bounds st (drop (i + 1) c.book.list) c.book.end entries) (sym (job_state p.state form.tree e a stays)) w))
+          subst (λ (xs : List Item). Walk names bounds p.state xs c.book.finish (Answered e a ∷ entries)) (sym (next_item c.book.items i (item.Form form) at))
+          (event p.state form (drop (i + 1) c.book.items) c.book.finish entries e a means proper (job_valued e a stays)
+          (subst (λ (st : BookState). Walk names bounds st (drop (i + 1) c.book.items) c.book.finish entries) (sym (job_state p.state form.tree e a stays)) w))
 
       ready_next : (js : List JobSeen) → All (CanBeAnswered p.state.world.definitions) js → All (CanBeAnswered next.world.definitions) js
       ready_next js h = subst (λ (ds : List Definition). All (CanBeAnswered ds) js) (sym (same_definitions p.state form.tree e stays)) h
@@ -377,52 +436,18 @@ module _ (names : List (List ℕ)) (bounds : Bounds) (last : Bool) (c : Course) 
       }
 
       -- an event behind a job
-      module _ (other : is_job e ≡ false) (some : 0 < length p.waiting) (a : Answer) (proper : IsProperAnswer bounds p.state.world p.state.memoized e a) where
-        quiet : IsQuiet (Answered e a)
-        quiet = answer_quiet bounds p.state.world p.state.memoized e a other stays proper
+      pub follows : is_job e ≡ false → 0 < length p.waiting → (a : Answer) → IsProperAnswer bounds p.state.world p.state.memoized e a → (later : List JobSeen) → IsFollowed p.waiting (event_lines names e a) later → StandsAt (i + 1) (record { state = next; counts = p.counts; waiting = later; written = p.written; stalls = p.stalls })
+      follows other some a proper later f =
+          joins (Answered e a) (answer_quiet bounds p.state.world p.state.memoized e a other stays proper) next can_next (same_definitions p.state form.tree e stays) (λ js given h. answers_before bounds p.state form.tree e js given stays h) (walk_next a proper) some later f
 
-        module _ (l : HasLast names bounds p.state.world p.waiting s.behind) where
-          abbrev longer : List JobSeen
-          longer = l.before ++ with_lines names bounds p.state.world l.last (event_lines names e a) ∷ []
-
-          abbrev further : List (List Entry)
-          further = l.entries ++ (l.behind ++ Answered e a ∷ []) ∷ []
-
-          split : AreBehind names (l.before ++ l.last ∷ []) (l.entries ++ l.behind ∷ [])
-          split = subst (λ (ess : List (List Entry)). AreBehind names (l.before ++ l.last ∷ []) ess) l.entries_are (subst (λ (js : List JobSeen). AreBehind names js s.behind) l.jobs_are s.follow)
-
-          follows_onward : (given : List Answer) → AreAnswered bounds next.world longer given → (entries : List Entry) → Walk names bounds next (drop (i + 1) c.book.list) c.book.end entries → IsWhole (s.done ++ (waited longer further given ++ entries))
-          follows_onward given h entries w =
-              let before = answers_before bounds p.state form.tree e longer given stays h in
-              let without = answered_without names bounds p.state.world l.before l.last (event_lines names e a) given before in
-              let onto : AreAnswered bounds p.state.world p.waiting given = subst (λ (js : List JobSeen). AreAnswered bounds p.state.world js given) (sym l.jobs_are) without in
-              let whole = s.onward given onto (Answered e a ∷ entries) (walk_next a proper entries w) in
-              let apart : IsWhole (s.done ++ (waited (l.before ++ l.last ∷ []) (l.entries ++ l.behind ∷ []) given ++ (Answered e a ∷ entries))) = subst (λ (ess : List (List Entry)). IsWhole (s.done ++ (waited (l.before ++ l.last ∷ []) ess given ++ (Answered e a ∷ entries)))) l.entries_are (subst (λ (js : List JobSeen). IsWhole (s.done ++ (waited js s.behind given ++ (Answered e a ∷ entries)))) l.jobs_are whole) in
-              subst (λ (zs : List Entry). IsWhole (s.done ++ zs)) (waited_more names bounds p.state.world l.before l.last (event_lines names e a) l.entries l.behind given (Answered e a) entries split without) apart
-
-          follows_stands : (later : List JobSeen) → later ≡ longer → StandsAt (i + 1) (record { state = next; counts = p.counts; waiting = later; written = p.written; stalls = p.stalls })
-          follows_stands later is = subst (λ (js : List JobSeen). StandsAt (i + 1) (record { state = next; counts = p.counts; waiting = js; written = p.written; stalls = p.stalls })) (sym is) (record {
-            done = s.done;
-            behind = further;
-            can = can_next;
-            ready = ready_next longer (longer_ready l.before l.last (event_lines names e a) (subst (λ (js : List JobSeen). All (CanBeAnswered p.state.world.definitions) js) l.jobs_are s.ready));
-            follow = behind_more names bounds p.state.world l.before l.last l.entries l.behind e a quiet split;
-            onward = follows_onward;
-            counted = s.counted;
-            many = let m = s.many in let n : count_waited s.behind ≡ count_waited (l.entries ++ l.behind ∷ []) = ap count_waited l.entries_are in omega (arith, m, n, count_more names bounds p.state.world l.entries l.behind (Answered e a));
-            answered = s.answered;
-            written = s.written;
-            stalls = s.stalls;
-          })
-
-        pub follows : (later : List JobSeen) → IsFollowed p.waiting (event_lines names e a) later → StandsAt (i + 1) (record { state = next; counts = p.counts; waiting = later; written = p.written; stalls = p.stalls })
-        follows later f =
-            let l = has_last names bounds p.state.world p.waiting s.behind some s.follow in
-            follows_stands l later (f.says l.before l.last l.jobs_are)
+    -- ---- a mark behind a job
+    pub mark_follows : (m : Mark) → slice_get c.book.items i ≡ Some (item.Mark m) → 0 < length p.waiting → (later : List JobSeen) → IsFollowed p.waiting (mark_line names m ∷ []) later → StandsAt (i + 1) (record { state = p.state; counts = p.counts; waiting = later; written = p.written; stalls = p.stalls })
+    mark_follows m at some later f =
+        joins (Marked m) tt p.state s.can refl (λ js given h. h) (walk_mark m at) some later f
 
     -- ---- no job waits
     module _ (none : p.waiting ≡ []) where
-      plain_onward : (entries : List Entry) → Walk names bounds p.state (drop i c.book.list) c.book.end entries → IsWhole (s.done ++ entries)
+      plain_onward : (entries : List Entry) → Walk names bounds p.state (drop i c.book.items) c.book.finish entries → IsWhole (s.done ++ entries)
       plain_onward entries w =
           subst (λ (js : List JobSeen). IsWhole (s.done ++ (waited js s.behind [] ++ entries))) none (s.onward [] (subst (λ (js : List JobSeen). AreAnswered bounds p.state.world js []) (sym none) tt) entries w)
 
@@ -433,15 +458,15 @@ module _ (names : List (List ℕ)) (bounds : Bounds) (last : Bool) (c : Course) 
           let m = s.many in omega (arith, n, m)
 
       -- the next event is answered at once
-      module _ (form : Form) (at : slice_get c.book.list i ≡ Some form) (e : EventSeen) (a : Answer) (means : event_in names p.state form.tree ≡ Ok e) (proper : IsProperAnswer bounds p.state.world p.state.memoized e a) where
+      module _ (form : Form) (at : slice_get c.book.items i ≡ Some (item.Form form)) (e : EventSeen) (a : Answer) (means : event_in names p.state form.tree ≡ Ok e) (proper : IsProperAnswer bounds p.state.world p.state.memoized e a) where
         module _ (valued : refused_cause e a ≡ None) where
           abbrev one : List Entry
           one = Answered e a ∷ []
 
-          one_onward : (entries : List Entry) → Walk names bounds (state_after p.state form.tree e a) (drop (i + 1) c.book.list) c.book.end entries → IsWhole ((s.done ++ one) ++ entries)
+          one_onward : (entries : List Entry) → Walk names bounds (state_after p.state form.tree e a) (drop (i + 1) c.book.items) c.book.finish entries → IsWhole ((s.done ++ one) ++ entries)
           one_onward entries w =
               subst IsWhole (sym (append_assoc s.done one entries))
-              (plain_onward (Answered e a ∷ entries) (subst (λ (fs : List Form). Walk names bounds p.state fs c.book.end (Answered e a ∷ entries)) (sym (next_form c.book.list i form at)) (event p.state form (drop (i + 1) c.book.list) c.book.end entries e a means proper valued w)))
+              (plain_onward (Answered e a ∷ entries) (subst (λ (xs : List Item). Walk names bounds p.state xs c.book.finish (Answered e a ∷ entries)) (sym (next_item c.book.items i (item.Form form) at)) (event p.state form (drop (i + 1) c.book.items) c.book.finish entries e a means proper valued w)))
 
           one_can : CanGoOn (state_after p.state form.tree e a)
           one_can = after_event names p.state form.tree e a s.can means
@@ -458,12 +483,30 @@ module _ (names : List (List ℕ)) (bounds : Bounds) (last : Bool) (c : Course) 
               more_front one (event_lines names e a) (stalls_of a) (append-nil (event_lines names e a)) (append-nil (stalls_of a)) (state_after p.state form.tree e a) (i + 1) one_can one_onward now after g k
 
         -- it has no value
-        pub ends_without : (why : Cause) → refused_cause e a ≡ Some why → why ≢ cause.Memory → Walk names bounds p.state (drop i c.book.list) c.book.end (Refused (refusal_at form (code.Constant why)) ∷ [])
+        pub ends_without : (why : Cause) → refused_cause e a ≡ Some why → why ≢ cause.Memory → Walk names bounds p.state (drop i c.book.items) c.book.finish (Refused (refusal_at form (code.Constant why)) ∷ [])
         ends_without why has other =
-            subst (λ (fs : List Form). Walk names bounds p.state fs c.book.end (Refused (refusal_at form (code.Constant why)) ∷ [])) (sym (next_form c.book.list i form at)) (without_value p.state form (drop (i + 1) c.book.list) c.book.end e a why means proper has other)
+            subst (λ (xs : List Item). Walk names bounds p.state xs c.book.finish (Refused (refusal_at form (code.Constant why)) ∷ [])) (sym (next_item c.book.items i (item.Form form) at)) (without_value p.state form (drop (i + 1) c.book.items) c.book.finish e a why means proper has other)
+
+      -- a mark is written at once
+      module _ (m : Mark) (at : slice_get c.book.items i ≡ Some (item.Mark m)) where
+        abbrev mark : List Entry
+        mark = Marked m ∷ []
+
+        mark_onward : (entries : List Entry) → Walk names bounds p.state (drop (i + 1) c.book.items) c.book.finish entries → IsWhole ((s.done ++ mark) ++ entries)
+        mark_onward entries w = subst IsWhole (sym (append_assoc s.done mark entries)) (plain_onward (Marked m ∷ entries) (walk_mark m at entries w))
+
+        pub mark_passes : (q : Place) → q.state ≡ p.state → q.waiting ≡ [] → q.counts ≡ p.counts → Grows p.written q.written (told_before last (mark_line names m ∷ [])) → q.stalls ≡ p.stalls → StandsAt (i + 1) q
+        mark_passes q same gone n g k =
+            more_stands mark (mark_line names m ∷ []) [] refl refl p.state (i + 1) s.can mark_onward q same gone
+            (n ∙ (s.counted ∙ sym (counts_marked s.done m)))
+            (let m = plain_many in omega (arith, m, length-append s.done mark))
+            (still_unrefused s.done m s.answered) g (k ∙ sym (append-nil p.stalls))
+
+        pub mark_front : (now : Option (List ℕ)) (after : List StallSeen) → (n : ℕ) × Grows p.written now (take n (told_before last (mark_line names m ∷ []))) → after ≡ p.stalls → Front now after
+        mark_front now after g k = more_front mark (mark_line names m ∷ []) [] refl refl p.state (i + 1) s.can mark_onward now after g (0, k ∙ sym (append-nil p.stalls))
 
       -- the end, by these last entries
-      module _ (r : Option Refusal) (ends : Walk names bounds p.state (drop i c.book.list) c.book.end (closing r)) where
+      module _ (r : Option Refusal) (ends : Walk names bounds p.state (drop i c.book.items) c.book.finish (closing r)) where
         whole_told : told last (transcript_lines names (s.done ++ closing r)) ≡ so_far last names s.done ++ told last (closing_lines p.counts r)
         whole_told = told_whole last names s.done (closing r) ∙ ap (λ ls. so_far last names s.done ++ told last ls) (lines_that_close names s.done r ∙ ap (λ k. closing_lines k r) (sym s.counted))
 
@@ -493,14 +536,10 @@ module _ (names : List (List ℕ)) (bounds : Bounds) (last : Bool) (c : Course) 
               (f.0, s.stalls ∙ ap (λ ss. c.stalls ++ ss) (sym (append-nil (stalls_in s.done)) ∙ f.1)),
             )
 
-    -- ---- what comes of the forms left
-    pub ends_refused : (form : Form) → slice_get c.book.list i ≡ Some form → (fault : EventFault) → event_in names p.state form.tree ≡ Err fault → Walk names bounds p.state (drop i c.book.list) c.book.end (Refused (refusal_at form (code.Event fault)) ∷ [])
+    -- ---- what comes of the items left
+    pub ends_refused : (form : Form) → slice_get c.book.items i ≡ Some (item.Form form) → (fault : EventFault) → event_in names p.state form.tree ≡ Err fault → Walk names bounds p.state (drop i c.book.items) c.book.finish (Refused (refusal_at form (code.Event fault)) ∷ [])
     ends_refused form at fault means =
-        subst (λ (fs : List Form). Walk names bounds p.state fs c.book.end (Refused (refusal_at form (code.Event fault)) ∷ [])) (sym (next_form c.book.list i form at)) (refused p.state form (drop (i + 1) c.book.list) c.book.end fault means)
+        subst (λ (xs : List Item). Walk names bounds p.state xs c.book.finish (Refused (refusal_at form (code.Event fault)) ∷ [])) (sym (next_item c.book.items i (item.Form form) at)) (refused p.state form (drop (i + 1) c.book.items) c.book.finish fault means)
 
-    pub ends_whole : length c.book.list ≤ i → Walk names bounds p.state (drop i c.book.list) c.book.end (closing (end_refusal c.book.end))
-    ends_whole h = subst (λ (fs : List Form). Walk names bounds p.state fs c.book.end (closing (end_refusal c.book.end))) (sym (none_left c.book.list i h)) (last_walk c.book.end p.state)
-      where
-        last_walk : (end : End) (state : BookState) → Walk names bounds state [] end (closing (end_refusal end))
-        last_walk Clean state = ended state
-        last_walk (Bad line column fault) state = bad state line column fault
+    pub ends_whole : length c.book.items ≤ i → Walk names bounds p.state (drop i c.book.items) c.book.finish (closing (refusal_of c.book.finish))
+    ends_whole h = subst (λ (xs : List Item). Walk names bounds p.state xs c.book.finish (closing (refusal_of c.book.finish))) (sym (none_left c.book.items i h)) (last_walk names bounds c.book.finish p.state)

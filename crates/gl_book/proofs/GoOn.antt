@@ -13,7 +13,7 @@ use Rattle.gl_logic.proofs.TotalWorlds.{world_is_total}
 use Rattle.gl_logic.proofs.Walks.{walk_of_value}
 use Rattle.gl_decide.specs.Bounds.{Bounds}
 use Rattle.gl_decide.specs.declared.verdict.Verdict.TheVariants as verdict
-use Rattle.event_world.specs.EventSeen.{EventSeen, Nothing, Redundant, Defun, Defconst, Value, Assert, Memoize, Unmemoize, SetMode, Theorem, Clique, RedundantClique}
+use Rattle.event_world.specs.EventSeen.{EventSeen, Nothing, Redundant, Defun, Defconst, Value, Assert, Memoize, Unmemoize, SetMode, Theorem, Cases, Clique, RedundantClique}
 use Rattle.event_world.specs.EventWords.{behind_head}
 use Rattle.event_world.specs.NextState.{BookState, with_members}
 use Rattle.event_world.specs.Suits.{Suits, HasAllGround, IsClosedTerm, IsNewDefinition}
@@ -24,6 +24,8 @@ use Rattle.gl_book.specs.declared.answer.Answer.{Answer}
 use Rattle.gl_book.specs.declared.answer.Answer.TheVariants as answer
 use Rattle.gl_book.specs.declared.answer.Cause.{Cause}
 use Rattle.gl_book.specs.declared.answer.Cause.TheVariants as cause
+use Rattle.gl_book.specs.declared.cases.CasesVerdict.TheVariants as whole
+use Rattle.gl_book.proofs.PartsDecided.{memory_decides}
 use Rattle.gl_book.proofs.Wideness.{wide_or_narrow, large_or_not}
 
 -- ---- worlds
@@ -67,6 +69,7 @@ after_suited s form (Memoize f) a h k = same_world s _ h refl refl
 after_suited s form (Unmemoize f) a h k = same_world s _ h refl refl
 after_suited s form (SetMode m) a h k = same_world s _ h refl refl
 after_suited s form (Theorem thm) a h k = same_world s _ h refl refl
+after_suited s form (Cases thm) a h k = same_world s _ h refl refl
 after_suited s form (Clique ds) a h k = let m = members_noted (record s.world { definitions = s.world.definitions ++ ds; cliques = s.world.cliques ++ length ds ∷ [] }) ds (behind_head form) in with_more s _ ds h (k.clique h.ground) m.0 m.1
 after_suited s form (RedundantClique ns) a h k = same_world s _ h refl refl
 
@@ -119,5 +122,6 @@ some_answer bounds s (Memoize f) h k = record { answer = function_answer s.world
 some_answer bounds s (Unmemoize f) h k = record { answer = function_answer s.world f; proper = function_is s.world f k; comes = inl refl }
 some_answer bounds s (SetMode m) h k = record { answer = answer.Done; proper = tt; comes = inl refl }
 some_answer bounds s (Theorem thm) h k = record { answer = answer.Decided verdict.Memory; proper = tt; comes = inl refl }
+some_answer bounds s (Cases thm) h k = record { answer = answer.ByCases (whole.Cover verdict.Memory); proper = memory_decides bounds s.world thm k.parts; comes = inl refl }
 some_answer bounds s (Clique ds) h k = record { answer = answer.Done; proper = tt; comes = inl refl }
 some_answer bounds s (RedundantClique ns) h k = record { answer = answer.Done; proper = tt; comes = inl refl }

@@ -16,10 +16,14 @@ pub mod Onward
 pub mod Ends
 pub mod Completeness
 pub mod Shares
+pub mod PartsDecided
 pub mod Looks
 pub mod Phases
+pub mod Gathered
 pub mod Shared
 pub mod Waited
 pub mod Puts
 pub mod Crosses
 pub mod Ways
+pub mod Alone
+pub mod Lasts

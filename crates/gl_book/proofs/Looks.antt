@@ -3,7 +3,7 @@ use Rattle.std.proofs.Common.{ℕ, List, [], ◌∷◌}
 use Rattle.gl_logic.specs.Object.{Object}
 use Rattle.gl_logic.specs.Exp.{Exp}
 use Rattle.gl_logic.specs.WorldSeen.{WorldSeen}
-use Rattle.event_world.specs.EventSeen.{TheoremSeen, EventSeen, Nothing, Redundant, Defun, Defconst, Value, Assert, Memoize, Unmemoize, SetMode, Theorem, Clique, RedundantClique}
+use Rattle.event_world.specs.EventSeen.{TheoremSeen, EventSeen, Nothing, Redundant, Defun, Defconst, Value, Assert, Memoize, Unmemoize, SetMode, Theorem, Cases, Clique, RedundantClique}
 use Rattle.gl_decide.specs.Bounds.{Bounds}
 use Rattle.gl_decide.specs.Causes.{IsOutOfSteps, IsOutOfCells}
 use Rattle.gl_decide.specs.Stalls.{StallSeen, IsStallOf}
@@ -12,7 +12,9 @@ use Rattle.gl_decide.specs.Verdicts.{IsProperVerdict}
 use Rattle.gl_decide.specs.declared.stall.StallCause.{StallCause}
 use Rattle.gl_decide.specs.declared.verdict.Verdict.{Verdict}
 use Rattle.gl_decide.specs.declared.verdict.Verdict.TheVariants as verdict
-use Rattle.gl_book.specs.Answers.{IsValue, HasCause, IsProperValue, IsProperTruth, IsDecided, IsFunctionNamed, IsProperAnswer, decided_theorem}
+use Rattle.gl_cases.specs.Parts.{ParamSeen}
+use Rattle.gl_book.specs.Cases.{AreProperVerdicts, IsDecidedByCases, decided_theorem}
+use Rattle.gl_book.specs.Answers.{IsValue, HasCause, IsProperValue, IsProperTruth, IsDecided, IsSettled, IsFunctionNamed, IsProperAnswer}
 use Rattle.gl_book.specs.Phases.{JobSeen, AreAnswered, with_one_worker}
 use Rattle.gl_book.specs.declared.answer.Cause.{Cause}
 use Rattle.gl_book.specs.declared.answer.Cause.TheVariants as cause
@@ -51,6 +53,7 @@ module _ (bounds : Bounds) (workers : ℕ) (w : WorldSeen) (cliques : List ℕ) 
   value_answer_looks memoized t (answer.Function f) h = absurd h
   value_answer_looks memoized t (answer.Truth b) h = absurd h
   value_answer_looks memoized t (answer.Decided v) h = absurd h
+  value_answer_looks memoized t (answer.ByCases v) h = absurd h
 
   truth_answer_looks : (memoized : List ℕ) (t : Exp) (a : Answer) → IsProperTruth bounds w memoized t a → IsProperTruth others later memoized t a
   truth_answer_looks memoized t (answer.Truth b) h = (h.0, value_looks t h.0 h.1, h.2)
@@ -59,6 +62,7 @@ module _ (bounds : Bounds) (workers : ℕ) (w : WorldSeen) (cliques : List ℕ) 
   truth_answer_looks memoized t (answer.Function f) h = absurd h
   truth_answer_looks memoized t (answer.Value x) h = absurd h
   truth_answer_looks memoized t (answer.Decided v) h = absurd h
+  truth_answer_looks memoized t (answer.ByCases v) h = absurd h
 
   -- ---- verdicts
   stall_looks : (thm : decide.Theorem) (c : StallCause) (s : StallSeen) → IsStallOf w thm c s → IsStallOf later thm c s
@@ -84,6 +88,29 @@ module _ (bounds : Bounds) (workers : ℕ) (w : WorldSeen) (cliques : List ℕ) 
   decided_looks thm (answer.Value x) h = absurd h
   decided_looks thm (answer.Truth b) h = absurd h
   decided_looks thm (answer.Undecided c) h = absurd h
+  decided_looks thm (answer.ByCases v) h = absurd h
+
+  verdicts_look : (thms : List TheoremSeen) (vs : List Verdict) → AreProperVerdicts bounds w thms vs → AreProperVerdicts others later thms vs
+  verdicts_look [] [] h = tt
+  verdicts_look (thm ∷ thms) (v ∷ vs) h = (verdict_looks (decided_theorem thm) v h.0, verdicts_look thms vs h.1)
+  verdicts_look [] (v ∷ vs) h = absurd h
+  verdicts_look (thm ∷ thms) [] h = absurd h
+
+  settled_looks : (thm : ParamSeen) (a : Answer) → IsSettled bounds w thm a → IsSettled others later thm a
+  settled_looks thm (answer.ByCases v) h = record {
+    cover = h.cover;
+    cases = h.cases;
+    covered = verdict_looks (decided_theorem thm.cover) h.cover h.covered;
+    each = verdicts_look thm.cases h.cases h.each;
+    comes = h.comes;
+    proper = h.proper;
+  }
+  settled_looks thm answer.Done h = absurd h
+  settled_looks thm (answer.Function f) h = absurd h
+  settled_looks thm (answer.Value x) h = absurd h
+  settled_looks thm (answer.Truth b) h = absurd h
+  settled_looks thm (answer.Undecided c) h = absurd h
+  settled_looks thm (answer.Decided v) h = absurd h
 
   -- ---- the whole
   named_looks : (f : ℕ) (a : Answer) → IsFunctionNamed w f a → IsFunctionNamed later f a
@@ -93,6 +120,7 @@ module _ (bounds : Bounds) (workers : ℕ) (w : WorldSeen) (cliques : List ℕ) 
   named_looks f (answer.Truth b) h = absurd h
   named_looks f (answer.Undecided c) h = absurd h
   named_looks f (answer.Decided v) h = absurd h
+  named_looks f (answer.ByCases v) h = absurd h
 
   answer_looks : (memoized : List ℕ) (e : EventSeen) (a : Answer) → IsProperAnswer bounds w memoized e a → IsProperAnswer others later memoized e a
   answer_looks memoized (Value t) a h = value_answer_looks memoized t a h
@@ -101,6 +129,7 @@ module _ (bounds : Bounds) (workers : ℕ) (w : WorldSeen) (cliques : List ℕ) 
   answer_looks memoized (Memoize f) a h = named_looks f a h
   answer_looks memoized (Unmemoize f) a h = named_looks f a h
   answer_looks memoized (Theorem thm) a h = decided_looks thm a h
+  answer_looks memoized (Cases thm) a h = settled_looks thm a h
   answer_looks memoized Nothing a h = h
   answer_looks memoized (Redundant name) a h = h
   answer_looks memoized (Defun d) a h = h

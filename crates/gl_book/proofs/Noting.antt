@@ -17,6 +17,7 @@ use Rattle.sexp_print.proofs.Steps.{element_out}
 use Rattle.event_world.specs.EventWords.{behind_head}
 use Rattle.event_world.specs.NextState.{with_members}
 use Rattle.event_world.specs.Suits.{IsNewName}
+use Rattle.gl_book.proofs.Phases.{every_at}
 
 -- ---- forms
 pub none_left : (w : WorldSeen) (ds : List Definition) (t : Object) → IsAtom t → with_members w ds t ≡ w
@@ -60,11 +61,6 @@ past_all [] zero h = refl
 past_all [] (suc n) h = refl
 past_all (x ∷ xs) zero h = absurd (omega (arith, h))
 past_all (x ∷ xs) (suc n) h = past_all xs n (omega (arith, h))
-
-every_at : (P : ℕ → Type 0) (xs : List ℕ) (k x : ℕ) → Every P xs → slice_get xs k ≡ Some x → P x
-every_at P [] k x h e = absurd cc
-every_at P (y ∷ ys) zero x h e = let z : y ≡ x = cc in subst P z h.0
-every_at P (y ∷ ys) (suc k) x h e = every_at P ys k x h.1 e
 
 named_at : (ds : List Definition) (n k : ℕ) (d : Definition) → n ≤ k → slice_get ds k ≡ Some d → slice_get (definition_names (drop n ds)) (k - n) ≡ Some d.name
 named_at ds n k d h e = slice_get-map (λ (c : Definition). c.name) (drop n ds) (k - n) ∙ ap (option_map (λ (c : Definition). c.name)) (get_drop ds n k h ∙ e)

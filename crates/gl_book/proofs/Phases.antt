@@ -3,6 +3,7 @@ use Rattle.std.proofs.Common.{◌≡◌, ◌∙◌, ap, sym, refl, subst, ℕ, z
 use Rattle.std.specs.List.{All}
 use Rattle.std.proofs.lemmas.List.Elements.{All-get_or, All-cons, All-nil}
 use Rattle.std.proofs.lemmas.Option.{get_or_from_slice_get, slice_get_within}
+use Rattle.gl_logic.specs.Every.{Every}
 use Rattle.gl_logic.specs.WorldSeen.{WorldSeen}
 use Rattle.gl_logic.specs.declared.ids.NoMemory.{NoMemory}
 use Rattle.gl_decide.specs.Bounds.{Bounds}
@@ -14,6 +15,11 @@ use Rattle.gl_book.specs.declared.piece.Piece.{Piece}
 -- ---- lists
 pub all_at : {A : Type 0} (P : A → Type 0) (xs : List A) (i : ℕ) (x : A) → All P xs → slice_get xs i ≡ Some x → P x
 all_at P xs i x h at = subst P (get_or_from_slice_get xs i x x at) (All-get_or P xs i x (slice_get_within xs i x at) h)
+
+pub every_at : {A : Type 0} (P : A → Type 0) (xs : List A) (i : ℕ) (x : A) → Every P xs → slice_get xs i ≡ Some x → P x
+every_at P [] i x h e = absurd cc
+every_at P (y ∷ ys) zero x h e = let z : y ≡ x = cc in subst P z h.0
+every_at P (y ∷ ys) (suc i) x h e = every_at P ys i x h.1 e
 
 -- the last element of a list is one
 last_unique : {A : Type 0} (xs ys : List A) (x y : A) → xs ++ x ∷ [] ≡ ys ++ y ∷ [] → (xs ≡ ys) × (x ≡ y)
@@ -71,7 +77,7 @@ take_drop [] (suc a) (suc b) h = take_none (suc b - suc a) [] refl
 take_drop (x ∷ xs) (suc a) zero h = absurd (omega (arith, h))
 take_drop (x ∷ xs) (suc a) (suc b) h = let e : suc b - suc a ≡ b - a = omega arith in ap (λ n. take n (drop a xs) ++ drop b xs) e ∙ take_drop xs a b (omega (arith, h))
 
-drop_all : {A : Type 0} (xs : List A) (n : ℕ) → length xs ≤ n → drop n xs ≡ []
+pub drop_all : {A : Type 0} (xs : List A) (n : ℕ) → length xs ≤ n → drop n xs ≡ []
 drop_all [] zero h = refl
 drop_all [] (suc n) h = refl
 drop_all (x ∷ xs) zero h = absurd (omega (arith, h))

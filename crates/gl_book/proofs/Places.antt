@@ -6,6 +6,7 @@ use Rattle.std.specs.Option.{option_and_then}
 use Rattle.gl_logic.specs.Object.{Object}
 use Rattle.gl_logic.specs.Exp.{Exp}
 use Rattle.gl_logic.specs.Definition.{Definition}
+use Rattle.gl_logic.specs.Every.{Every}
 use Rattle.gl_logic.specs.WorldSeen.{WorldSeen}
 use Rattle.gl_logic.specs.declared.def.Measure.{Measure}
 use Rattle.gl_translate.specs.declared.fault.TermFault.TheVariants as term_fault
@@ -16,7 +17,7 @@ use Rattle.shape_spec.specs.declared.theorem.Mode.TheVariants as mode
 use Rattle.event_world.specs.declared.fault.EventFault.TheVariants as code
 use Rattle.event_world.specs.declared.word.EventWord.{EventWord}
 use Rattle.event_world.specs.declared.word.EventWord.TheVariants as word
-use Rattle.event_world.specs.EventSeen.{TheoremSeen, EventSeen, Nothing, Redundant, RedundantClique, SetMode, Memoize, Unmemoize, Value, Assert, Defun, Defconst, Theorem, Clique}
+use Rattle.event_world.specs.EventSeen.{TheoremSeen, EventSeen, Nothing, Redundant, RedundantClique, SetMode, Memoize, Unmemoize, Value, Assert, Defun, Defconst, Theorem, Cases, Clique}
 use Rattle.event_world.specs.Outcomes.{Outcome, found_or, holds_or}
 use Rattle.event_world.specs.EventWords.{word_of, behind_head}
 use Rattle.event_world.specs.PartsOf.{is_empty, one_of, two_of, three_of}
@@ -28,6 +29,10 @@ use Rattle.admission.specs.Admitted.{settled}
 use Rattle.event_world.specs.CliqueMeant.{clique_parts, all_stated, are_new, all_made, owns_of, members_meant, with_settled, clique_admitted, clique_judged, clique_made, clique_meant}
 use Rattle.admission.specs.Refused.{first_refused}
 use Rattle.event_world.specs.TheoremMeant.{theorem_parts, clocks_meant, claim_meant, hyp_meant, bound_meant, theorem_made, theorem_meant}
+use Rattle.gl_cases.specs.TheoremSeen.{set_by}
+use Rattle.gl_cases.specs.ParamMade.{param_set}
+use Rattle.event_world.specs.KeywordTexts.{case_texts, option_texts}
+use Rattle.event_world.specs.CasesMeant.{cases_parts, quoted_cases, cases_claimed, param_meant}
 use Rattle.event_world.specs.RedundantMeant.{repeated_name, repeated_member, are_repeated, checked_repeated, redundant, redundant_meant}
 use Rattle.event_world.specs.EventMeant.{checked, unless_redundant, event_meant}
 use Rattle.event_world.specs.Suits.{Suits, IsNewTheorem}
@@ -37,11 +42,15 @@ use Rattle.gl_logic.specs.FreeVariables.{is_free_in}
 use Rattle.admission.proofs.Arguments.{eqb_turned}
 use Rattle.shape_spec.specs.Indices.{variables_of}
 use Rattle.coverage.specs.Sound.{AllAreBound}
-use Rattle.gl_book.specs.Answers.{IsOfDefinitions, IsAnswerable}
+use Rattle.gl_book.specs.Answers.{IsOfDefinitions, IsReadyTheorem, IsAnswerable}
+
+abbrev IsKeptBy : List ℕ → TheoremSeen → Type 0
+IsKeptBy memoized thm = thm.memoized ≡ memoized
 
 -- its calls are kept of the functions that are kept at its place
 abbrev pub HasPlace : List ℕ → EventSeen → Type 0
-HasPlace memoized (Theorem thm) = thm.memoized ≡ memoized
+HasPlace memoized (Theorem thm) = IsKeptBy memoized thm
+HasPlace memoized (Cases thm) = IsKeptBy memoized thm.cover × Every (IsKeptBy memoized) thm.cases
 HasPlace memoized _ = Unit {0}
 
 module _ (memoized : List ℕ) where
@@ -95,12 +104,25 @@ module _ (memoized : List ℕ) where
     theorem_place : (now : Mode) (parts : List Object) (e : EventSeen) → theorem_meant names w now memoized parts ≡ Ok e → HasPlace memoized e
     theorem_place now parts e h =
         found_ok code.BadEvent (theorem_parts names parts) _ e h (λ p hp h1.
-        found_ok code.BadOption (clocks_meant names p.options) _ e h1 (λ clocks hk h2.
+        found_ok code.BadOption (clocks_meant names option_texts p.options) _ e h1 (λ clocks hk h2.
         holds_ok code.Redefined (not (is_taken names w p.name)) _ e h2 (λ new h3.
         then_ok (hyp_meant names w p.hyp) _ e h3 (λ a ha h4.
         then_ok (claim_meant names w p.concl) _ e h4 (λ c hc h5.
         then_ok (bound_meant names p.bindings a c) _ e h5 (λ b hb r.
         placed_at (Theorem (theorem_made now memoized p clocks a c b)) e refl r))))))
+
+    param_place : (now : Mode) (parts : List Object) (e : EventSeen) → param_meant names w now memoized parts ≡ Ok e → HasPlace memoized e
+    param_place now parts e h =
+        found_ok code.BadEvent (cases_parts names parts) _ e h (λ p hp h1.
+        found_ok code.BadOption (clocks_meant names case_texts p.options) _ e h1 (λ clocks hk h2.
+        found_ok code.BadCases (quoted_cases names p) _ e h2 (λ q hq h3.
+        holds_ok code.Redefined (not (is_taken names w p.name)) _ e h3 (λ new h4.
+        then_ok (cases_claimed names w p q) _ e h4 (λ thm ht r.
+        placed_at (Cases (param_set clocks.0 clocks.1 now memoized thm)) e (refl, all_set clocks.0 clocks.1 now thm.cases) r)))))
+      where
+        all_set : (h c : ℕ) (m : Mode) (thms : List TheoremSeen) → Every (IsKeptBy memoized) (map (set_by h c m memoized) thms)
+        all_set h c m [] = tt
+        all_set h c m (thm ∷ thms) = (refl, all_set h c m thms)
 
     checked_place : (now : Mode) (k : EventWord) (xs : List Object) (e : EventSeen) → checked names w now memoized k xs ≡ Ok e → HasPlace memoized e
     checked_place now word.InPackage xs e h = plain_place (is_package names (one_of xs)) Nothing e tt h
@@ -114,7 +136,9 @@ module _ (memoized : List ℕ) where
     checked_place now word.Unmemoize xs e h = memo_place Unmemoize xs e (λ f. tt) h
     checked_place now word.BddMode xs e h = plain_place (is_empty xs) (SetMode mode.Bdd) e tt h
     checked_place now word.SatMode xs e h = plain_place (is_empty xs) (SetMode mode.Sat) e tt h
+    checked_place now word.ParamMode xs e h = plain_place (is_empty xs) (SetMode mode.Param) e tt h
     checked_place now word.Theorem xs e h = theorem_place now xs e h
+    checked_place now word.ParamTheorem xs e h = param_place now xs e h
 
     -- ---- redundant events
     repeated_place : (form : Object) (e : EventSeen) → redundant w form ≡ Some e → HasPlace memoized e
@@ -136,7 +160,9 @@ module _ (memoized : List ℕ) where
     redundant_place word.Unmemoize form o e h = none_some e h
     redundant_place word.BddMode form o e h = none_some e h
     redundant_place word.SatMode form o e h = none_some e h
+    redundant_place word.ParamMode form o e h = none_some e h
     redundant_place word.Theorem form o e h = repeated_place form e h
+    redundant_place word.ParamTheorem form o e h = repeated_place form e h
 
     unless_place : (o : Option EventSeen) (further : Outcome EventSeen) (e : EventSeen) → ((r : EventSeen) → o ≡ Some r → HasPlace memoized r) → (further ≡ Ok e → HasPlace memoized e) → unless_redundant o further ≡ Ok e → HasPlace memoized e
     unless_place (Some r) further e f g h = placed_at r e (f r refl) h
@@ -158,6 +184,18 @@ any_turned v (u ∷ us) = λ i. eqb_turned u v i || any_turned v us i
 all_bound : (w : WorldSeen) (thm : TheoremSeen) → IsNewTheorem w thm → AllAreBound thm.hyp thm.concl thm.bindings
 all_bound w thm h = λ v free. any_turned v (variables_of thm.bindings) ∙ or_true (is_free_in thm.hyp v) (is_free_in thm.concl v) free (h.hyp_bound v) (h.concl_bound v)
 
+ready_theorem : (w : WorldSeen) (memoized : List ℕ) (thm : TheoremSeen) → All (λ f. f < length w.definitions) memoized → IsNewTheorem w thm → IsKeptBy memoized thm → IsReadyTheorem w.definitions thm
+ready_theorem w memoized thm fs s p = record {
+  hyp = s.hyp;
+  concl = s.concl;
+  functions = subst (λ (ms : List ℕ). All (λ f. f < length w.definitions) ms) (sym p) fs;
+  bound = all_bound w thm s;
+}
+
+all_ready : (w : WorldSeen) (memoized : List ℕ) (thms : List TheoremSeen) → All (λ f. f < length w.definitions) memoized → Every (IsNewTheorem w) thms → Every (IsKeptBy memoized) thms → Every (IsReadyTheorem w.definitions) thms
+all_ready w memoized [] fs s p = tt
+all_ready w memoized (thm ∷ thms) fs s p = (ready_theorem w memoized thm fs s.0 p.0, all_ready w memoized thms fs s.1 p.1)
+
 of_definitions : (w : WorldSeen) (memoized : List ℕ) (e : EventSeen) → All (λ f. f < length w.definitions) memoized → Suits w e → HasPlace memoized e → IsOfDefinitions w.definitions e
 of_definitions w memoized Nothing fs s p = tt
 of_definitions w memoized (Redundant name) fs s p = tt
@@ -168,12 +206,8 @@ of_definitions w memoized (Assert t) fs s p = s.term
 of_definitions w memoized (Memoize f) fs s p = s
 of_definitions w memoized (Unmemoize f) fs s p = s
 of_definitions w memoized (SetMode m) fs s p = tt
-of_definitions w memoized (Theorem thm) fs s p = record {
-  hyp = s.hyp;
-  concl = s.concl;
-  functions = subst (λ (ms : List ℕ). All (λ f. f < length w.definitions) ms) (sym p) fs;
-  bound = all_bound w thm s;
-}
+of_definitions w memoized (Theorem thm) fs s p = ready_theorem w memoized thm fs s p
+of_definitions w memoized (Cases thm) fs s p = record { cover = ready_theorem w memoized thm.cover fs s.cover p.0; cases = all_ready w memoized thm.cases fs s.cases p.1; parts = s.parts; few = s.few }
 of_definitions w memoized (Clique ds) fs s p = tt
 of_definitions w memoized (RedundantClique ns) fs s p = tt
 

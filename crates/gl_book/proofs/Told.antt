@@ -9,10 +9,8 @@ use Rattle.gl_base.specs.Outside.{Grows}
 use Rattle.gl_base.proofs.Growth.{grows-then}
 use Rattle.gl_book.specs.Transcript.{told}
 use Rattle.gl_book.specs.Stops.{told_before}
-use Rattle.event_world.specs.EventSeen.{EventSeen}
-use Rattle.gl_book.specs.Entry.{Entry, Answered}
-use Rattle.gl_book.specs.Lines.{entry_lines, event_lines, transcript_lines, counts_of, done_line}
-use Rattle.gl_book.specs.declared.answer.Answer.{Answer}
+use Rattle.gl_book.specs.Entry.{Entry}
+use Rattle.gl_book.specs.Lines.{entry_lines, transcript_lines, counts_of, done_line}
 
 -- ---- fronts
 pub grows_nothing : (a : Option (List ℕ)) → Grows a a []
@@ -58,11 +56,6 @@ abbrev pub so_far : Bool → List (List ℕ) → List Entry → List ℕ
 so_far last names done = told_before last (flat_map (entry_lines names) done)
 
 module _ (last : Bool) (names : List (List ℕ)) (done : List Entry) where
-  pub so_far_more : (e : EventSeen) (a : Answer) → so_far last names (done ++ Answered e a ∷ []) ≡ so_far last names done ++ told_before last (event_lines names e a)
-  so_far_more e a =
-      ap (told_before last) (flat_map-append (entry_lines names) done (Answered e a ∷ []) ∙ ap (λ ls. flat_map (entry_lines names) done ++ ls) (append-nil (event_lines names e a)))
-      ∙ told_before_split last (flat_map (entry_lines names) done) (event_lines names e a)
-
   -- the whole of these entries and more is what is told so far, and something behind it
   pub told_whole : (more : List Entry) → told last (transcript_lines names (done ++ more)) ≡ so_far last names done ++ told last (flat_map (entry_lines names) more ++ done_line (counts_of (done ++ more)) ∷ [])
   told_whole more =

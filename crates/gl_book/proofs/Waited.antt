@@ -6,17 +6,16 @@ use Rattle.std.proofs.lemmas.List.{take-append-drop}
 use Rattle.std.proofs.lemmas.List.Concat.{flat_map-append}
 use Rattle.gl_logic.specs.Every.{Every}
 use Rattle.gl_logic.specs.WorldSeen.{WorldSeen}
-use Rattle.event_world.specs.EventSeen.{EventSeen}
 use Rattle.gl_decide.specs.Bounds.{Bounds}
 use Rattle.gl_decide.specs.Stalls.{StallSeen}
 use Rattle.gl_book.specs.Courses.{IsQuiet, AreBehind, waited, count_waited, phase_lines, counts_after}
-use Rattle.gl_book.specs.Entry.{Entry, Answered, Refused, entry_stalls, stalls_of, stalls_in}
+use Rattle.gl_book.specs.Entry.{Entry, Answered, Marked, Refused, entry_stalls, stalls_of, stalls_in}
 use Rattle.gl_book.specs.Lines.{entry_lines, event_lines, counts_of, is_refusal}
 use Rattle.gl_book.specs.Phases.{JobSeen, IsAnsweredBy, AreAnswered}
 use Rattle.gl_book.specs.Stops.{counts_with}
 use Rattle.gl_book.specs.declared.answer.Answer.{Answer}
 use Rattle.gl_book.specs.declared.answer.Answer.TheVariants as answer
-use Rattle.gl_book.proofs.Closing.{counts_more, still_answered}
+use Rattle.gl_book.proofs.Closing.{counts_more, counts_marked, still_answered, still_unrefused}
 
 -- ---- quiet entries
 quiet_stall : (x : Entry) → IsQuiet x → entry_stalls x ≡ []
@@ -26,6 +25,8 @@ quiet_stall (Answered e (answer.Value x)) q = absurd q
 quiet_stall (Answered e (answer.Truth b)) q = absurd q
 quiet_stall (Answered e (answer.Undecided c)) q = absurd q
 quiet_stall (Answered e (answer.Decided v)) q = absurd q
+quiet_stall (Answered e (answer.ByCases v)) q = absurd q
+quiet_stall (Marked m) q = refl
 quiet_stall (Refused r) q = absurd q
 
 quiet_count : (done : List Entry) (x : Entry) → IsQuiet x → counts_of (done ++ x ∷ []) ≡ counts_of done
@@ -35,10 +36,13 @@ quiet_count done (Answered e (answer.Value x)) q = absurd q
 quiet_count done (Answered e (answer.Truth b)) q = absurd q
 quiet_count done (Answered e (answer.Undecided c)) q = absurd q
 quiet_count done (Answered e (answer.Decided v)) q = absurd q
+quiet_count done (Answered e (answer.ByCases v)) q = absurd q
+quiet_count done (Marked m) q = counts_marked done m
 quiet_count done (Refused r) q = absurd q
 
 quiet_stands : (done : List Entry) (x : Entry) → IsQuiet x → list_any is_refusal done ≡ false → list_any is_refusal (done ++ x ∷ []) ≡ false
 quiet_stands done (Answered e a) q h = still_answered done e a h
+quiet_stands done (Marked m) q h = still_unrefused done m h
 quiet_stands done (Refused r) q h = absurd q
 
 pub quiet_counts : (es done : List Entry) → Every IsQuiet es → counts_of (done ++ es) ≡ counts_of done
@@ -173,7 +177,7 @@ module _ (names : List (List ℕ)) (bounds : Bounds) (w : WorldSeen) where
   waited_push [] (es ∷ ess) j given a entries b h = absurd b
   waited_push (k ∷ js) [] j given a entries b h = absurd b
 
-  -- ---- one event more behind the last job
+  -- ---- one entry more behind the last job
   pub record HasLast (js : List JobSeen) (ess : List (List Entry)) : Type 0 where
     pub before : List JobSeen
     pub last : JobSeen
@@ -195,17 +199,17 @@ module _ (names : List (List ℕ)) (bounds : Bounds) (w : WorldSeen) where
   abbrev pub with_lines : JobSeen → List (List ℕ) → JobSeen
   with_lines j lines = record j { behind = j.behind ++ lines }
 
-  pub behind_more : (js : List JobSeen) (j : JobSeen) (ess : List (List Entry)) (es : List Entry) (e : EventSeen) (a : Answer) → IsQuiet (Answered e a) → AreBehind names (js ++ j ∷ []) (ess ++ es ∷ [])
-      → AreBehind names (js ++ with_lines j (event_lines names e a) ∷ []) (ess ++ (es ++ Answered e a ∷ []) ∷ [])
-  behind_more [] j [] es e a q b =
-      ((λ i. b.0 i ++ event_lines names e a) ∙ (ap (λ ls. flat_map (entry_lines names) es ++ ls) (sym (append-nil (event_lines names e a))) ∙ sym (flat_map-append (entry_lines names) es (Answered e a ∷ []))), quiet_push es (Answered e a) b.1 q, tt)
-  behind_more (k ∷ js) j (fs ∷ ess) es e a q b = (b.0, b.1, behind_more js j ess es e a q b.2)
-  behind_more [] j (fs ∷ ess) es e a q b = absurd (no_more ess b.2)
+  pub behind_more : (js : List JobSeen) (j : JobSeen) (ess : List (List Entry)) (es : List Entry) (x : Entry) → IsQuiet x → AreBehind names (js ++ j ∷ []) (ess ++ es ∷ [])
+      → AreBehind names (js ++ with_lines j (entry_lines names x) ∷ []) (ess ++ (es ++ x ∷ []) ∷ [])
+  behind_more [] j [] es x q b =
+      ((λ i. b.0 i ++ entry_lines names x) ∙ (ap (λ ls. flat_map (entry_lines names) es ++ ls) (sym (append-nil (entry_lines names x))) ∙ sym (flat_map-append (entry_lines names) es (x ∷ []))), quiet_push es x b.1 q, tt)
+  behind_more (k ∷ js) j (fs ∷ ess) es x q b = (b.0, b.1, behind_more js j ess es x q b.2)
+  behind_more [] j (fs ∷ ess) es x q b = absurd (no_more ess b.2)
     where
       no_more : (ess : List (List Entry)) → AreBehind names [] (ess ++ es ∷ []) → ⊥
       no_more [] b = b
       no_more (gs ∷ ess) b = b
-  behind_more (k ∷ js) j [] es e a q b = absurd (no_less js b.2)
+  behind_more (k ∷ js) j [] es x q b = absurd (no_less js b.2)
     where
       no_less : (js : List JobSeen) → AreBehind names (js ++ j ∷ []) [] → ⊥
       no_less [] b = b

@@ -4,16 +4,19 @@ use Rattle.gl_logic.specs.Object.{Object, nil}
 use Rattle.gl_logic.specs.WorldSeen.{WorldSeen}
 use Rattle.gl_base.specs.Outside.{Grows}
 use Rattle.sexp_reader.specs.declared.list.Form.{Form}
+use Rattle.book_shelf.specs.declared.item.Item.{Item}
+use Rattle.book_shelf.specs.declared.item.Item.TheVariants as item
+use Rattle.book_shelf.specs.declared.item.Mark.{Mark}
 use Rattle.event_world.specs.declared.fault.EventFault.{EventFault}
-use Rattle.event_world.specs.EventSeen.{EventSeen, Nothing, Redundant, Defun, Defconst, Value, Assert, Memoize, Unmemoize, SetMode, Theorem, Clique, RedundantClique}
+use Rattle.event_world.specs.EventSeen.{EventSeen, Nothing, Redundant, Defun, Defconst, Value, Assert, Memoize, Unmemoize, SetMode, Theorem, Cases, Clique, RedundantClique}
 use Rattle.event_world.specs.NextState.{BookState, next_state}
 use Rattle.gl_decide.specs.Bounds.{Bounds}
 use Rattle.gl_decide.specs.Stalls.{StallSeen}
 use Rattle.gl_book.specs.Answers.{IsAnswerable, IsProperAnswer}
 use Rattle.gl_book.specs.Courses.{EndsPhase, EndsPhaseByFront, Follows, HasRoomFor, Leads, LeadsPast, LeadsPastToFront, LeadsToFront, Place, Stands, place_at, counts_after}
-use Rattle.gl_book.specs.Lines.{event_lines}
+use Rattle.gl_book.specs.Lines.{event_lines, mark_line}
 use Rattle.gl_book.specs.Entry.{stalls_of}
-use Rattle.gl_book.specs.Phases.{JobSeen, AreAnswered, ends_phase, is_job, jobs_of, new_job, state_noted}
+use Rattle.gl_book.specs.Phases.{JobSeen, AreAnswered, IsFollowed, ends_phase, is_job, jobs_of, new_job, state_noted}
 use Rattle.gl_book.specs.Stops.{counts_with, told_before}
 use Rattle.gl_book.specs.Walk.{event_in, refusal_at, refused_cause, state_after}
 use Rattle.gl_book.specs.declared.answer.Answer.{Answer}
@@ -23,7 +26,7 @@ use Rattle.gl_book.specs.declared.counts.Counts.{Counts}
 use Rattle.gl_book.specs.declared.progress.Progress.{Progress}
 use Rattle.gl_book.specs.declared.refusal.Refusal.{Refusal}
 use Rattle.gl_book.specs.declared.refusal.RefusalCode.TheVariants as code
-use Rattle.gl_book.proofs.Crosses.{ends_refused, ends_without, follows, front_here, front_next, goes_on, job_ends_none, phase_front, phase_stands, waits}
+use Rattle.gl_book.proofs.Crosses.{ends_refused, ends_without, follows, front_here, front_next, goes_on, job_ends_none, mark_follows, mark_front, mark_passes, phase_front, phase_stands, waits}
 use Rattle.gl_book.proofs.Puts.{room_for_next}
 use Rattle.gl_book.proofs.Waited.{as_many}
 
@@ -50,6 +53,7 @@ pub job_keeps_functions : (s : BookState) (form : Object) (e : EventSeen) → is
 job_keeps_functions s form (Value t) h = refl
 job_keeps_functions s form (Assert t) h = refl
 job_keeps_functions s form (Theorem thm) h = refl
+job_keeps_functions s form (Cases thm) h = refl
 job_keeps_functions s form Nothing h = absurd cc
 job_keeps_functions s form (Redundant n) h = absurd cc
 job_keeps_functions s form (Defun d) h = absurd cc
@@ -62,15 +66,15 @@ job_keeps_functions s form (RedundantClique ns) h = absurd cc
 
 module _ (names : List (List ℕ)) (bounds : Bounds) (last : Bool) where
   -- ---- one after the other
-  pub then_past : (form : Form) (p q : Place) (r : Option Refusal) (t : Place) → Leads names bounds last p q → LeadsPast names bounds last form q r t → LeadsPast names bounds last form p r t
-  then_past form p q None t h k = λ c i at s. k c i at (h c i s)
-  then_past form p q (Some r) t h k = λ c i at s. k c i at (h c i s)
+  pub then_past : (x : Item) (p q : Place) (r : Option Refusal) (t : Place) → Leads names bounds last p q → LeadsPast names bounds last x q r t → LeadsPast names bounds last x p r t
+  then_past x p q None t h k = λ c i at s. k c i at (h c i s)
+  then_past x p q (Some r) t h k = λ c i at s. k c i at (h c i s)
 
-  pub then_front : (form : Form) (p q : Place) (now : Option (List ℕ)) (after : List StallSeen) → Leads names bounds last p q → LeadsPastToFront names bounds last form q now after → LeadsPastToFront names bounds last form p now after
-  then_front form p q now after h k = λ c i at s. k c i at (h c i s)
+  pub then_front : (x : Item) (p q : Place) (now : Option (List ℕ)) (after : List StallSeen) → Leads names bounds last p q → LeadsPastToFront names bounds last x q now after → LeadsPastToFront names bounds last x p now after
+  then_front x p q now after h k = λ c i at s. k c i at (h c i s)
 
-  pub front_past : (form : Form) (p : Place) (now : Option (List ℕ)) (after : List StallSeen) → LeadsToFront names bounds last p now after → LeadsPastToFront names bounds last form p now after
-  front_past form p now after h = λ c i at s. h c i s
+  pub front_past : (x : Item) (p : Place) (now : Option (List ℕ)) (after : List StallSeen) → LeadsToFront names bounds last p now after → LeadsPastToFront names bounds last x p now after
+  front_past x p now after h = λ c i at s. h c i s
 
   -- nothing is written and no stall is kept
   pub stays_front : (p : Place) (now : Option (List ℕ)) (after : List StallSeen) → now ≡ p.written → after ≡ p.stalls → LeadsToFront names bounds last p now after
@@ -94,7 +98,7 @@ module _ (names : List (List ℕ)) (bounds : Bounds) (last : Bool) where
     here = place_at state old written stalls
 
     pub waits_past : (later : BookState) (new : Progress) → is_job e ≡ true → IsAnswerable state.world.definitions state.memoized e → later ≡ state_noted state form.tree e → jobs_of new.waiting ≡ jobs_of old.waiting ++ new_job e state.memoized ∷ [] → new.counts ≡ old.counts
-        → LeadsPast names bounds last form here None (place_at later new written stalls)
+        → LeadsPast names bounds last (item.Form form) here None (place_at later new written stalls)
     waits_past later new job can is more same = λ c i at s.
         let k = waits names bounds last c i here s form at e means (job_ends_none e job) job can in
         subst (λ (st : BookState). Stands names bounds last c (i + 1) (record { state = st; counts = new.counts; waiting = jobs_of new.waiting; written = written; stalls = stalls })) (sym is)
@@ -102,7 +106,7 @@ module _ (names : List (List ℕ)) (bounds : Bounds) (last : Bool) where
         (subst (λ (n : Counts). Stands names bounds last c (i + 1) (record { state = state_noted state form.tree e; counts = n; waiting = jobs_of old.waiting ++ new_job e state.memoized ∷ []; written = written; stalls = stalls })) (sym same) k))
 
     pub follows_past : (later : BookState) (new : Progress) → ends_phase e ≡ false → is_job e ≡ false → 0 < length (jobs_of old.waiting) → Follows names bounds form.tree e state (jobs_of old.waiting) later (jobs_of new.waiting) → new.counts ≡ old.counts
-        → LeadsPast names bounds last form here None (place_at later new written stalls)
+        → LeadsPast names bounds last (item.Form form) here None (place_at later new written stalls)
     follows_past later new stays other some f same = λ c i at s.
         let k = follows names bounds last c i here s form at e means stays other some f.answer f.proper (jobs_of new.waiting) f.behind in
         subst (λ (st : BookState). Stands names bounds last c (i + 1) (record { state = st; counts = new.counts; waiting = jobs_of new.waiting; written = written; stalls = stalls })) (sym f.state)
@@ -111,17 +115,32 @@ module _ (names : List (List ℕ)) (bounds : Bounds) (last : Bool) where
     -- ---- answered at once
     module _ (none : jobs_of old.waiting ≡ []) (a : Answer) (proper : IsProperAnswer bounds state.world state.memoized e a) where
       pub goes_past : (later : BookState) (new : Progress) (now : Option (List ℕ)) (after : List StallSeen) → refused_cause e a ≡ None → later ≡ state_after state form.tree e a → jobs_of new.waiting ≡ [] → new.counts ≡ counts_with old.counts a
-          → Grows written now (told_before last (event_lines names e a)) → after ≡ stalls ++ stalls_of a → LeadsPast names bounds last form here None (place_at later new now after)
+          → Grows written now (told_before last (event_lines names e a)) → after ≡ stalls ++ stalls_of a → LeadsPast names bounds last (item.Form form) here None (place_at later new now after)
       goes_past later new now after valued is gone counted g k = λ c i at s. goes_on names bounds last c i here s none form at e a means proper valued (place_at later new now after) is gone counted g k
 
-      pub goes_past_front : (now : Option (List ℕ)) (after : List StallSeen) → refused_cause e a ≡ None → (n : ℕ) × Grows written now (take n (told_before last (event_lines names e a))) → (m : ℕ) × (after ≡ stalls ++ take m (stalls_of a)) → LeadsPastToFront names bounds last form here now after
+      pub goes_past_front : (now : Option (List ℕ)) (after : List StallSeen) → refused_cause e a ≡ None → (n : ℕ) × Grows written now (take n (told_before last (event_lines names e a))) → (m : ℕ) × (after ≡ stalls ++ take m (stalls_of a)) → LeadsPastToFront names bounds last (item.Form form) here now after
       goes_past_front now after valued g k = λ c i at s. front_next names bounds last c i here s none form at e a means proper valued now after g k
 
-      pub refused_past : (why : Cause) → refused_cause e a ≡ Some why → why ≢ cause.Memory → LeadsPast names bounds last form here (Some (refusal_at form (code.Constant why))) here
+      pub refused_past : (why : Cause) → refused_cause e a ≡ Some why → why ≢ cause.Memory → LeadsPast names bounds last (item.Form form) here (Some (refusal_at form (code.Constant why))) here
       refused_past why has other = λ c i at s. record { stands = s; none = none; ends = ends_without names bounds last c i here s none form at e a means proper why has other }
 
+  -- ---- a mark
+  module _ (m : Mark) (state : BookState) (old : Progress) (written : Option (List ℕ)) (stalls : List StallSeen) where
+    -- written at once
+    pub marks_past : jobs_of old.waiting ≡ [] → (now : Option (List ℕ)) → Grows written now (told_before last (mark_line names m ∷ [])) → LeadsPast names bounds last (item.Mark m) (place_at state old written stalls) None (place_at state old now stalls)
+    marks_past none now g = λ c i at s. mark_passes names bounds last c i (place_at state old written stalls) s none m at (place_at state old now stalls) refl none refl g refl
+
+    pub marks_past_front : jobs_of old.waiting ≡ [] → (now : Option (List ℕ)) → (n : ℕ) × Grows written now (take n (told_before last (mark_line names m ∷ []))) → LeadsPastToFront names bounds last (item.Mark m) (place_at state old written stalls) now stalls
+    marks_past_front none now g = λ c i at s. mark_front names bounds last c i (place_at state old written stalls) s none m at now stalls g refl
+
+    -- or behind the last job
+    pub marks_behind : 0 < length (jobs_of old.waiting) → (new : Progress) → IsFollowed (jobs_of old.waiting) (mark_line names m ∷ []) (jobs_of new.waiting) → new.counts ≡ old.counts → LeadsPast names bounds last (item.Mark m) (place_at state old written stalls) None (place_at state new written stalls)
+    marks_behind some new f same = λ c i at s.
+        let k = mark_follows names bounds last c i (place_at state old written stalls) s m at some (jobs_of new.waiting) f in
+        subst (λ (n : Counts). Stands names bounds last c (i + 1) (record { state = state; counts = n; waiting = jobs_of new.waiting; written = written; stalls = stalls })) (sym same) k
+
   -- ---- a form that means none
-  pub fault_past : (form : Form) (fault : EventFault) (state : BookState) → event_in names state form.tree ≡ Err fault → (p q : Place) → q.state ≡ state → q.waiting ≡ [] → Leads names bounds last p q → LeadsPast names bounds last form p (Some (refusal_at form (code.Event fault))) q
+  pub fault_past : (form : Form) (fault : EventFault) (state : BookState) → event_in names state form.tree ≡ Err fault → (p q : Place) → q.state ≡ state → q.waiting ≡ [] → Leads names bounds last p q → LeadsPast names bounds last (item.Form form) p (Some (refusal_at form (code.Event fault))) q
   fault_past form fault state means p q is none h = λ c i at s.
       let t = h c i s in
       record { stands = t; none = none; ends = ends_refused names bounds last c i q t form at fault (subst (λ (st : BookState). event_in names st form.tree ≡ Err fault) (sym is) means) }

@@ -1,20 +1,22 @@
 -- When the answer to an event is proper.
-use Rattle.std.specs.Prelude.{◌≡◌, ◌≢◌, ◌<◌, ℕ, Bool, not, List, [], length, All, Some, slice_get}
+use Rattle.std.specs.Prelude.{◌≡◌, ◌≢◌, ◌<◌, ◌≤◌, ℕ, Bool, not, List, [], length, All, Some, slice_get}
 use Rattle.gl_logic.specs.Object.{Object}
 use Rattle.gl_logic.specs.ObjectEq.{is_nil}
 use Rattle.gl_logic.specs.Parts.{IsLarge}
 use Rattle.gl_logic.specs.Exp.{Exp}
 use Rattle.gl_logic.specs.Definition.{Definition}
+use Rattle.gl_logic.specs.Every.{Every}
 use Rattle.gl_logic.specs.IsTermOf.{IsTermOf}
 use Rattle.gl_logic.specs.Evaluate.{HasValue}
 use Rattle.gl_logic.specs.Wide.{IsWide}
 use Rattle.gl_logic.specs.WorldSeen.{WorldSeen, definition_names}
 use Rattle.coverage.specs.Sound.{AllAreBound}
-use Rattle.event_world.specs.EventSeen.{TheoremSeen, EventSeen, Defconst, Value, Assert, Memoize, Unmemoize, Theorem}
+use Rattle.event_world.specs.EventSeen.{TheoremSeen, EventSeen, Defconst, Value, Assert, Memoize, Unmemoize, Theorem, Cases}
+use Rattle.gl_cases.specs.Parts.{ParamSeen, IsByCases}
 use Rattle.gl_decide.specs.Bounds.{Bounds}
 use Rattle.gl_decide.specs.Causes.{IsOutOfWidth, IsOutOfSteps, IsOutOfCells}
-use Rattle.gl_decide.specs.Theorem as decide
 use Rattle.gl_decide.specs.Verdicts.{IsProperVerdict}
+use Rattle.gl_book.specs.Cases.{IsDecidedByCases, decided_theorem}
 use Rattle.gl_book.specs.declared.answer.Cause.{Cause}
 use Rattle.gl_book.specs.declared.answer.Cause.TheVariants as cause
 use Rattle.gl_book.specs.declared.answer.Answer.{Answer}
@@ -70,22 +72,15 @@ abbrev pub IsFunctionNamed : WorldSeen → ℕ → Answer → Type 0
 IsFunctionNamed w f (answer.Function name) = slice_get (definition_names w.definitions) f ≡ Some name.number
 IsFunctionNamed w f _ = ⊥
 
--- a theorem as it is decided
-abbrev pub decided_theorem : TheoremSeen → decide.Theorem
-decided_theorem thm = record {
-  name = thm.name;
-  hyp = thm.hyp;
-  concl = thm.concl;
-  bindings = thm.bindings;
-  hyp_clk = thm.hyp_clk;
-  concl_clk = thm.concl_clk;
-  mode = thm.mode;
-  memoized = thm.memoized;
-}
-
+-- of a theorem
 abbrev pub IsDecided : Bounds → WorldSeen → TheoremSeen → Answer → Type 0
 IsDecided bounds w thm (answer.Decided v) = IsProperVerdict w bounds (decided_theorem thm) v
 IsDecided bounds w thm _ = ⊥
+
+-- of a theorem by cases
+abbrev pub IsSettled : Bounds → WorldSeen → ParamSeen → Answer → Type 0
+IsSettled bounds w thm (answer.ByCases v) = IsDecidedByCases bounds w thm v
+IsSettled bounds w thm _ = ⊥
 
 -- nothing is to be found out
 abbrev pub IsDone : Answer → Type 0
@@ -100,6 +95,7 @@ IsProperAnswer bounds w memoized (Assert t) a = IsProperTruth bounds w memoized 
 IsProperAnswer bounds w memoized (Memoize f) a = IsFunctionNamed w f a
 IsProperAnswer bounds w memoized (Unmemoize f) a = IsFunctionNamed w f a
 IsProperAnswer bounds w memoized (Theorem thm) a = IsDecided bounds w thm a
+IsProperAnswer bounds w memoized (Cases thm) a = IsSettled bounds w thm a
 IsProperAnswer bounds w memoized _ a = IsDone a
 
 -- ---- events that can be answered
@@ -110,6 +106,13 @@ pub record IsReadyTheorem (definitions : List Definition) (thm : TheoremSeen) : 
   pub functions : All (λ f. f < length definitions) thm.memoized
   pub bound : AllAreBound thm.hyp thm.concl thm.bindings
 
+-- each part is ready, and the parts belong together
+pub record IsReadyParam (definitions : List Definition) (thm : ParamSeen) : Type 0 where
+  pub cover : IsReadyTheorem definitions thm.cover
+  pub cases : Every (IsReadyTheorem definitions) thm.cases
+  pub parts : IsByCases thm
+  pub few : length thm.cases ≤ 64
+
 -- the terms and the functions of an event are those of these definitions
 abbrev pub IsOfDefinitions : List Definition → EventSeen → Type 0
 IsOfDefinitions definitions (Value t) = IsTermOf definitions t
@@ -118,6 +121,7 @@ IsOfDefinitions definitions (Assert t) = IsTermOf definitions t
 IsOfDefinitions definitions (Memoize f) = f < length definitions
 IsOfDefinitions definitions (Unmemoize f) = f < length definitions
 IsOfDefinitions definitions (Theorem thm) = IsReadyTheorem definitions thm
+IsOfDefinitions definitions (Cases thm) = IsReadyParam definitions thm
 IsOfDefinitions definitions _ = Unit {0}
 
 -- and so are the functions whose calls are kept at its place

@@ -4,7 +4,7 @@ use Rattle.gl_logic.specs.Exp.{Exp}
 use Rattle.gl_logic.specs.WorldSeen.{WorldSeen}
 use Rattle.gl_decide.specs.Bounds.{Bounds}
 use Rattle.gl_decide.specs.Causes.{IsOutOfWidth, IsOutOfSteps, IsOutOfCells}
-use Rattle.gl_book.specs.Entry.{Entry, Answered, Refused}
+use Rattle.gl_book.specs.Entry.{Entry, Answered, Marked, Refused}
 use Rattle.gl_book.specs.declared.answer.Answer.{Answer}
 use Rattle.gl_book.specs.declared.answer.Answer.TheVariants as answer
 use Rattle.gl_book.specs.declared.answer.Cause.TheVariants as cause
@@ -17,6 +17,7 @@ use Rattle.gl_book.specs.declared.refusal.RefusalCode.TheVariants as code
 abbrev pub refusal_in : List Entry → Option Refusal
 refusal_in [] = None
 refusal_in (Answered event answer ∷ entries) = refusal_in entries
+refusal_in (Marked mark ∷ entries) = refusal_in entries
 refusal_in (Refused refusal ∷ entries) = Some refusal
 
 abbrev pub IsConstantCode : RefusalCode → Type 0

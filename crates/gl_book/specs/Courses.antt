@@ -5,14 +5,14 @@ use Rattle.gl_logic.specs.Every.{Every}
 use Rattle.gl_logic.specs.Object.{Object, nil}
 use Rattle.gl_logic.specs.WorldSeen.{WorldSeen}
 use Rattle.gl_base.specs.Outside.{Grows}
-use Rattle.sexp_reader.specs.declared.list.Form.{Form}
-use Rattle.sexp_reader.specs.declared.ends.Forms.{Forms}
+use Rattle.book_shelf.specs.declared.item.Item.{Item}
+use Rattle.book_shelf.specs.declared.library.Library.{Library}
 use Rattle.event_world.specs.EventSeen.{EventSeen}
 use Rattle.event_world.specs.NextState.{BookState, next_state}
 use Rattle.gl_decide.specs.Bounds.{Bounds}
 use Rattle.gl_decide.specs.Stalls.{StallSeen}
 use Rattle.gl_book.specs.Answers.{IsProperAnswer}
-use Rattle.gl_book.specs.Entry.{Entry, Answered, Refused, stalls_of, stalls_in}
+use Rattle.gl_book.specs.Entry.{Entry, Answered, Marked, Refused, stalls_of, stalls_in}
 use Rattle.gl_book.specs.Lines.{entry_lines, event_lines, counts_of, is_refusal}
 use Rattle.gl_book.specs.Phases.{JobSeen, IsFollowed, CanBeAnswered, AreAnswered, jobs_of}
 use Rattle.gl_book.specs.Stops.{Keeps, KeepsFront, told_before, counts_with, WritesWalkFront}
@@ -52,11 +52,12 @@ KeepsPhase given before after = Keeps (flat_map stalls_of given) before after
 abbrev pub KeepsPhaseFront : List Answer → List StallSeen → List StallSeen → Type 0
 KeepsPhaseFront given before after = KeepsFront (flat_map stalls_of given) before after
 
--- ---- events whose lines wait
+-- ---- events and marks whose lines wait
 -- neither counted nor stalled, and no refusal
 abbrev pub IsQuiet : Entry → Type 0
 IsQuiet (Answered e answer.Done) = Unit {0}
 IsQuiet (Answered e (answer.Function t)) = Unit {0}
+IsQuiet (Marked m) = Unit {0}
 IsQuiet _ = ⊥
 
 -- behind each job stand the lines of these entries
@@ -87,7 +88,7 @@ count_waited (es ∷ ess) = suc (length es) + count_waited ess
 -- a book that is walked over from a state on, and what the sink and the stalls held before
 pub record Course : Type 0 where
   pub first : BookState
-  pub book : Forms
+  pub book : Library
   pub written : Option (List ℕ)
   pub stalls : List StallSeen
 
@@ -102,7 +103,7 @@ pub record Place : Type 0 where
 abbrev pub place_at : BookState → Progress → Option (List ℕ) → List StallSeen → Place
 place_at state p written stalls = record { state = state; counts = p.counts; waiting = jobs_of p.waiting; written = written; stalls = stalls }
 
--- so many forms are taken in: what is done of them is counted, written and kept, and whatever proper answers come for the
+-- so many items are taken in: what is done of them is counted, written and kept, and whatever proper answers come for the
 -- jobs that wait, each walk of what is left makes a walk of the whole
 pub record Stands (names : List (List ℕ)) (bounds : Bounds) (last_only : Bool) (c : Course) (i : ℕ) (p : Place) : Type 0 where
   pub done : List Entry
@@ -110,8 +111,8 @@ pub record Stands (names : List (List ℕ)) (bounds : Bounds) (last_only : Bool)
   pub can : CanGoOn p.state
   pub ready : All (CanBeAnswered p.state.world.definitions) p.waiting
   pub follow : AreBehind names p.waiting behind
-  pub onward : (given : List Answer) → AreAnswered bounds p.state.world p.waiting given → (entries : List Entry) → Walk names bounds p.state (drop i c.book.list) c.book.end entries
-      → Walk names bounds c.first c.book.list c.book.end (done ++ (waited p.waiting behind given ++ entries))
+  pub onward : (given : List Answer) → AreAnswered bounds p.state.world p.waiting given → (entries : List Entry) → Walk names bounds p.state (drop i c.book.items) c.book.finish entries
+      → Walk names bounds c.first c.book.items c.book.finish (done ++ (waited p.waiting behind given ++ entries))
   pub counted : p.counts ≡ counts_of done
   pub many : length done + count_waited behind ≡ i
   pub answered : list_any is_refusal done ≡ false
@@ -127,22 +128,22 @@ abbrev pub LeadsToFront : List (List ℕ) → Bounds → Bool → Place → Opti
 LeadsToFront names bounds last_only p new after =
     (c : Course) (i : ℕ) → Stands names bounds last_only c i p → WritesWalkFront names bounds c.first c.book last_only c.written new c.stalls after
 
--- the same, where this form is the next
-abbrev pub LeadsPastToFront : List (List ℕ) → Bounds → Bool → Form → Place → Option (List ℕ) → List StallSeen → Type 0
-LeadsPastToFront names bounds last_only form p new after =
-    (c : Course) (i : ℕ) → slice_get c.book.list i ≡ Some form → Stands names bounds last_only c i p → WritesWalkFront names bounds c.first c.book last_only c.written new c.stalls after
+-- the same, where this item is the next
+abbrev pub LeadsPastToFront : List (List ℕ) → Bounds → Bool → Item → Place → Option (List ℕ) → List StallSeen → Type 0
+LeadsPastToFront names bounds last_only next p new after =
+    (c : Course) (i : ℕ) → slice_get c.book.items i ≡ Some next → Stands names bounds last_only c i p → WritesWalkFront names bounds c.first c.book last_only c.written new c.stalls after
 
--- no job waits, and what comes of the forms left is a refusal
+-- no job waits, and what comes of the items left is a refusal
 pub record IsRefused (names : List (List ℕ)) (bounds : Bounds) (last_only : Bool) (c : Course) (i : ℕ) (p : Place) (r : Refusal) : Type 0 where
   pub stands : Stands names bounds last_only c i p
   pub none : p.waiting ≡ []
-  pub ends : Walk names bounds p.state (drop i c.book.list) c.book.end (Refused r ∷ [])
+  pub ends : Walk names bounds p.state (drop i c.book.items) c.book.finish (Refused r ∷ [])
 
--- wherever a walk has come to the one place and this form is the next, it comes past the form to the other, or the form is
+-- wherever a walk has come to the one place and this item is the next, it comes past the item to the other, or the item is
 -- refused there
-abbrev pub LeadsPast : List (List ℕ) → Bounds → Bool → Form → Place → Option Refusal → Place → Type 0
-LeadsPast names bounds last_only form p None q = (c : Course) (i : ℕ) → slice_get c.book.list i ≡ Some form → Stands names bounds last_only c i p → Stands names bounds last_only c (i + 1) q
-LeadsPast names bounds last_only form p (Some r) q = (c : Course) (i : ℕ) → slice_get c.book.list i ≡ Some form → Stands names bounds last_only c i p → IsRefused names bounds last_only c i q r
+abbrev pub LeadsPast : List (List ℕ) → Bounds → Bool → Item → Place → Option Refusal → Place → Type 0
+LeadsPast names bounds last_only next p None q = (c : Course) (i : ℕ) → slice_get c.book.items i ≡ Some next → Stands names bounds last_only c i p → Stands names bounds last_only c (i + 1) q
+LeadsPast names bounds last_only next p (Some r) q = (c : Course) (i : ℕ) → slice_get c.book.items i ≡ Some next → Stands names bounds last_only c i p → IsRefused names bounds last_only c i q r
 
 -- ---- the end of a phase, as a whole
 -- an answer for each job, proper at its place; their lines were written and their stalls kept, in the order of the book

@@ -1,4 +1,5 @@
 pub mod Entry
+pub mod Cases
 pub mod Answers
 pub mod Evaluations
 pub mod Lines
@@ -9,4 +10,8 @@ pub mod Generated
 pub mod Completeness
 pub mod Pieces
 pub mod Phases
+pub mod Tasks
 pub mod Courses
+pub mod Lasts
+pub mod LastFound
+pub mod LastSteps

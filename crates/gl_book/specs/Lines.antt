@@ -19,18 +19,22 @@ use Rattle.shape_spec.specs.declared.theorem.Part.{Part}
 use Rattle.shape_spec.specs.declared.theorem.Part.TheVariants as part
 use Rattle.sexp_reader.specs.declared.ends.ReadCode.{ReadCode}
 use Rattle.sexp_reader.specs.declared.ends.ReadCode.TheVariants as read
+use Rattle.book_shelf.specs.declared.item.Mark.{Mark}
+use Rattle.book_shelf.specs.declared.item.Mark.TheVariants as mark
 use Rattle.event_world.specs.declared.fault.EventFault.{EventFault}
 use Rattle.event_world.specs.declared.fault.EventFault.TheVariants as event
-use Rattle.event_world.specs.EventSeen.{EventSeen, Redundant, Defun, Defconst, Value, Assert, Memoize, Unmemoize, SetMode, Theorem, Clique, RedundantClique}
+use Rattle.event_world.specs.EventSeen.{EventSeen, Redundant, Defun, Defconst, Value, Assert, Memoize, Unmemoize, SetMode, Theorem, Cases, Clique, RedundantClique}
 use Rattle.gl_decide.specs.declared.verdict.Verdict.{Verdict}
 use Rattle.gl_decide.specs.declared.verdict.Verdict.TheVariants as verdict
 use Rattle.gl_book.specs.declared.counts.Counts.{Counts}
-use Rattle.gl_book.specs.Entry.{Entry, Answered, Refused}
+use Rattle.gl_book.specs.Entry.{Entry, Answered, Marked, Refused}
 use Rattle.gl_book.specs.declared.refusal.Refusal.{Refusal}
 use Rattle.gl_book.specs.declared.refusal.RefusalCode.{RefusalCode}
 use Rattle.gl_book.specs.declared.refusal.RefusalCode.TheVariants as code
 use Rattle.gl_book.specs.declared.answer.Cause.{Cause}
 use Rattle.gl_book.specs.declared.answer.Cause.TheVariants as cause
+use Rattle.gl_book.specs.declared.cases.CasesVerdict.{CasesVerdict}
+use Rattle.gl_book.specs.declared.cases.CasesVerdict.TheVariants as whole
 use Rattle.gl_book.specs.declared.answer.Answer.{Answer}
 use Rattle.gl_book.specs.declared.answer.Answer.TheVariants as answer
 
@@ -47,22 +51,55 @@ abbrev pub part_word : Part → List ℕ
 part_word part.Hyp = codes "hyp"
 part_word part.Concl = codes "concl"
 
--- a cause on an input of a part
-abbrev pub part_lines : List (List ℕ) → ℕ → List ℕ → Part → List (ℕ × Object) → List (List ℕ)
-part_lines names t word p env = named_line names (codes "UNDECIDED ") t (word ++ part_word p) ∷ input_lines names env
+-- ---- theorems
+-- what leaves one undecided: its cause, for most with the part whose value it is of
+abbrev pub open_words : List (List ℕ) → Verdict → List ℕ
+open_words names (verdict.Uncovered v) = codes " uncovered " ++ name_of names v.number
+open_words names (verdict.Clock p env) = codes " clock " ++ part_word p
+open_words names (verdict.Width p env) = codes " width " ++ part_word p
+open_words names (verdict.Steps p env) = codes " steps " ++ part_word p
+open_words names (verdict.Cells p env) = codes " cells " ++ part_word p
+open_words names (verdict.Nodes s) = codes " nodes"
+open_words names (verdict.Clauses s) = codes " clauses"
+open_words names verdict.Memory = codes " memory"
+open_words names _ = []
+
+-- and its input, where it has one
+abbrev pub open_input : Verdict → List (ℕ × Object)
+open_input (verdict.Clock p env) = env
+open_input (verdict.Width p env) = env
+open_input (verdict.Steps p env) = env
+open_input (verdict.Cells p env) = env
+open_input _ = []
+
+-- left undecided: the name, words for the part of it that is, and the cause
+abbrev pub open_lines : List (List ℕ) → ℕ → List ℕ → Verdict → List (List ℕ)
+open_lines names t what v = named_line names (codes "UNDECIDED ") t (what ++ open_words names v) ∷ input_lines names (open_input v)
+
+abbrev pub proved_line : List (List ℕ) → ℕ → List ℕ
+proved_line names t = named_line names (codes "PROVED ") t []
+
+abbrev pub vacuous_line : List (List ℕ) → ℕ → List ℕ
+vacuous_line names t = named_line names (codes "VACUOUS ") t []
+
+abbrev pub refuted_lines : List (List ℕ) → ℕ → List (ℕ × Object) → List (List ℕ)
+refuted_lines names t env = named_line names (codes "REFUTED ") t [] ∷ input_lines names env
 
 abbrev pub verdict_lines : List (List ℕ) → ℕ → Verdict → List (List ℕ)
-verdict_lines names t verdict.Proved = named_line names (codes "PROVED ") t [] ∷ []
-verdict_lines names t verdict.Vacuous = named_line names (codes "VACUOUS ") t [] ∷ []
-verdict_lines names t (verdict.Refuted env) = named_line names (codes "REFUTED ") t [] ∷ input_lines names env
-verdict_lines names t (verdict.Uncovered v) = named_line names (codes "UNDECIDED ") t (codes " uncovered " ++ name_of names v.number) ∷ []
-verdict_lines names t (verdict.Clock p env) = part_lines names t (codes " clock ") p env
-verdict_lines names t (verdict.Width p env) = part_lines names t (codes " width ") p env
-verdict_lines names t (verdict.Steps p env) = part_lines names t (codes " steps ") p env
-verdict_lines names t (verdict.Cells p env) = part_lines names t (codes " cells ") p env
-verdict_lines names t (verdict.Nodes s) = named_line names (codes "UNDECIDED ") t (codes " nodes") ∷ []
-verdict_lines names t (verdict.Clauses s) = named_line names (codes "UNDECIDED ") t (codes " clauses") ∷ []
-verdict_lines names t verdict.Memory = named_line names (codes "UNDECIDED ") t (codes " memory") ∷ []
+verdict_lines names t verdict.Proved = proved_line names t ∷ []
+verdict_lines names t verdict.Vacuous = vacuous_line names t ∷ []
+verdict_lines names t (verdict.Refuted env) = refuted_lines names t env
+verdict_lines names t v = open_lines names t [] v
+
+-- ---- theorems by cases
+-- an input of the hypothesis that is of no case; the cover, or the case with its number, that is left undecided
+abbrev pub cases_lines : List (List ℕ) → ℕ → CasesVerdict → List (List ℕ)
+cases_lines names t whole.Proved = proved_line names t ∷ []
+cases_lines names t whole.Vacuous = vacuous_line names t ∷ []
+cases_lines names t (whole.Refuted env) = refuted_lines names t env
+cases_lines names t (whole.Uncased env) = named_line names (codes "UNDECIDED ") t (codes " uncased") ∷ input_lines names env
+cases_lines names t (whole.Cover v) = open_lines names t (codes " cover") v
+cases_lines names t (whole.Case i v) = open_lines names t (codes " case " ++ decimal i) v
 
 -- ---- definitions
 -- the name of a variable between words
@@ -129,9 +166,14 @@ abbrev pub theorem_lines : List (List ℕ) → ℕ → Answer → List (List ℕ
 theorem_lines names t (answer.Decided v) = verdict_lines names t v
 theorem_lines names t _ = []
 
+abbrev pub by_cases_lines : List (List ℕ) → ℕ → Answer → List (List ℕ)
+by_cases_lines names t (answer.ByCases v) = cases_lines names t v
+by_cases_lines names t _ = []
+
 abbrev pub mode_line : Mode → List ℕ
 mode_line mode.Bdd = codes "MODE BDD" ++ 10 ∷ []
 mode_line mode.Sat = codes "MODE SAT" ++ 10 ∷ []
+mode_line mode.Param = codes "MODE PARAM" ++ 10 ∷ []
 
 abbrev pub redundant_line : List (List ℕ) → ℕ → List ℕ
 redundant_line names t = named_line names (codes "REDUNDANT ") t []
@@ -149,6 +191,7 @@ event_lines names (Memoize f) a = function_lines names (codes "MEMOIZE ") a
 event_lines names (Unmemoize f) a = function_lines names (codes "UNMEMOIZE ") a
 event_lines names (SetMode m) a = mode_line m ∷ []
 event_lines names (Theorem thm) a = theorem_lines names thm.name a
+event_lines names (Cases thm) a = by_cases_lines names thm.cover.name a
 event_lines names _ a = []
 
 -- ---- refusals
@@ -180,32 +223,45 @@ event_word (event.Term fault) = term_word fault
 event_word (event.NotAdmitted i) = codes "V8 " ++ decimal i
 event_word event.BadBindings = codes "V10"
 event_word event.BadOption = codes "V11"
+event_word event.BadCases = codes "V13"
 event_word event.Memory = codes "memory"
 
 abbrev pub code_word : RefusalCode → List ℕ
 code_word (code.Text fault) = read_word fault
 code_word code.TooLong = codes "S10"
+code_word code.Cyclic = codes "V14"
+code_word code.Many = codes "V15"
 code_word (code.Event fault) = event_word fault
 code_word (code.Constant c) = codes "V9 " ++ cause_word c
 
 abbrev pub refused_line : Refusal → List ℕ
 refused_line r = codes "REFUSED " ++ (decimal r.line ++ (codes " " ++ (decimal r.column ++ (codes " " ++ (code_word r.code ++ 10 ∷ [])))))
 
+-- ---- marks
+abbrev pub mark_line : List (List ℕ) → Mark → List ℕ
+mark_line names (mark.Book t) = named_line names (codes "BOOK ") t.number []
+mark_line names (mark.End t) = named_line names (codes "END ") t.number []
+mark_line names (mark.Same t) = named_line names (codes "SAME ") t.number []
+
 abbrev pub entry_lines : List (List ℕ) → Entry → List (List ℕ)
 entry_lines names (Answered e a) = event_lines names e a
+entry_lines names (Marked m) = mark_line names m ∷ []
 entry_lines names (Refused r) = refused_line r ∷ []
 
 -- ---- the last line
 abbrev pub is_proved : Answer → Bool
 is_proved (answer.Decided verdict.Proved) = true
+is_proved (answer.ByCases whole.Proved) = true
 is_proved _ = false
 
 abbrev pub is_vacuous : Answer → Bool
 is_vacuous (answer.Decided verdict.Vacuous) = true
+is_vacuous (answer.ByCases whole.Vacuous) = true
 is_vacuous _ = false
 
 abbrev pub is_refuted : Answer → Bool
 is_refuted (answer.Decided (verdict.Refuted env)) = true
+is_refuted (answer.ByCases (whole.Refuted env)) = true
 is_refuted _ = false
 
 -- a value or a truth that is not there, and a theorem with any other verdict
@@ -219,6 +275,9 @@ is_undecided (answer.Decided (verdict.Cells p env)) = true
 is_undecided (answer.Decided (verdict.Nodes s)) = true
 is_undecided (answer.Decided (verdict.Clauses s)) = true
 is_undecided (answer.Decided verdict.Memory) = true
+is_undecided (answer.ByCases (whole.Uncased env)) = true
+is_undecided (answer.ByCases (whole.Cover v)) = true
+is_undecided (answer.ByCases (whole.Case i v)) = true
 is_undecided _ = false
 
 -- an asserted value that is NIL
@@ -229,6 +288,7 @@ is_failed _ = false
 -- how many entries are answers of a kind
 abbrev pub is_answer : (Answer → Bool) → Entry → Bool
 is_answer is_one (Answered e a) = is_one a
+is_answer is_one (Marked m) = false
 is_answer is_one (Refused r) = false
 
 abbrev pub count_of : (Answer → Bool) → List Entry → ℕ
@@ -246,6 +306,7 @@ transcript_lines names entries = flat_map (entry_lines names) entries ++ done_li
 
 abbrev pub is_refusal : Entry → Bool
 is_refusal (Answered e a) = false
+is_refusal (Marked m) = false
 is_refusal (Refused r) = true
 
 -- the status of a book that is not refused

@@ -4,7 +4,7 @@ use Rattle.std.proofs.Common.{Global}
 use Rattle.gl_logic.specs.Object.{Object, nil}
 use Rattle.gl_logic.specs.Definition.{Definition}
 use Rattle.gl_logic.specs.WorldSeen.{WorldSeen}
-use Rattle.event_world.specs.EventSeen.{EventSeen, Defun, Defconst, Value, Assert, Theorem, Clique}
+use Rattle.event_world.specs.EventSeen.{EventSeen, Defun, Defconst, Value, Assert, Theorem, Cases, Clique}
 use Rattle.event_world.specs.NextState.{BookState, next_state}
 use Rattle.event_world.specs.Seen.{event_seen}
 use Rattle.gl_decide.specs.Bounds.{Bounds}
@@ -22,6 +22,7 @@ abbrev pub is_job : EventSeen → Bool
 is_job (Value t) = true
 is_job (Assert t) = true
 is_job (Theorem thm) = true
+is_job (Cases thm) = true
 is_job _ = false
 
 -- it changes the definitions or the constants that later answers rest on

@@ -5,15 +5,15 @@ use Rattle.std.specs.List.{concat}
 use Rattle.gl_base.specs.Outside.{Grows, Rose}
 use Rattle.gl_base.specs.declared.status.Status.{Status}
 use Rattle.gl_base.specs.declared.status.Status.TheVariants as status
-use Rattle.sexp_reader.specs.declared.ends.Forms.{Forms}
-use Rattle.sexp_reader.specs.declared.ends.End.{End}
-use Rattle.sexp_reader.specs.declared.ends.End.TheVariants.{Clean, Bad}
+use Rattle.book_shelf.specs.declared.finish.Finish.{Finish}
+use Rattle.book_shelf.specs.declared.finish.Finish.TheVariants as finish
+use Rattle.book_shelf.specs.declared.library.Library.{Library}
 use Rattle.gl_decide.specs.Stalls.{StallSeen}
 use Rattle.event_world.specs.NextState.{BookState}
 use Rattle.gl_book.specs.Entry.{Entry, stalls_in}
 use Rattle.gl_book.specs.Lines.{refused_line, is_proved, is_vacuous, is_refuted, is_undecided, is_failed, done_line, status_by, transcript_lines, status_of}
-use Rattle.gl_book.specs.Walk.{Walk, text_refusal}
-use Rattle.gl_book.specs.Transcript.{told, WritesTranscript, WritesFront}
+use Rattle.gl_book.specs.Walk.{Walk, end_refusal}
+use Rattle.gl_book.specs.Transcript.{Telling, told, WritesAll, WritesSome}
 use Rattle.gl_book.specs.declared.answer.Answer.{Answer}
 use Rattle.gl_book.specs.declared.counts.Counts.{Counts}
 use Rattle.gl_book.specs.declared.refusal.Refusal.{Refusal}
@@ -40,9 +40,9 @@ abbrev pub HasRoom : Counts → Type 0
 HasRoom c = (c.proved < 2 ^ 64 - 1) × (c.vacuous < 2 ^ 64 - 1) × (c.refuted < 2 ^ 64 - 1) × (c.undecided < 2 ^ 64 - 1) × (c.failed < 2 ^ 64 - 1)
 
 -- ---- the end of a transcript
-abbrev pub end_refusal : End → Option Refusal
-end_refusal Clean = None
-end_refusal (Bad line column fault) = Some (text_refusal line column fault)
+abbrev pub refusal_of : Finish → Option Refusal
+refusal_of finish.Clean = None
+refusal_of (finish.Refused line column fault) = Some (end_refusal line column fault)
 
 abbrev pub closing_lines : Counts → Option Refusal → List (List ℕ)
 closing_lines counts None = done_line counts ∷ []
@@ -73,13 +73,13 @@ KeepsStalls entries before after = Keeps (stalls_in entries) before after
 abbrev pub KeepsStallsFront : List Entry → List StallSeen → List StallSeen → Type 0
 KeepsStallsFront entries before after = KeepsFront (stalls_in entries) before after
 
-abbrev pub WritesWalk : List (List ℕ) → Bounds → BookState → Forms → Bool → Option (List ℕ) → Option (List ℕ) → List StallSeen → List StallSeen → Status → Type 0
+abbrev pub WritesWalk : List (List ℕ) → Bounds → BookState → Library → Bool → Option (List ℕ) → Option (List ℕ) → List StallSeen → List StallSeen → Status → Type 0
 WritesWalk names bounds first book last_only old new before after s =
-    (entries : List Entry) × Walk names bounds first book.list book.end entries × WritesLines last_only (transcript_lines names entries) old new × KeepsStalls entries before after × (s ≡ status_of entries)
+    (entries : List Entry) × Walk names bounds first book.items book.finish entries × WritesLines last_only (transcript_lines names entries) old new × KeepsStalls entries before after × (s ≡ status_of entries)
 
-abbrev pub WritesWalkFront : List (List ℕ) → Bounds → BookState → Forms → Bool → Option (List ℕ) → Option (List ℕ) → List StallSeen → List StallSeen → Type 0
+abbrev pub WritesWalkFront : List (List ℕ) → Bounds → BookState → Library → Bool → Option (List ℕ) → Option (List ℕ) → List StallSeen → List StallSeen → Type 0
 WritesWalkFront names bounds first book last_only old new before after =
-    (entries : List Entry) × Walk names bounds first book.list book.end entries × WritesLinesFront last_only (transcript_lines names entries) old new × KeepsStallsFront entries before after
+    (entries : List Entry) × Walk names bounds first book.items book.finish entries × WritesLinesFront last_only (transcript_lines names entries) old new × KeepsStallsFront entries before after
 
 -- lines before the last one: all of them, or none where the last one alone is told
 abbrev pub told_before : Bool → List (List ℕ) → List ℕ
@@ -99,7 +99,7 @@ IsReported status.NoMemory = ⊥
 IsReported status.Usage = ⊥
 IsReported s = Unit {0}
 
--- what a run over these bytes has written, by how it ends: a status that a transcript gives, or a stop
-abbrev pub EndsBy : Bounds → List ℕ → Bool → Option (List ℕ) → Option (List ℕ) → List StallSeen → List StallSeen → Result Status Stop → Type 0
-EndsBy bounds bytes last_only old new before after (Ok s) = WritesTranscript bounds bytes last_only old new before after s
-EndsBy bounds bytes last_only old new before after (Err stop) = WritesFront bounds bytes last_only old new before after
+-- what a run has written, by how it ends: a status that a transcript gives, or a stop
+abbrev pub EndsBy : Telling → Bool → Option (List ℕ) → Option (List ℕ) → List StallSeen → List StallSeen → Result Status Stop → Type 0
+EndsBy tells last_only old new before after (Ok s) = WritesAll tells last_only old new before after s
+EndsBy tells last_only old new before after (Err stop) = WritesSome tells last_only old new before after

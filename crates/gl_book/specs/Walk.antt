@@ -1,14 +1,19 @@
--- What comes of a book's forms, one after the other.
-use Rattle.std.specs.Prelude.{◌≡◌, ◌≢◌, ℕ, zero, List, [], ◌∷◌, Option, Some, None, Ok, Err, refl}
+-- What comes of a book's forms and of the books that it includes, one after the other.
+use Rattle.std.specs.Prelude.{◌≡◌, ◌≢◌, ℕ, zero, suc, List, [], ◌∷◌, Option, Some, None, Ok, Err, refl}
 use Rattle.std.specs.Coded.{Coded, code_by, coded×, coded_ℕ, coded_list}
 use Rattle.gl_logic.specs.Object.{Object, nil}
 use Rattle.gl_logic.specs.WorldSeen.{WorldSeen, IsWorld, coded_world}
 use Rattle.shape_spec.specs.declared.theorem.Mode.{Mode}
 use Rattle.shape_spec.specs.declared.theorem.Mode.TheVariants as mode
 use Rattle.sexp_reader.specs.declared.list.Form.{Form}
-use Rattle.sexp_reader.specs.declared.ends.ReadCode.{ReadCode}
-use Rattle.sexp_reader.specs.declared.ends.End.{End}
-use Rattle.sexp_reader.specs.declared.ends.End.TheVariants.{Clean, Bad}
+use Rattle.book_shelf.specs.declared.finish.Finish.{Finish}
+use Rattle.book_shelf.specs.declared.finish.Finish.TheVariants as finish
+use Rattle.book_shelf.specs.declared.finish.Finish.TheVariants.{Clean}
+use Rattle.book_shelf.specs.declared.finish.ShelfCode.{ShelfCode}
+use Rattle.book_shelf.specs.declared.finish.ShelfCode.TheVariants as shelf
+use Rattle.book_shelf.specs.declared.item.Item.{Item}
+use Rattle.book_shelf.specs.declared.item.Item.TheVariants as item
+use Rattle.book_shelf.specs.declared.item.Mark.{Mark}
 use Rattle.event_world.specs.declared.fault.EventFault.{EventFault}
 use Rattle.event_world.specs.EventSeen.{EventSeen, Defconst}
 use Rattle.event_world.specs.EventMeant.{event_meant}
@@ -18,7 +23,7 @@ use Rattle.event_world.specs.Prelude.{IsPrelude}
 use Rattle.event_world.specs.Suits.{HasAllGround}
 use Rattle.gl_decide.specs.Bounds.{Bounds}
 use Rattle.gl_book.specs.Answers.{IsProperAnswer}
-use Rattle.gl_book.specs.Entry.{Entry, Answered, Refused}
+use Rattle.gl_book.specs.Entry.{Entry, Answered, Marked, Refused}
 use Rattle.gl_book.specs.declared.refusal.Refusal.{Refusal}
 use Rattle.gl_book.specs.declared.refusal.RefusalCode.{RefusalCode}
 use Rattle.gl_book.specs.declared.refusal.RefusalCode.TheVariants as code
@@ -56,8 +61,15 @@ pub record CanGoOn (s : BookState) : Type 0 where
 abbrev pub refusal_at : Form → RefusalCode → Refusal
 refusal_at form code = record { line = form.line; column = form.column; code = code }
 
-abbrev pub text_refusal : ℕ → ℕ → ReadCode → Refusal
-text_refusal line column fault = record { line = line; column = column; code = code.Text fault }
+-- the end of a list of forms and books
+abbrev pub end_code : ShelfCode → RefusalCode
+end_code (shelf.Text fault) = code.Text fault
+end_code shelf.TooLong = code.TooLong
+end_code shelf.Cyclic = code.Cyclic
+end_code shelf.Many = code.Many
+
+abbrev pub end_refusal : ℕ → ℕ → ShelfCode → Refusal
+end_refusal line column fault = record { line = line; column = column; code = end_code fault }
 
 -- the cause for which a constant has no value
 abbrev pub constant_cause : Answer → Option Cause
@@ -69,35 +81,41 @@ refused_cause (Defconst name t) a = constant_cause a
 refused_cause _ a = None
 
 -- ---- forms
--- what comes of forms from a state on, by the limits of the run
-pub data Walk (names : List (List ℕ)) (bounds : Bounds) : BookState → List Form → End → List Entry → Type 0 where
-  -- no form is left: nothing more, or the text's own refusal
+-- what comes of a list from a state on, by the limits of the run
+pub data Walk (names : List (List ℕ)) (bounds : Bounds) : BookState → List Item → Finish → List Entry → Type 0 where
+  -- nothing is left: nothing more, or the refusal that ends the list
   ended : (s : BookState) → Walk names bounds s [] Clean []
-  bad : (s : BookState) (line column : ℕ) (fault : ReadCode) → Walk names bounds s [] (Bad line column fault) (Refused (text_refusal line column fault) ∷ [])
+  bad : (s : BookState) (line column : ℕ) (fault : ShelfCode) → Walk names bounds s [] (finish.Refused line column fault) (Refused (end_refusal line column fault) ∷ [])
+  -- a mark changes nothing
+  marked : (s : BookState) (m : Mark) (items : List Item) (end : Finish) (entries : List Entry) → Walk names bounds s items end entries
+      → Walk names bounds s (item.Mark m ∷ items) end (Marked m ∷ entries)
   -- the next form is refused, which ends the book
-  refused : (s : BookState) (form : Form) (forms : List Form) (end : End) (fault : EventFault) → event_in names s form.tree ≡ Err fault
-      → Walk names bounds s (form ∷ forms) end (Refused (refusal_at form (code.Event fault)) ∷ [])
+  refused : (s : BookState) (form : Form) (items : List Item) (end : Finish) (fault : EventFault) → event_in names s form.tree ≡ Err fault
+      → Walk names bounds s (item.Form form ∷ items) end (Refused (refusal_at form (code.Event fault)) ∷ [])
   -- or it means a constant that has no value for a cause other than memory, which ends the book
-  without_value : (s : BookState) (form : Form) (forms : List Form) (end : End) (e : EventSeen) (a : Answer) (why : Cause) → event_in names s form.tree ≡ Ok e
+  without_value : (s : BookState) (form : Form) (items : List Item) (end : Finish) (e : EventSeen) (a : Answer) (why : Cause) → event_in names s form.tree ≡ Ok e
       → IsProperAnswer bounds s.world s.memoized e a → refused_cause e a ≡ Some why → why ≢ cause.Memory
-      → Walk names bounds s (form ∷ forms) end (Refused (refusal_at form (code.Constant why)) ∷ [])
+      → Walk names bounds s (item.Form form ∷ items) end (Refused (refusal_at form (code.Constant why)) ∷ [])
   -- or it means an event, which is answered before the next form is looked at
-  event : (s : BookState) (form : Form) (forms : List Form) (end : End) (entries : List Entry) (e : EventSeen) (a : Answer) → event_in names s form.tree ≡ Ok e
-      → IsProperAnswer bounds s.world s.memoized e a → refused_cause e a ≡ None → Walk names bounds (state_after s form.tree e a) forms end entries
-      → Walk names bounds s (form ∷ forms) end (Answered e a ∷ entries)
+  event : (s : BookState) (form : Form) (items : List Item) (end : Finish) (entries : List Entry) (e : EventSeen) (a : Answer) → event_in names s form.tree ≡ Ok e
+      → IsProperAnswer bounds s.world s.memoized e a → refused_cause e a ≡ None → Walk names bounds (state_after s form.tree e a) items end entries
+      → Walk names bounds s (item.Form form ∷ items) end (Answered e a ∷ entries)
 
 -- ---- how a ghost value keeps a state
 abbrev pub mode_code : Mode → ℕ
 mode_code mode.Bdd = 0
 mode_code mode.Sat = 1
+mode_code mode.Param = 2
 
 abbrev pub mode_from : ℕ → Mode
 mode_from zero = mode.Bdd
-mode_from _ = mode.Sat
+mode_from (suc zero) = mode.Sat
+mode_from _ = mode.Param
 
 abbrev pub mode_back : (m : Mode) → mode_from (mode_code m) ≡ m
 mode_back mode.Bdd = refl
 mode_back mode.Sat = refl
+mode_back mode.Param = refl
 
 abbrev pub coded_state : Coded BookState
 coded_state =

@@ -5,13 +5,17 @@ ghost use Rattle.gl_logic.specs.TermOf.{term_of};
 ghost use Rattle.gl_logic.specs.IsTermOf.{IsTermOf};
 ghost use Rattle.lisp_eval.specs.Machines.{AreFunctionsOf};
 ghost use Rattle.event_world.specs.Seen.{event_seen, theorem_seen};
+ghost use Rattle.gl_cases.specs.ParamMade.{param_seen};
 ghost use Rattle.gl_decide.specs.Bounds.{bounds_of};
-ghost use Rattle.gl_book.specs.Answers.{IsProperValue, IsProperTruth, IsFunctionNamed, IsDecided, IsProperAnswer, IsReadyTheorem, IsAnswerable};
+ghost use Rattle.gl_book.specs.Answers.{IsProperValue, IsProperTruth, IsFunctionNamed, IsDecided, IsSettled, IsProperAnswer, IsReadyParam, IsReadyTheorem, IsAnswerable};
 
+use super::cases::CasesVerdict;
+use super::decided::{decided, decided_by_cases};
 use super::evaluated::{truth_of, value_of};
 use event_world::Event;
 use gl_base::limits::Limits;
-use gl_decide::{Room, Verdict, decide_theorem};
+use gl_cases::ParamThm;
+use gl_decide::Verdict;
 use gl_logic::{FnId, Term, TextId, Tree, World};
 use shape_spec::{FnSet, Thm};
 use std::alloc::Global;
@@ -47,6 +51,8 @@ pub enum Answer {
     Undecided(Cause),
     /// The verdict on a theorem.
     Decided(Verdict),
+    /// The verdict on a theorem by cases.
+    ByCases(CasesVerdict),
 }
 
 /// The answer to an event of a world, with the functions whose calls are kept at its place.
@@ -68,6 +74,7 @@ pub fn answer_of<R: Threads + Sync>(
         Event::Memoize(function) => name_answer(world, *function),
         Event::Unmemoize(function) => name_answer(world, *function),
         Event::Theorem(thm) => theorem_answer(rt, alloc, world, thm, limits),
+        Event::Cases(thm) => cases_answer(rt, alloc, world, thm, limits),
         Event::Nothing
         | Event::Redundant(_)
         | Event::Defun(_)
@@ -77,7 +84,7 @@ pub fn answer_of<R: Threads + Sync>(
     }
 }
 
-fn value_answer(
+pub(crate) fn value_answer(
     alloc: Global,
     world: &World,
     memoized: &FnSet,
@@ -112,15 +119,15 @@ fn truth_answer(
 }
 
 /// The name of a function.
-fn name_answer(world: &World, function: FnId) -> Answer
+pub(crate) fn name_answer(world: &World, function: FnId) -> Answer
     requires { function.number < length world.now.definitions }
     ensures { IsFunctionNamed world.now function.number result }
 {
     Answer::Function(world.def(function).name)
 }
 
-/// The verdict on a theorem, in a room of its own.
-fn theorem_answer<R: Threads + Sync>(
+/// The verdict on a theorem.
+pub(crate) fn theorem_answer<R: Threads + Sync>(
     rt: &R,
     alloc: Global,
     world: &World,
@@ -130,6 +137,19 @@ fn theorem_answer<R: Threads + Sync>(
     requires { IsReadyTheorem world.now.definitions (theorem_seen thm.now) }
     ensures { IsDecided (bounds_of limits.now) world.now (theorem_seen thm.now) result }
 {
-    let mut room = Room::Empty;
-    Answer::Decided(decide_theorem(rt, alloc, world, thm, limits, &mut room))
+    Answer::Decided(decided(rt, alloc, world, thm, limits))
+}
+
+/// The verdict on a theorem by cases, its parts decided one after the other.
+fn cases_answer<R: Threads + Sync>(
+    rt: &R,
+    alloc: Global,
+    world: &World,
+    thm: &ParamThm,
+    limits: &Limits,
+) -> Answer
+    requires { IsReadyParam world.now.definitions (param_seen thm.now) }
+    ensures { IsSettled (bounds_of limits.now) world.now (param_seen thm.now) result }
+{
+    Answer::ByCases(decided_by_cases(rt, alloc, world, thm, limits))
 }

@@ -5,6 +5,7 @@ ghost use Rattle.gl_book.specs.Lines.{done_line, is_proved, is_vacuous, is_refut
 ghost use Rattle.gl_book.specs.Stops.{one_more, counts_with, HasRoom};
 
 use super::answer::Answer;
+use super::cases::CasesVerdict;
 use gl_base::status::Status;
 use gl_decide::Verdict;
 use gl_logic::NoMemory;
@@ -25,21 +26,30 @@ pub struct Counts {
 fn proved(answer: &Answer) -> bool
     ensures { result ≡ is_proved answer.now }
 {
-    matches!(answer, Answer::Decided(Verdict::Proved))
+    matches!(
+        answer,
+        Answer::Decided(Verdict::Proved) | Answer::ByCases(CasesVerdict::Proved)
+    )
 }
 
 /// Whether an answer is a theorem whose hypothesis nothing meets.
 fn vacuous(answer: &Answer) -> bool
     ensures { result ≡ is_vacuous answer.now }
 {
-    matches!(answer, Answer::Decided(Verdict::Vacuous))
+    matches!(
+        answer,
+        Answer::Decided(Verdict::Vacuous) | Answer::ByCases(CasesVerdict::Vacuous)
+    )
 }
 
 /// Whether an answer is a theorem that is refuted.
 fn refuted(answer: &Answer) -> bool
     ensures { result ≡ is_refuted answer.now }
 {
-    matches!(answer, Answer::Decided(Verdict::Refuted(_)))
+    matches!(
+        answer,
+        Answer::Decided(Verdict::Refuted(_)) | Answer::ByCases(CasesVerdict::Refuted(_))
+    )
 }
 
 /// Whether an answer leaves its event undecided.
@@ -53,6 +63,12 @@ fn undecided(answer: &Answer) -> bool
             !matches!(
                 verdict,
                 Verdict::Proved | Verdict::Vacuous | Verdict::Refuted(_)
+            )
+        }
+        Answer::ByCases(verdict) => {
+            !matches!(
+                verdict,
+                CasesVerdict::Proved | CasesVerdict::Vacuous | CasesVerdict::Refuted(_)
             )
         }
     }

@@ -1,23 +1,37 @@
 //! What the definition of a transcript leaves open. The laws are the contracts of functions that do nothing.
 
-ghost use Rattle.std.specs.Prelude.{ℕ, List};
+ghost use Rattle.std.specs.Prelude.{◌≡◌, ℕ, List, None};
+ghost use Rattle.gl_logic.specs.Every.{Every};
 ghost use Rattle.gl_logic.specs.Exp.{Exp};
 ghost use Rattle.gl_logic.specs.WorldSeen.{WorldSeen};
+ghost use Rattle.gl_base.specs.declared.status.Status.{Status as StatusSeen};
 ghost use Rattle.sexp_reader.specs.declared.list.Form.{Form as FormSeen};
 ghost use Rattle.sexp_reader.specs.declared.ends.End.{End as EndSeen};
+ghost use Rattle.book_shelf.specs.declared.finish.Finish.{Finish as FinishSeen};
+ghost use Rattle.book_shelf.specs.declared.item.Item.{Item as ItemSeen};
+ghost use Rattle.book_shelf.specs.Included.{included};
 ghost use Rattle.event_world.specs.NextState.{BookState};
 ghost use Rattle.gl_decide.specs.Bounds.{Bounds};
+ghost use Rattle.gl_decide.specs.Stalls.{StallSeen};
 ghost use Rattle.gl_book.specs.Answers.{IsProperTruth, IsProperValue, IsTooLarge};
 ghost use Rattle.gl_book.specs.Completeness.{AgreeBut, IsFound, StaysWithin, refusal_in};
 ghost use Rattle.gl_book.specs.Entry.{Entry};
+ghost use Rattle.gl_book.specs.Transcript.{IsReadBy, IsTranscript, IsBookTranscript};
 ghost use Rattle.gl_book.specs.Walk.{Walk};
 ghost use Rattle.gl_book.specs.declared.answer.Answer.{Answer as AnswerSeen};
 
-/// Whether a book is refused, at which place and with which code, is decided by its text and the events before it: two
-/// walks over the same forms agree, but for a constant without a value.
+/// Whether a book is refused, at which place and with which code, is decided by its list and the events before it: two
+/// walks over the same list agree, but for a constant without a value.
 pub fn one_refusal()
-    ensures { (names : List (List ℕ)) (bounds : Bounds) (state : BookState) (forms : List FormSeen) (end : EndSeen) (xs ys : List Entry)
-        → Walk names bounds state forms end xs → Walk names bounds state forms end ys → AgreeBut (refusal_in xs) (refusal_in ys) }
+    ensures { (names : List (List ℕ)) (bounds : Bounds) (state : BookState) (items : List ItemSeen) (end : FinishSeen) (xs ys : List Entry)
+        → Walk names bounds state items end xs → Walk names bounds state items end ys → AgreeBut (refusal_in xs) (refusal_in ys) }
+{}
+
+/// A transcript of a book whose text includes no other is one of the text, whatever else the shelf has.
+pub fn alone_has_its_text()
+    ensures { (bounds : Bounds) (shelf : List ℕ → List ℕ) (name : List ℕ) (lines : List (List ℕ)) (stalls : List StallSeen) (s : StatusSeen)
+        → ((names : List (List ℕ)) (forms : List FormSeen) (end : EndSeen) → IsReadBy names (shelf name) forms end → Every (λ form. included names form.tree ≡ None) forms)
+        → IsBookTranscript bounds shelf name lines stalls s → IsTranscript bounds (shelf name) lines stalls s }
 {}
 
 /// A term without variables that stays within 128 bits, the steps and the cells gets its value, unless memory is refused:

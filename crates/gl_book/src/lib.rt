@@ -1,26 +1,35 @@
-//! A book's events, from its bytes to its transcript.
+//! A book's events, from its bytes, or from the list of it and of the books that it includes, to its transcript.
 //!
 //! - forms to events: `state`, what stands behind the events so far, and what the next form means there, by `members` and
 //!   `functions`;
-//! - events to answers: `answer`, `evaluated`;
+//! - events to answers: `answer`, `evaluated`, `decided`, and `cases`, what the parts of a theorem by cases come to;
 //! - a large book made from a number: `generator`;
 //! - jobs, whose answers may come later: `waiting`, a list of `job`; their answers by any number of workers, `phase`, by
-//!   `piece` and `pieces`;
-//! - answers to what is written: `walk` over all forms, by `progress`, `put_event`, and `ending`, where a phase ends; `lines`,
-//!   `measure_words`, `refusal`, `counts`, `line_list`, `put_lines`, `stop`, `run`;
-//! - what is left of an answer then: `settle`.
+//!   `task`, `piece` and `pieces`, and `gather`, from tasks back to jobs;
+//! - answers to what is written: `walk` over all forms and the marks of included books, by `progress`, `put_event`, `marks`,
+//!   and `ending`, where a phase ends; `lines`, `measure_words`, `refusal`, `counts`, `line_list`, `put_lines`, `stop`,
+//!   `run`;
+//! - what is left of an answer then: `settle`;
+//! - the last theorem of a text, without deciding one: `last`, by `last_step` and `untried`, and the lines of a verdict on it,
+//!   `verdict_text`.
 #![tactic(auto)]
 
 mod answer;
+mod cases;
 mod counts;
+mod decided;
 mod ending;
 mod evaluated;
 mod functions;
+mod gather;
 mod generator;
 mod job;
+mod last;
+mod last_step;
 pub mod laws;
 mod line_list;
 mod lines;
+mod marks;
 mod measure_words;
 mod members;
 mod phase;
@@ -34,10 +43,17 @@ mod run;
 mod settle;
 mod state;
 mod stop;
+mod task;
+mod untried;
+mod verdict_text;
 mod waiting;
 mod walk;
 
 pub use answer::{Answer, Cause, answer_of};
+pub use cases::CasesVerdict;
 pub use generator::generate;
-pub use run::{every_text_has_a_transcript, run_book, run_text, run_text_gated};
+pub use last::{Last, last_theorem};
+pub use run::{every_text_has_a_transcript, run_book, run_library, run_text, run_text_gated};
+pub use settle::keep_stall;
+pub use verdict_text::verdict_lines;
 pub use walk::every_walk_goes_on;

@@ -1,12 +1,14 @@
 //! The lines of a transcript.
 
 ghost use Rattle.std.specs.Prelude.{◌≡◌, [], ◌∷◌, ◌++◌, length, codes, map, IfOk, OnOk};
+ghost use Rattle.std.specs.Fmt.{decimal};
 ghost use Rattle.gl_logic.specs.DefinitionOf.{definition_of};
-ghost use Rattle.sexp_print.specs.Printed.{name_of, printed};
+ghost use Rattle.sexp_print.specs.Printed.{printed};
 ghost use Rattle.event_world.specs.Seen.{event_seen};
-ghost use Rattle.gl_book.specs.Lines.{named_line, input_lines, part_word, part_lines, verdict_lines, redundant_line, defun_line, constant_lines, value_lines, assert_lines, undecided_line, function_lines, mode_line, theorem_lines, event_lines};
+ghost use Rattle.gl_book.specs.Lines.{named_line, input_lines, part_word, open_words, open_input, open_lines, refuted_lines, verdict_lines, cases_lines, redundant_line, defun_line, constant_lines, value_lines, assert_lines, undecided_line, function_lines, mode_line, theorem_lines, by_cases_lines, event_lines};
 
 use super::answer::{Answer, Cause};
+use super::cases::CasesVerdict;
 use super::line_list::Lines;
 use super::measure_words::stated_measure;
 use super::refusal::cause_word;
@@ -40,6 +42,7 @@ pub fn add_event_lines(
         Event::Unmemoize(_) => add_function(alloc, b"UNMEMOIZE ", answer, texts, lines),
         Event::Mode(mode) => add_mode(alloc, *mode, lines),
         Event::Theorem(thm) => add_theorem(alloc, thm.name, answer, texts, lines),
+        Event::Cases(thm) => add_by_cases(alloc, thm.cover.name, answer, texts, lines),
     }
 }
 
@@ -177,6 +180,7 @@ fn add_mode(alloc: Global, mode: Mode, lines: &mut Lines) -> Result<(), NoMemory
     match mode {
         Mode::Bdd => add_plain(alloc, b"MODE BDD\n", lines),
         Mode::Sat => add_plain(alloc, b"MODE SAT\n", lines),
+        Mode::Param => add_plain(alloc, b"MODE PARAM\n", lines),
     }
 }
 
@@ -202,7 +206,7 @@ fn add_plain(alloc: Global, line: &[u8], lines: &mut Lines) -> Result<(), NoMemo
     lines.push(line.to_vec(alloc)?)
 }
 
-fn add_verdict(
+pub(crate) fn add_verdict(
     alloc: Global,
     name: TextId,
     verdict: &Verdict,
@@ -214,27 +218,131 @@ fn add_verdict(
     match verdict {
         Verdict::Proved => add_named(alloc, b"PROVED ", name, b"", texts, lines),
         Verdict::Vacuous => add_named(alloc, b"VACUOUS ", name, b"", texts, lines),
-        Verdict::Refuted(input) => {
-            add_named(alloc, b"REFUTED ", name, b"", texts, lines)?;
+        Verdict::Refuted(input) => add_refuted(alloc, name, input, texts, lines),
+        _ => add_open(alloc, name, b"", verdict, texts, lines),
+    }
+}
+
+/// A theorem by cases. Where it is left undecided, the line tells which part is, or that an input is of no case.
+fn add_by_cases(
+    alloc: Global,
+    name: TextId,
+    answer: &Answer,
+    texts: &Texts,
+    lines: &mut Lines,
+) -> Result<(), NoMemory>
+    ensures { OnOk result (lines.new ≡ lines.old ++ by_cases_lines texts.now name.number answer.now) }
+{
+    match answer {
+        Answer::ByCases(verdict) => add_cases(alloc, name, verdict, texts, lines),
+        _ => Ok(()),
+    }
+}
+
+fn add_cases(
+    alloc: Global,
+    name: TextId,
+    verdict: &CasesVerdict,
+    texts: &Texts,
+    lines: &mut Lines,
+) -> Result<(), NoMemory>
+    ensures { OnOk result (lines.new ≡ lines.old ++ cases_lines texts.now name.number verdict.now) }
+{
+    match verdict {
+        CasesVerdict::Proved => add_named(alloc, b"PROVED ", name, b"", texts, lines),
+        CasesVerdict::Vacuous => add_named(alloc, b"VACUOUS ", name, b"", texts, lines),
+        CasesVerdict::Refuted(input) => add_refuted(alloc, name, input, texts, lines),
+        CasesVerdict::Uncased(input) => {
+            add_named(alloc, b"UNDECIDED ", name, b" uncased", texts, lines)?;
             add_input(alloc, input, texts, lines)
         }
-        Verdict::Uncovered(variable) => add_uncovered(alloc, name, *variable, texts, lines),
-        Verdict::Clock(part, input) => add_part(
-            alloc, name, b" clock ", *part, input, texts, lines,
-        ),
-        Verdict::Width(part, input) => add_part(
-            alloc, name, b" width ", *part, input, texts, lines,
-        ),
-        Verdict::Steps(part, input) => add_part(
-            alloc, name, b" steps ", *part, input, texts, lines,
-        ),
-        Verdict::Cells(part, input) => add_part(
-            alloc, name, b" cells ", *part, input, texts, lines,
-        ),
-        Verdict::Nodes(_) => add_named(alloc, b"UNDECIDED ", name, b" nodes", texts, lines),
-        Verdict::Clauses(_) => add_named(alloc, b"UNDECIDED ", name, b" clauses", texts, lines),
-        Verdict::Memory => add_named(alloc, b"UNDECIDED ", name, b" memory", texts, lines),
+        CasesVerdict::Cover(verdict) => add_open(alloc, name, b" cover", verdict, texts, lines),
+        CasesVerdict::Case(number, verdict) => {
+            add_open_case(alloc, name, *number, verdict, texts, lines)
+        }
     }
+}
+
+/// A theorem by cases that its case with this number leaves undecided.
+fn add_open_case(
+    alloc: Global,
+    name: TextId,
+    number: u32,
+    verdict: &Verdict,
+    texts: &Texts,
+    lines: &mut Lines,
+) -> Result<(), NoMemory>
+    ensures { OnOk result (lines.new ≡ lines.old ++ open_lines texts.now name.number (codes " case " ++ decimal number) verdict.now) }
+{
+    let part = format!(in alloc; " case {number}")?;
+    add_open(alloc, name, part.as_bytes(), verdict, texts, lines)
+}
+
+/// A theorem that is refuted by an input.
+fn add_refuted(
+    alloc: Global,
+    name: TextId,
+    input: &Inputs,
+    texts: &Texts,
+    lines: &mut Lines,
+) -> Result<(), NoMemory>
+    ensures { OnOk result (lines.new ≡ lines.old ++ refuted_lines texts.now name.number input.now) }
+{
+    add_named(alloc, b"REFUTED ", name, b"", texts, lines)?;
+    add_input(alloc, input, texts, lines)
+}
+
+/// A theorem that is left undecided, or a part of it that words name, with the cause and its input.
+fn add_open(
+    alloc: Global,
+    name: TextId,
+    part: &[u8],
+    verdict: &Verdict,
+    texts: &Texts,
+    lines: &mut Lines,
+) -> Result<(), NoMemory>
+    ensures { OnOk result (lines.new ≡ lines.old ++ open_lines texts.now name.number part.now verdict.now) }
+{
+    let mut words = Vec::new(alloc);
+    add_word(part, &mut words)?;
+    add_cause(verdict, texts, &mut words)?;
+    add_named(alloc, b"UNDECIDED ", name, &words, texts, lines)?;
+    add_cause_input(alloc, verdict, texts, lines)
+}
+
+/// Adds the words for what leaves a theorem undecided.
+fn add_cause(verdict: &Verdict, texts: &Texts, words: &mut Vec<u8>) -> Result<(), NoMemory>
+    ensures { OnOk result (words.new.items ≡ words.old.items ++ open_words texts.now verdict.now) }
+{
+    match verdict {
+        Verdict::Uncovered(variable) => {
+            add_word(b" uncovered ", words)?;
+            add_word(texts.text(*variable), words)
+        }
+        Verdict::Clock(part, _) => add_part(b" clock ", *part, words),
+        Verdict::Width(part, _) => add_part(b" width ", *part, words),
+        Verdict::Steps(part, _) => add_part(b" steps ", *part, words),
+        Verdict::Cells(part, _) => add_part(b" cells ", *part, words),
+        Verdict::Nodes(_) => add_word(b" nodes", words),
+        Verdict::Clauses(_) => add_word(b" clauses", words),
+        Verdict::Memory => add_word(b" memory", words),
+        Verdict::Proved | Verdict::Vacuous | Verdict::Refuted(_) => Ok(()),
+    }
+}
+
+fn add_word(word: &[u8], words: &mut Vec<u8>) -> Result<(), NoMemory>
+    ensures { OnOk result (words.new.items ≡ words.old.items ++ word.now) }
+{
+    words.extend_from_slice(word)?;
+    Ok(())
+}
+
+/// Adds a cause, and the part of a theorem whose value it is of.
+fn add_part(cause: &[u8], part: Part, words: &mut Vec<u8>) -> Result<(), NoMemory>
+    ensures { OnOk result (words.new.items ≡ words.old.items ++ (cause.now ++ part_word part)) }
+{
+    add_word(cause, words)?;
+    add_word(word_of_part(part), words)
 }
 
 /// The word for a part.
@@ -247,50 +355,22 @@ fn word_of_part(part: Part) -> &'static [u8]
     }
 }
 
-fn part_words(alloc: Global, word: &[u8], part: Part) -> Result<Vec<u8>, NoMemory>
-    ensures { IfOk result (λ v. v.items ≡ word.now ++ part_word part) }
-{
-    let mut words = word.to_vec(alloc)?;
-    words.extend_from_slice(word_of_part(part))?;
-    Ok(words)
-}
-
-/// A theorem that is left undecided for a cause on an input of a part.
-fn add_part(
+/// Adds the lines of the input of what leaves a theorem undecided, where it has one.
+fn add_cause_input(
     alloc: Global,
-    name: TextId,
-    word: &[u8],
-    part: Part,
-    input: &Inputs,
+    verdict: &Verdict,
     texts: &Texts,
     lines: &mut Lines,
 ) -> Result<(), NoMemory>
-    ensures { OnOk result (lines.new ≡ lines.old ++ part_lines texts.now name.number word.now part input.now) }
+    ensures { OnOk result (lines.new ≡ lines.old ++ input_lines texts.now (open_input verdict.now)) }
 {
-    let after = part_words(alloc, word, part)?;
-    add_named(alloc, b"UNDECIDED ", name, &after, texts, lines)?;
-    add_input(alloc, input, texts, lines)
-}
-
-fn add_uncovered(
-    alloc: Global,
-    name: TextId,
-    variable: TextId,
-    texts: &Texts,
-    lines: &mut Lines,
-) -> Result<(), NoMemory>
-    ensures { OnOk result (lines.new ≡ lines.old ++ named_line texts.now (codes "UNDECIDED ") name.number (codes " uncovered " ++ name_of texts.now variable.number) ∷ []) }
-{
-    let after = uncovered_words(alloc, variable, texts)?;
-    add_named(alloc, b"UNDECIDED ", name, &after, texts, lines)
-}
-
-fn uncovered_words(alloc: Global, variable: TextId, texts: &Texts) -> Result<Vec<u8>, NoMemory>
-    ensures { IfOk result (λ v. v.items ≡ codes " uncovered " ++ name_of texts.now variable.number) }
-{
-    let mut after = b" uncovered ".to_vec(alloc)?;
-    after.extend_from_slice(texts.text(variable))?;
-    Ok(after)
+    match verdict {
+        Verdict::Clock(_, input)
+        | Verdict::Width(_, input)
+        | Verdict::Steps(_, input)
+        | Verdict::Cells(_, input) => add_input(alloc, input, texts, lines),
+        _ => Ok(()),
+    }
 }
 
 /// A line for each variable of an input.
@@ -325,7 +405,7 @@ fn add_variable(
 }
 
 /// Words, a name, and words.
-fn add_named(
+pub(crate) fn add_named(
     alloc: Global,
     before: &[u8],
     name: TextId,

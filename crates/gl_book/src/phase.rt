@@ -2,12 +2,15 @@
 
 ghost use Rattle.std.specs.Prelude.{◌≡◌, ◌<◌, ◌≤◌, ℕ, All, IfOk, length, vec_len, slice_index_or};
 ghost use Rattle.gl_decide.specs.Bounds.{bounds_of};
-ghost use Rattle.gl_book.specs.Phases.{AreAnswered, CanBeAnswered, IsPieceAnswered, IsWithin, Joins, jobs_of, with_one_worker};
+ghost use Rattle.gl_book.specs.Phases.{AreAnswered, CanBeAnswered, IsAnsweredBy, IsPieceAnswered, IsWithin, Joins, jobs_of, with_one_worker};
+ghost use Rattle.gl_book.specs.Tasks.{task_seen, tasks_in};
 ghost use Rattle.gl_book.specs.declared.piece.Piece.{Piece as PieceSeen};
 
-use super::answer::{Answer, answer_of};
+use super::answer::{Answer, answer_of, theorem_answer};
+use super::gather::gather;
 use super::piece::Piece;
 use super::pieces::pieces_of;
+use super::task::{Task, Tasks, tasks_of};
 use super::waiting::Waiting;
 use gl_base::limits::Limits;
 use gl_decide::Gate;
@@ -17,12 +20,13 @@ use std::thread::{self, Threads};
 
 /// An answer for each job of a phase, in the world at its end.
 ///
-/// One job has all workers for its scan. Of two or more each has one worker for itself, and they are dealt out in pieces,
-/// one to a worker, which calls `gate.enter` with the job's number in the phase, from 0, when it begins a job.
+/// The jobs are done as tasks: a theorem by cases gives its cover and each of its cases, and any other job is one. One
+/// task has all workers for its scan. Of two or more each has one worker for itself, and they are dealt out in pieces, one
+/// to a worker, which calls `gate.enter` with the task's number in the phase, from 0, when it begins a task.
 ///
 /// # Errors
 ///
-/// `NoMemory` where memory was refused outside a job, and for more than 4,294,967,295 jobs, which no book has.
+/// `NoMemory` where memory was refused outside a task, and for more than 4,294,967,295 tasks, which no book has.
 pub(crate) fn phase_answers<R: Threads + Sync, G: Gate>(
     rt: &R,
     alloc: Global,
@@ -34,49 +38,82 @@ pub(crate) fn phase_answers<R: Threads + Sync, G: Gate>(
     requires { All (CanBeAnswered world.now.definitions) (jobs_of waiting.now) }
     ensures { IfOk result (λ v. AreAnswered (bounds_of limits.now) world.now (jobs_of waiting.now) v.items) }
 {
-    match waiting.len() {
+    let tasks = tasks_of(alloc, waiting)?;
+    let answers = tasks_answers(rt, alloc, world, &tasks, limits, gate)?;
+    gather(alloc, waiting, answers)
+}
+
+/// An answer for each task.
+fn tasks_answers<R: Threads + Sync, G: Gate>(
+    rt: &R,
+    alloc: Global,
+    world: &World,
+    tasks: &Tasks<'_>,
+    limits: &Limits,
+    gate: &G,
+) -> Result<Vec<Answer>, NoMemory>
+    requires { All (CanBeAnswered world.now.definitions) (tasks_in tasks.now) }
+    ensures { IfOk result (λ v. AreAnswered (bounds_of limits.now) world.now (tasks_in tasks.now) v.items) }
+{
+    match tasks.len() {
         0 => Ok(Vec::new(alloc)),
-        1 => one_answer(rt, alloc, world, waiting, limits),
-        _ => many_answers(rt, alloc, world, waiting, limits, gate),
+        1 => one_answer(rt, alloc, world, tasks, limits),
+        _ => many_answers(rt, alloc, world, tasks, limits, gate),
     }
 }
 
-/// The answer to the only job.
+/// The answer to a task.
+fn task_answer<R: Threads + Sync>(
+    rt: &R,
+    alloc: Global,
+    world: &World,
+    task: &Task<'_>,
+    limits: &Limits,
+) -> Answer
+    requires { CanBeAnswered world.now.definitions (task_seen task.now) }
+    ensures { IsAnsweredBy (bounds_of limits.now) world.now (task_seen task.now) result }
+{
+    match task {
+        Task::Event(event, memoized) => answer_of(rt, alloc, world, memoized, event, limits),
+        Task::Theorem(thm, _) => theorem_answer(rt, alloc, world, thm, limits),
+    }
+}
+
+/// The answer to the only task.
 fn one_answer<R: Threads + Sync>(
     rt: &R,
     alloc: Global,
     world: &World,
-    waiting: &Waiting,
+    tasks: &Tasks<'_>,
     limits: &Limits,
 ) -> Result<Vec<Answer>, NoMemory>
-    requires one { length (jobs_of waiting.now) ≡ 1 }
-    requires answerable { All (CanBeAnswered world.now.definitions) (jobs_of waiting.now) }
-    ensures { IfOk result (λ v. AreAnswered (bounds_of limits.now) world.now (jobs_of waiting.now) v.items) }
+    requires one { length (tasks_in tasks.now) ≡ 1 }
+    requires answerable { All (CanBeAnswered world.now.definitions) (tasks_in tasks.now) }
+    ensures { IfOk result (λ v. AreAnswered (bounds_of limits.now) world.now (tasks_in tasks.now) v.items) }
 {
-    let job = waiting.at(0);
     let mut answers = Vec::new(alloc);
-    answers.push(answer_of(rt, alloc, world, &job.memoized, &job.event, limits))?;
+    answers.push(task_answer(rt, alloc, world, tasks.at(0), limits))?;
     Ok(answers)
 }
 
-/// The answers to two jobs or more, by as many workers as the limits say.
+/// The answers to two tasks or more, by as many workers as the limits say.
 fn many_answers<R: Threads + Sync, G: Gate>(
     rt: &R,
     alloc: Global,
     world: &World,
-    waiting: &Waiting,
+    tasks: &Tasks<'_>,
     limits: &Limits,
     gate: &G,
 ) -> Result<Vec<Answer>, NoMemory>
-    requires some { 1 ≤ length (jobs_of waiting.now) }
-    requires answerable { All (CanBeAnswered world.now.definitions) (jobs_of waiting.now) }
-    ensures { IfOk result (λ v. AreAnswered (bounds_of limits.now) world.now (jobs_of waiting.now) v.items) }
+    requires some { 1 ≤ length (tasks_in tasks.now) }
+    requires answerable { All (CanBeAnswered world.now.definitions) (tasks_in tasks.now) }
+    ensures { IfOk result (λ v. AreAnswered (bounds_of limits.now) world.now (tasks_in tasks.now) v.items) }
 {
-    let Ok(count) = u32::try_from(waiting.len()) else {
+    let Ok(count) = u32::try_from(tasks.len()) else {
         return Err(NoMemory);
     };
     let pieces = pieces_of(alloc, count, u32::from(limits.workers))?;
-    let parts = answers_by_piece(rt, alloc, world, waiting, &alone(limits), gate, pieces)?;
+    let parts = answers_by_piece(rt, alloc, world, tasks, &alone(limits), gate, pieces)?;
     joined(alloc, parts)
 }
 
@@ -94,47 +131,46 @@ fn alone(limits: &Limits) -> Limits
     }
 }
 
-/// The answers to the jobs of each piece, each by a worker.
+/// The answers to the tasks of each piece, each by a worker.
 fn answers_by_piece<R: Threads + Sync, G: Gate>(
     rt: &R,
     alloc: Global,
     world: &World,
-    waiting: &Waiting,
+    tasks: &Tasks<'_>,
     limits: &Limits,
     gate: &G,
     pieces: Vec<Piece>,
 ) -> Result<Vec<Result<Vec<Answer>, NoMemory>>, AllocError>
-    requires answerable { All (CanBeAnswered world.now.definitions) (jobs_of waiting.now) }
-    requires within { All (IsWithin (length (jobs_of waiting.now))) pieces.items }
+    requires answerable { All (CanBeAnswered world.now.definitions) (tasks_in tasks.now) }
+    requires within { All (IsWithin (length (tasks_in tasks.now))) pieces.items }
     ensures count { IfOk result (λ v. vec_len v ≡ vec_len pieces) }
-    ensures each { IfOk result (λ v. (i : ℕ) (p : PieceSeen) (a : _) → i < length pieces.items → IsPieceAnswered (bounds_of limits.now) world.now (jobs_of waiting.now) (slice_index_or pieces.items i p) (slice_index_or v.items i a)) }
+    ensures each { IfOk result (λ v. (i : ℕ) (p : PieceSeen) (a : _) → i < length pieces.items → IsPieceAnswered (bounds_of limits.now) world.now (tasks_in tasks.now) (slice_index_or pieces.items i p) (slice_index_or v.items i a)) }
 {
     let each = |piece: Piece| -> Result<Vec<Answer>, NoMemory>
-        requires { All (CanBeAnswered world.now.definitions) (jobs_of waiting.now) × IsWithin (length (jobs_of waiting.now)) piece }
-        ensures { IsPieceAnswered (bounds_of limits.entry.now) world.entry.now (jobs_of waiting.entry.now) piece result }
-    { piece_answers(rt, alloc, world, waiting, limits, gate, piece) };
+        requires { All (CanBeAnswered world.now.definitions) (tasks_in tasks.now) × IsWithin (length (tasks_in tasks.now)) piece }
+        ensures { IsPieceAnswered (bounds_of limits.entry.now) world.entry.now (tasks_in tasks.entry.now) piece result }
+    { piece_answers(rt, alloc, world, tasks, limits, gate, piece) };
     thread::map_vec(rt, pieces, &each)
 }
 
-/// The answers to the jobs of a piece, in order.
+/// The answers to the tasks of a piece, in order.
 fn piece_answers<R: Threads + Sync, G: Gate>(
     rt: &R,
     alloc: Global,
     world: &World,
-    waiting: &Waiting,
+    tasks: &Tasks<'_>,
     limits: &Limits,
     gate: &G,
     piece: Piece,
 ) -> Result<Vec<Answer>, NoMemory>
-    requires answerable { All (CanBeAnswered world.now.definitions) (jobs_of waiting.now) }
-    requires within { IsWithin (length (jobs_of waiting.now)) piece }
-    ensures { IsPieceAnswered (bounds_of limits.now) world.now (jobs_of waiting.now) piece result }
+    requires answerable { All (CanBeAnswered world.now.definitions) (tasks_in tasks.now) }
+    requires within { IsWithin (length (tasks_in tasks.now)) piece }
+    ensures { IsPieceAnswered (bounds_of limits.now) world.now (tasks_in tasks.now) piece result }
 {
     let mut answers = Vec::new(alloc);
     for number in piece.first..piece.end {
         gate.enter(number);
-        let job = waiting.at(u64::from(number));
-        let answer = answer_of(rt, alloc, world, &job.memoized, &job.event, limits);
+        let answer = task_answer(rt, alloc, world, tasks.at(u64::from(number)), limits);
         answers.push(answer)?;
     }
     Ok(answers)

@@ -92,7 +92,7 @@ pub(crate) fn put_job<K: Sink>(
 }
 
 /// Writes lines, where not the last line alone is written.
-fn put_behind<K: Sink>(lines: &Lines, last_only: bool, out: &mut K) -> Result<(), Stop>
+pub(crate) fn put_behind<K: Sink>(lines: &Lines, last_only: bool, out: &mut K) -> Result<(), Stop>
     ensures ok { OnOk result (Grows (K.written out.old) (K.written out.new) (told_before last_only lines.now)) }
     ensures front { OnErr result ((n : ℕ) × Grows (K.written out.old) (K.written out.new) (take n (told_before last_only lines.now))) }
     ensures cause { IsCounted (K.faults out.old) (K.faults out.new) result }

@@ -15,9 +15,13 @@ use std::alloc::Global;
 pub enum RefusalCode {
     /// A fault of the text: S1 to S9.
     Text(ReadCode),
-    /// A byte more than a book may have: S10.
+    /// A byte more than a text may have: S10.
     TooLong,
-    /// A form that means no event: V1 to V8 and V10 to V12. Want of memory refuses no form.
+    /// A book that is being read is included: V14.
+    Cyclic,
+    /// The text of an included book would be the 65th different one: V15.
+    Many,
+    /// A form that means no event: V1 to V8 and V10 to V13. Want of memory refuses no form.
     Event(EventFault),
     /// A constant without a value: V9.
     Constant(Cause),
@@ -85,6 +89,7 @@ fn event_words(alloc: Global, fault: EventFault) -> Result<String, NoMemory>
         EventFault::NotAdmitted(call) => return Ok(format!(in alloc; "V8 {call}")?),
         EventFault::BadBindings => "V10",
         EventFault::BadOption => "V11",
+        EventFault::BadCases => "V13",
         EventFault::Memory => "memory",
     };
     Ok(word.to_string(alloc)?)
@@ -97,6 +102,8 @@ fn words(alloc: Global, code: RefusalCode) -> Result<String, NoMemory>
     match code {
         RefusalCode::Text(fault) => Ok(read_word(fault).to_string(alloc)?),
         RefusalCode::TooLong => Ok("S10".to_string(alloc)?),
+        RefusalCode::Cyclic => Ok("V14".to_string(alloc)?),
+        RefusalCode::Many => Ok("V15".to_string(alloc)?),
         RefusalCode::Event(fault) => event_words(alloc, fault),
         RefusalCode::Constant(cause) => {
             let cause = cause_word(cause);

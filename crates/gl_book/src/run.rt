@@ -1,4 +1,4 @@
-//! From a text or a shelf to a sink.
+//! From a text, a list or a shelf to a sink.
 
 ghost use Rattle.std.specs.Prelude.{◌≡◌, ◌≢◌, ◌≤◌, ℕ, List, length, IfOk};
 ghost use Rattle.gl_base.specs.Outside.{Rose};
@@ -6,7 +6,11 @@ ghost use Rattle.gl_base.specs.declared.status.Status.{Status as StatusSeen};
 ghost use Rattle.sexp_reader.specs.Book.{IsBeyond};
 ghost use Rattle.gl_decide.specs.Bounds.{Bounds, bounds_of};
 ghost use Rattle.gl_decide.specs.Stalls.{StallSeen};
-ghost use Rattle.gl_book.specs.Transcript.{IsTranscript, EndsWith, WritesBook, most_bytes};
+ghost use Rattle.gl_logic.specs.Every.{Every};
+ghost use Rattle.gl_logic.specs.Names.{Extends};
+ghost use Rattle.book_shelf.specs.NumberedItems.{IsNumberedItem};
+ghost use Rattle.gl_book.specs.Transcript.{IsTranscript, EndsWith, EndsWithList, WritesBook};
+ghost use Rattle.book_shelf.specs.Flat.{most_bytes};
 ghost use Rattle.gl_book.specs.Stops.{EndsBy, status_from, IsCounted, IsReported};
 
 use super::counts::Counts;
@@ -14,13 +18,14 @@ use super::refusal::{Refusal, RefusalCode};
 use super::state::State;
 use super::stop::Stop;
 use super::walk::{close, walk};
+use book_shelf::{Library, LoadEnd, load};
 use gl_base::limits::Limits;
 use gl_base::shelf::Shelf;
 use gl_base::sink::Sink;
 use gl_base::status::Status;
 use gl_decide::{Gate, OpenGate, Stalls};
 use gl_logic::Texts;
-use sexp_reader::{ReadEnd, forms, read_book, too_long};
+use sexp_reader::{forms, too_long};
 use std::alloc::Global;
 use std::thread::Threads;
 
@@ -77,10 +82,42 @@ pub fn run_text_gated<R: Threads + Sync, K: Sink, G: Gate>(
     status_of_run(write_text(rt, alloc, text, limits, last_only, gate, stalls, out))
 }
 
-/// Reads the book of a name, and writes its transcript.
+/// Writes the transcript of the list of a book and of the books that it includes, and answers the status that it gives. A
+/// `REFUSED` line has the place in the text of the last `BOOK` line without its `END`, or of the first book.
+///
+/// The table has the texts of the list. It gains those of the ground definitions, and the empty one.
+///
+/// What is written, answered and kept with a write that fails or memory that is refused is as with [`run_text`].
+pub fn run_library<R: Threads + Sync, K: Sink>(
+    rt: &R,
+    alloc: Global,
+    library: &Library,
+    texts: &mut Texts,
+    limits: &Limits,
+    stalls: &mut Stalls,
+    out: &mut K,
+) -> Status
+    requires numbered { Every (IsNumberedItem (length texts.old)) library.now.items }
+    ensures written { EndsWithList (bounds_of limits.now) texts.old library.now.items library.now.finish (K.written out.old) (K.written out.new) stalls.old stalls.new result }
+    ensures texts { Extends texts.old texts.new }
+    ensures write_fault { result ≡ Status.WriteFault → Rose (K.faults out.old) (K.faults out.new) }
+    ensures no_write_fault { result ≢ Status.WriteFault → K.faults out.new ≡ K.faults out.old }
+    ensures no_read_fault { result ≢ Status.ReadFault }
+    ensures no_usage { result ≢ Status.Usage }
+{
+    let Ok(mut state) = State::new(alloc, texts) else {
+        return Status::NoMemory;
+    };
+    texts.is_table();
+    status_of_run(walk(
+        rt, alloc, library, limits, &mut state, texts, false, &OpenGate, stalls, out,
+    ))
+}
+
+/// Reads the book of a name and the books that it includes, and then writes the transcript.
 ///
 /// ReadFault where a call of the shelf failed; that was then the last one, nothing was written, and no stall was added.
-/// A book of more than 4,194,304 bytes is refused at the first of the others, and none of its events is processed.
+/// A text of more than 4,194,304 bytes is refused at the first of the others, and none of its events is processed.
 pub fn run_book<R: Threads + Sync, S: Shelf, K: Sink>(
     rt: &R,
     alloc: Global,
@@ -90,7 +127,7 @@ pub fn run_book<R: Threads + Sync, S: Shelf, K: Sink>(
     stalls: &mut Stalls,
     out: &mut K,
 ) -> Status
-    ensures written { result ≢ Status.ReadFault → WritesBook (bounds_of limits.now) (S.holds shelf.old name.now) (K.written out.old) (K.written out.new) stalls.old stalls.new result }
+    ensures written { result ≢ Status.ReadFault → WritesBook (bounds_of limits.now) (S.holds shelf.old) name.now (K.written out.old) (K.written out.new) stalls.old stalls.new result }
     ensures read_fault { result ≡ Status.ReadFault → Rose (S.faults shelf.old) (S.faults shelf.new) }
     ensures no_read_fault { result ≢ Status.ReadFault → S.faults shelf.new ≡ S.faults shelf.old }
     ensures unwritten { result ≡ Status.ReadFault → K.written out.new ≡ K.written out.old }
@@ -99,11 +136,13 @@ pub fn run_book<R: Threads + Sync, S: Shelf, K: Sink>(
     ensures no_write_fault { result ≢ Status.WriteFault → K.faults out.new ≡ K.faults out.old }
     ensures no_usage { result ≢ Status.Usage }
 {
-    match read_book(alloc, shelf, name) {
-        Ok(text) => run_text(rt, alloc, &text, limits, false, stalls, out),
-        Err(ReadEnd::Failed) => Status::ReadFault,
-        Err(ReadEnd::TooLong(line, column)) => refuse_long(alloc, line, column, false, out),
-        Err(ReadEnd::Memory) => Status::NoMemory,
+    let Ok(mut texts) = Texts::new(alloc) else {
+        return Status::NoMemory;
+    };
+    match load(alloc, shelf, name, &mut texts) {
+        Ok(library) => run_library(rt, alloc, &library, &mut texts, limits, stalls, out),
+        Err(LoadEnd::Failed) => Status::ReadFault,
+        Err(LoadEnd::Memory) => Status::NoMemory,
     }
 }
 
@@ -135,7 +174,7 @@ fn write_text<R: Threads + Sync, K: Sink, G: Gate>(
     out: &mut K,
 ) -> Result<Status, Stop>
     requires { length text.now ≤ most_bytes }
-    ensures written { EndsBy (bounds_of limits.now) text.now last_only (K.written out.old) (K.written out.new) stalls.old stalls.new result }
+    ensures written { EndsBy (IsTranscript (bounds_of limits.now) text.now) last_only (K.written out.old) (K.written out.new) stalls.old stalls.new result }
     ensures reported { IfOk result IsReported }
     ensures cause { IsCounted (K.faults out.old) (K.faults out.new) result }
 {
@@ -145,7 +184,10 @@ fn write_text<R: Threads + Sync, K: Sink, G: Gate>(
     let Ok(mut state) = State::new(alloc, &mut texts) else {
         return Err(Stop::Memory);
     };
-    let Ok(book) = forms(alloc, text, &mut texts) else {
+    let Ok(forms) = forms(alloc, text, &mut texts) else {
+        return Err(Stop::Memory);
+    };
+    let Ok(book) = Library::alone(alloc, forms) else {
         return Err(Stop::Memory);
     };
     walk(
@@ -153,7 +195,7 @@ fn write_text<R: Threads + Sync, K: Sink, G: Gate>(
     )
 }
 
-/// Writes the transcript of a book that is too long at a place.
+/// Writes the transcript of a text that is too long at a place.
 fn refuse_long<K: Sink>(
     alloc: Global,
     line: u32,

@@ -1,10 +1,11 @@
 //! Answers whose lines are written.
 
 ghost use Rattle.std.specs.Prelude.{◌≡◌, ◌++◌, IfOk, OnOk, OnErr};
-ghost use Rattle.gl_book.specs.Entry.{stalls_of};
+ghost use Rattle.gl_book.specs.Entry.{cases_stalls, stalls_of, verdict_stalls};
 ghost use Rattle.gl_book.specs.Walk.{value_in};
 
 use super::answer::Answer;
+use super::cases::CasesVerdict;
 use gl_decide::{Stalls, Verdict};
 use gl_logic::{NoMemory, Tree};
 
@@ -21,6 +22,10 @@ pub fn settle(answer: Answer, stalls: &mut Stalls) -> Result<Tree, NoMemory>
             keep_stall(verdict, stalls)?;
             Ok(Tree::nil())
         }
+        Answer::ByCases(verdict) => {
+            keep_part_stall(verdict, stalls)?;
+            Ok(Tree::nil())
+        }
         Answer::Done | Answer::Function(_) | Answer::Truth(_) | Answer::Undecided(_) => {
             Ok(Tree::nil())
         }
@@ -28,13 +33,33 @@ pub fn settle(answer: Answer, stalls: &mut Stalls) -> Result<Tree, NoMemory>
 }
 
 /// Puts the stall of a verdict last, where it has one.
-fn keep_stall(verdict: Verdict, stalls: &mut Stalls) -> Result<(), NoMemory>
-    ensures kept { OnOk result (stalls.new ≡ stalls.old ++ stalls_of (Answer.Decided verdict)) }
+///
+/// # Errors
+///
+/// `NoMemory` where memory was refused; the stalls are then as before.
+pub fn keep_stall(verdict: Verdict, stalls: &mut Stalls) -> Result<(), NoMemory>
+    ensures kept { OnOk result (stalls.new ≡ stalls.old ++ verdict_stalls verdict) }
     ensures err { OnErr result (stalls.new ≡ stalls.old) }
 {
     match verdict {
         Verdict::Nodes(stall) => stalls.push(stall),
         Verdict::Clauses(stall) => stalls.push(stall),
         _ => Ok(()),
+    }
+}
+
+/// Puts the stall of the part whose cause is told last, where it has one.
+fn keep_part_stall(verdict: CasesVerdict, stalls: &mut Stalls) -> Result<(), NoMemory>
+    ensures kept { OnOk result (stalls.new ≡ stalls.old ++ cases_stalls verdict) }
+    ensures err { OnErr result (stalls.new ≡ stalls.old) }
+{
+    match verdict {
+        CasesVerdict::Cover(verdict) | CasesVerdict::Case(_, verdict) => {
+            keep_stall(verdict, stalls)
+        }
+        CasesVerdict::Proved
+        | CasesVerdict::Vacuous
+        | CasesVerdict::Refuted(_)
+        | CasesVerdict::Uncased(_) => Ok(()),
     }
 }

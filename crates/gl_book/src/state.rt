@@ -6,10 +6,11 @@ ghost use Rattle.gl_logic.specs.Names.{Extends, with_name};
 ghost use Rattle.gl_logic.specs.WorldSeen.{with_clique, with_constant, with_definition, with_event};
 ghost use Rattle.lisp_eval.specs.Machines.{AreFunctionsOf};
 ghost use Rattle.event_world.specs.Outcomes.{Gives};
-ghost use Rattle.event_world.specs.Seen.{event_seen};
+ghost use Rattle.event_world.specs.EventSeen.{Theorem};
+ghost use Rattle.event_world.specs.Seen.{event_seen, theorem_seen};
 ghost use Rattle.event_world.specs.EventWords.{behind_head};
 ghost use Rattle.event_world.specs.NextState.{next_state, next_world, with_members};
-ghost use Rattle.event_world.specs.Suits.{Suits, HasAllGround, IsNewClique, IsNewDefinition, IsNewName};
+ghost use Rattle.event_world.specs.Suits.{Suits, HasAllGround, IsNewClique, IsNewDefinition, IsNewName, IsNewTheorem};
 ghost use Rattle.gl_book.specs.Answers.{IsAnswerable};
 ghost use Rattle.gl_book.specs.Phases.{is_job, state_noted};
 ghost use Rattle.gl_book.specs.Walk.{IsFirstState, CanGoOn, event_in};
@@ -18,7 +19,7 @@ use super::functions::{add, remove};
 use super::members::note_members;
 use event_world::{Event, EventFault, event_of, prelude};
 use gl_logic::{Def, Defs, NoMemory, TextId, Texts, Tree, World};
-use shape_spec::{FnSet, Mode};
+use shape_spec::{FnSet, Mode, Thm};
 use std::alloc::Global;
 use std::marker::Model;
 
@@ -85,6 +86,13 @@ impl State {
         &self.world
     }
 
+    /// The world itself.
+    pub fn into_world(self) -> World
+        ensures { result ≡ self.world }
+    {
+        self.world
+    }
+
     /// The functions whose calls are kept. They are definitions of the world.
     pub fn memoized(&self) -> &FnSet
         ensures memoized { result.now ≡ self.now.memoized }
@@ -124,9 +132,18 @@ impl State {
         ensures ok { OnOk result (self.new ≡ state_noted self.old form.now (event_seen event.now)) }
     {
         match event {
-            Event::Theorem(thm) => self.world.note(thm.name, form.copy(alloc)?),
+            Event::Theorem(thm) => self.note_theorem(alloc, form, thm),
+            Event::Cases(thm) => self.world.note(thm.cover.name, form.copy(alloc)?),
             _ => Ok(()),
         }
+    }
+
+    /// Notes a theorem with its form. The state is lost where memory runs out.
+    pub fn note_theorem(&mut self, alloc: Global, form: &Tree, thm: &Thm) -> Result<(), NoMemory>
+        requires new { IsNewTheorem self.old.world (theorem_seen thm.now) }
+        ensures ok { OnOk result (self.new ≡ state_noted self.old form.now (Theorem (theorem_seen thm.now))) }
+    {
+        self.world.note(thm.name, form.copy(alloc)?)
     }
 }
 
@@ -148,6 +165,7 @@ fn take_named(
         Event::Clique(defs) => take_clique(alloc, world, form, defs),
         Event::Defconst(name, _) => take_constant(alloc, world, form, name, value),
         Event::Theorem(thm) => world.note(thm.name, form.copy(alloc)?),
+        Event::Cases(thm) => world.note(thm.cover.name, form.copy(alloc)?),
         _ => Ok(()),
     }
 }

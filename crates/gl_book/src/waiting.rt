@@ -2,7 +2,7 @@
 
 ghost use Rattle.std.specs.Prelude.{◌≡◌, ◌<◌, [], ◌∷◌, ◌++◌, length, slice_get, Some, IfOk, OnOk, OnErr};
 ghost use Rattle.event_world.specs.Seen.{event_seen};
-ghost use Rattle.gl_book.specs.Lines.{event_lines};
+ghost use Rattle.gl_book.specs.Lines.{event_lines, mark_line};
 ghost use Rattle.gl_book.specs.Phases.{job_seen, jobs_of, new_job, IsFollowed};
 
 use super::answer::Answer;
@@ -10,6 +10,8 @@ use super::functions::copy_of;
 use super::job::Job;
 use super::line_list::Lines;
 use super::lines::add_event_lines;
+use super::marks::add_mark;
+use book_shelf::Mark;
 use event_world::Event;
 use gl_logic::{NoMemory, Texts};
 use shape_spec::FnSet;
@@ -71,6 +73,17 @@ impl Waiting {
     {
         if let Some(mut job) = self.jobs.pop() {
             add_event_lines(alloc, event, answer, texts, &mut job.behind)?;
+            self.jobs.push(job)?;
+        }
+        Ok(())
+    }
+
+    /// Puts the line of a mark behind the last job. The job is lost where memory runs out.
+    pub fn follow_mark(&mut self, alloc: Global, mark: Mark, texts: &Texts) -> Result<(), NoMemory>
+        ensures { OnOk result (IsFollowed (jobs_of self.old) (mark_line texts.now mark ∷ []) (jobs_of self.new)) }
+    {
+        if let Some(mut job) = self.jobs.pop() {
+            add_mark(alloc, mark, texts, &mut job.behind)?;
             self.jobs.push(job)?;
         }
         Ok(())

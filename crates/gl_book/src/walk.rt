@@ -1,24 +1,27 @@
-//! The walk over a book's forms.
+//! The walk over a book's forms and the marks of the books that it includes.
 
 ghost use Rattle.std.specs.Prelude.{◌≡◌, ◌+◌, ℕ, List, All, true, [], ◌∷◌, ◌++◌, length, Ok, IfOk, OnOk, OnErr};
 ghost use Rattle.gl_logic.specs.Names.{with_name};
-ghost use Rattle.sexp_reader.specs.declared.list.Form.{Form as FormSeen};
-ghost use Rattle.sexp_reader.specs.declared.ends.End.{End as EndSeen};
+ghost use Rattle.book_shelf.specs.declared.finish.Finish.{Finish as FinishSeen};
+ghost use Rattle.book_shelf.specs.declared.item.Item.{Item as ItemSeen};
+ghost use Rattle.book_shelf.specs.declared.item.Item.TheVariants as item;
 ghost use Rattle.event_world.specs.NextState.{BookState};
 ghost use Rattle.event_world.specs.Seen.{event_seen};
 ghost use Rattle.event_world.specs.Suits.{Suits};
 ghost use Rattle.gl_decide.specs.Bounds.{Bounds, bounds_of};
+ghost use Rattle.gl_decide.specs.Stalls.{StallSeen};
 ghost use Rattle.gl_book.specs.Answers.{IsAnswerable};
 ghost use Rattle.gl_book.specs.Courses.{Follows, HasRoomFor, LeadsPast, LeadsPastToFront, place_at};
 ghost use Rattle.gl_book.specs.Entry.{Entry};
 ghost use Rattle.gl_book.specs.Phases.{CanBeAnswered, ends_phase as ends_phase_seen, is_job as is_job_seen, jobs_of, new_job, state_noted};
-ghost use Rattle.gl_book.specs.Walk.{CanGoOn, Walk, event_in, refused_cause as cause_of, refusal_at as refusal_there};
-ghost use Rattle.gl_book.specs.Stops.{IsCounted, end_refusal, closing_lines, closing_status, WritesLines, WritesLinesFront, WritesWalk, WritesWalkFront};
+ghost use Rattle.gl_book.specs.Walk.{CanGoOn, Walk, event_in, end_code as end_code_meant, refused_cause as cause_of, refusal_at as refusal_there};
+ghost use Rattle.gl_book.specs.Stops.{IsCounted, refusal_of as refusal_meant, closing_lines, closing_status, WritesLines, WritesLinesFront, WritesWalk, WritesWalkFront};
 
 use super::answer::{Answer, Cause, answer_of};
 use super::counts::Counts;
 use super::ending::end_phase;
 use super::line_list::Lines;
+use super::marks::put_mark;
 use super::progress::Progress;
 use super::put_event::put_event;
 use super::put_lines::put_told;
@@ -26,27 +29,28 @@ use super::refusal::{Refusal, RefusalCode, line_of_refusal};
 use super::state::State;
 use super::stop::Stop;
 use super::waiting::Waiting;
+use book_shelf::{Finish, Item, Library, Mark, ShelfCode};
 use event_world::{Event, EventFault};
 use gl_base::limits::Limits;
 use gl_base::sink::Sink;
 use gl_base::status::Status;
 use gl_decide::{Gate, Stalls};
 use gl_logic::{NoMemory, Texts, Tree};
-use sexp_reader::{End, Form, Forms};
+use sexp_reader::Form;
 use std::alloc::Global;
 use std::thread::Threads;
 
-/// Walks over a book's forms from a state on, up to its end or its refusal, and writes what comes of them, or the last
-/// line alone. Each stall is put last among the others right before the lines of its theorem are written. Answers the
-/// status of the whole.
+/// Walks over the list of a book from a state on, up to its end or its refusal, and writes what comes of its forms and
+/// marks, or the last line alone. Each stall is put last among the others right before the lines of its theorem are
+/// written. Answers the status of the whole.
 ///
 /// With one worker the lines of each event are written before the next form is looked at. With more, values, asserts and
 /// theorems wait for the end of their phase, which is an event that changes definitions or constants, a refusal, or the
-/// end of the book.
+/// end of the list. A mark ends no phase.
 pub fn walk<R: Threads + Sync, K: Sink, G: Gate>(
     rt: &R,
     alloc: Global,
-    book: &Forms,
+    book: &Library,
     limits: &Limits,
     state: &mut State,
     texts: &mut Texts,
@@ -59,18 +63,19 @@ pub fn walk<R: Threads + Sync, K: Sink, G: Gate>(
     requires can_go_on { CanGoOn state.old }
     ensures ok { IfOk result (WritesWalk texts.old (bounds_of limits.now) state.old book.now last_only (K.written out.old) (K.written out.new) stalls.old stalls.new) }
     ensures front { OnErr result (WritesWalkFront texts.old (bounds_of limits.now) state.old book.now last_only (K.written out.old) (K.written out.new) stalls.old stalls.new) }
+    ensures texts { texts.new ≡ texts.old }
     ensures cause { IsCounted (K.faults out.old) (K.faults out.new) result }
 {
     let mut progress = Progress {
         counts: Counts::none(),
         waiting: Waiting::new(alloc),
     };
-    for i in 0..book.list.len() {
-        let form = book.list.at(i);
-        let refusal = take_form(
+    for i in 0..book.items.len() {
+        let next = book.items.at(i);
+        let refusal = take_item(
             rt,
             alloc,
-            form,
+            next,
             limits,
             state,
             &mut progress,
@@ -97,7 +102,68 @@ pub fn walk<R: Threads + Sync, K: Sink, G: Gate>(
         stalls,
         out,
     )?;
-    close(alloc, refusal_of(book.end), progress.counts, last_only, out)
+    close(
+        alloc,
+        refusal_of(book.finish),
+        progress.counts,
+        last_only,
+        out,
+    )
+}
+
+/// Takes the next item in. Its refusal, where it is refused; no job waits then.
+fn take_item<R: Threads + Sync, K: Sink, G: Gate>(
+    rt: &R,
+    alloc: Global,
+    next: &Item,
+    limits: &Limits,
+    state: &mut State,
+    progress: &mut Progress,
+    texts: &mut Texts,
+    last_only: bool,
+    gate: &G,
+    stalls: &mut Stalls,
+    out: &mut K,
+) -> Result<Option<Refusal>, Stop>
+    requires empty { with_name texts.old [] ≡ texts.old }
+    requires ready { All (CanBeAnswered state.old.world.definitions) (jobs_of progress.old.waiting) }
+    requires room { HasRoomFor (length (jobs_of progress.old.waiting) + 1) progress.old.counts }
+    ensures ok { IfOk result (λ r. LeadsPast texts.old (bounds_of limits.now) last_only next.now (place_at state.old progress.old (K.written out.old) stalls.old) r (place_at state.new progress.new (K.written out.new) stalls.new)) }
+    ensures front { OnErr result (LeadsPastToFront texts.old (bounds_of limits.now) last_only next.now (place_at state.old progress.old (K.written out.old) stalls.old) (K.written out.new) stalls.new) }
+    ensures texts { texts.new ≡ texts.old }
+    ensures cause { IsCounted (K.faults out.old) (K.faults out.new) result }
+{
+    match next {
+        Item::Form(form) => take_form(
+            rt, alloc, form, limits, state, progress, texts, last_only, gate, stalls, out,
+        ),
+        Item::Mark(mark) => match take_mark(alloc, *mark, progress, texts, last_only, out) {
+            Ok(()) => Ok(None),
+            Err(stop) => Err(stop),
+        },
+    }
+}
+
+/// Takes a mark in: its line is written at once, or comes behind those of the last job that waits.
+fn take_mark<K: Sink>(
+    alloc: Global,
+    mark: Mark,
+    progress: &mut Progress,
+    texts: &Texts,
+    last_only: bool,
+    out: &mut K,
+) -> Result<(), Stop>
+    ensures ok { OnOk result ((bounds : Bounds) (state : BookState) (stalls : List StallSeen) → LeadsPast texts.now bounds last_only (item.Mark mark) (place_at state progress.old (K.written out.old) stalls) None (place_at state progress.new (K.written out.new) stalls)) }
+    ensures front { OnErr result ((bounds : Bounds) (state : BookState) (stalls : List StallSeen) → LeadsPastToFront texts.now bounds last_only (item.Mark mark) (place_at state progress.old (K.written out.old) stalls) (K.written out.new) stalls) }
+    ensures cause { IsCounted (K.faults out.old) (K.faults out.new) result }
+{
+    if progress.waiting.len() > 0 {
+        return match progress.waiting.follow_mark(alloc, mark, texts) {
+            Ok(()) => Ok(()),
+            Err(_) => Err(Stop::Memory),
+        };
+    }
+    put_mark(alloc, mark, texts, last_only, out)
 }
 
 /// Takes the next form in. Its refusal, where it is refused; no job waits then.
@@ -117,8 +183,8 @@ fn take_form<R: Threads + Sync, K: Sink, G: Gate>(
     requires empty { with_name texts.old [] ≡ texts.old }
     requires ready { All (CanBeAnswered state.old.world.definitions) (jobs_of progress.old.waiting) }
     requires room { HasRoomFor (length (jobs_of progress.old.waiting) + 1) progress.old.counts }
-    ensures ok { IfOk result (λ r. LeadsPast texts.old (bounds_of limits.now) last_only form.now (place_at state.old progress.old (K.written out.old) stalls.old) r (place_at state.new progress.new (K.written out.new) stalls.new)) }
-    ensures front { OnErr result (LeadsPastToFront texts.old (bounds_of limits.now) last_only form.now (place_at state.old progress.old (K.written out.old) stalls.old) (K.written out.new) stalls.new) }
+    ensures ok { IfOk result (λ r. LeadsPast texts.old (bounds_of limits.now) last_only (item.Form form.now) (place_at state.old progress.old (K.written out.old) stalls.old) r (place_at state.new progress.new (K.written out.new) stalls.new)) }
+    ensures front { OnErr result (LeadsPastToFront texts.old (bounds_of limits.now) last_only (item.Form form.now) (place_at state.old progress.old (K.written out.old) stalls.old) (K.written out.new) stalls.new) }
     ensures texts { texts.new ≡ texts.old }
     ensures cause { IsCounted (K.faults out.old) (K.faults out.new) result }
 {
@@ -159,8 +225,8 @@ fn take_event<R: Threads + Sync, K: Sink, G: Gate>(
     requires answerable { IsAnswerable state.old.world.definitions state.old.memoized (event_seen event) }
     requires ready { All (CanBeAnswered state.old.world.definitions) (jobs_of progress.old.waiting) }
     requires room { HasRoomFor (length (jobs_of progress.old.waiting) + 1) progress.old.counts }
-    ensures ok { IfOk result (λ r. LeadsPast texts.now (bounds_of limits.now) last_only form.now (place_at state.old progress.old (K.written out.old) stalls.old) r (place_at state.new progress.new (K.written out.new) stalls.new)) }
-    ensures front { OnErr result (LeadsPastToFront texts.now (bounds_of limits.now) last_only form.now (place_at state.old progress.old (K.written out.old) stalls.old) (K.written out.new) stalls.new) }
+    ensures ok { IfOk result (λ r. LeadsPast texts.now (bounds_of limits.now) last_only (item.Form form.now) (place_at state.old progress.old (K.written out.old) stalls.old) r (place_at state.new progress.new (K.written out.new) stalls.new)) }
+    ensures front { OnErr result (LeadsPastToFront texts.now (bounds_of limits.now) last_only (item.Form form.now) (place_at state.old progress.old (K.written out.old) stalls.old) (K.written out.new) stalls.new) }
     ensures cause { IsCounted (K.faults out.old) (K.faults out.new) result }
 {
     if ends_phase(&event) || is_job(&event) && limits.workers == 1 {
@@ -247,8 +313,8 @@ fn answer_now<R: Threads + Sync, K: Sink>(
     requires answerable { IsAnswerable state.old.world.definitions state.old.memoized (event_seen event) }
     requires none { jobs_of progress.old.waiting ≡ [] }
     requires room { HasRoomFor 1 progress.old.counts }
-    ensures ok { IfOk result (λ r. LeadsPast texts.now (bounds_of limits.now) last_only form.now (place_at state.old progress.old (K.written out.old) stalls.old) r (place_at state.new progress.new (K.written out.new) stalls.new)) }
-    ensures front { OnErr result (LeadsPastToFront texts.now (bounds_of limits.now) last_only form.now (place_at state.old progress.old (K.written out.old) stalls.old) (K.written out.new) stalls.new) }
+    ensures ok { IfOk result (λ r. LeadsPast texts.now (bounds_of limits.now) last_only (item.Form form.now) (place_at state.old progress.old (K.written out.old) stalls.old) r (place_at state.new progress.new (K.written out.new) stalls.new)) }
+    ensures front { OnErr result (LeadsPastToFront texts.now (bounds_of limits.now) last_only (item.Form form.now) (place_at state.old progress.old (K.written out.old) stalls.old) (K.written out.new) stalls.new) }
     ensures cause { IsCounted (K.faults out.old) (K.faults out.new) result }
 {
     let answer = answer_of(rt, alloc, state.world(), state.memoized(), &event, limits);
@@ -280,7 +346,7 @@ fn is_job(event: &Event) -> bool
 {
     matches!(
         event,
-        Event::Value(_) | Event::Assert(_) | Event::Theorem(_)
+        Event::Value(_) | Event::Assert(_) | Event::Theorem(_) | Event::Cases(_)
     )
 }
 
@@ -305,22 +371,34 @@ fn refusal_at(form: &Form, code: RefusalCode) -> Refusal
     }
 }
 
-/// The refusal by the end of a text, where that is none.
-fn refusal_of(end: End) -> Option<Refusal>
-    ensures { result ≡ end_refusal end }
+/// The refusal by the end of a list, where that is none.
+fn refusal_of(finish: Finish) -> Option<Refusal>
+    ensures { result ≡ refusal_meant finish }
 {
-    match end {
-        End::Clean => None,
-        End::Bad(line, column, fault) => Some(Refusal {
+    match finish {
+        Finish::Clean => None,
+        Finish::Refused(line, column, fault) => Some(Refusal {
             line,
             column,
-            code: RefusalCode::Text(fault),
+            code: end_code(fault),
         }),
     }
 }
 
+/// The code of the end of a list.
+fn end_code(fault: ShelfCode) -> RefusalCode
+    ensures { result ≡ end_code_meant fault }
+{
+    match fault {
+        ShelfCode::Text(fault) => RefusalCode::Text(fault),
+        ShelfCode::TooLong => RefusalCode::TooLong,
+        ShelfCode::Cyclic => RefusalCode::Cyclic,
+        ShelfCode::Many => RefusalCode::Many,
+    }
+}
+
 /// The cause for which a constant has no value.
-fn refused_cause(event: &Event, answer: &Answer) -> Option<Cause>
+pub(crate) fn refused_cause(event: &Event, answer: &Answer) -> Option<Cause>
     ensures { result ≡ cause_of (event_seen event.now) answer.now }
 {
     match (event, answer) {
@@ -369,9 +447,9 @@ fn lines_that_close(
     Ok(lines)
 }
 
-/// A law: each walk that has come to some forms, in a state whose world has all ground definitions and cliques of
+/// A law: each walk that has come to some list, in a state whose world has all ground definitions and cliques of
 /// admissible ones, can be gone on with, whatever memory is refused.
 pub fn every_walk_goes_on()
-    ensures { (names : List (List ℕ)) (bounds : Bounds) (state : BookState) (forms : List FormSeen) (end : EndSeen)
-        → CanGoOn state → (entries : List Entry) × Walk names bounds state forms end entries }
+    ensures { (names : List (List ℕ)) (bounds : Bounds) (state : BookState) (items : List ItemSeen) (end : FinishSeen)
+        → CanGoOn state → (entries : List Entry) × Walk names bounds state items end entries }
 {}

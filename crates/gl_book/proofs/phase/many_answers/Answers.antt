@@ -1,7 +1,8 @@
 use Rattle.std.proofs.Common.{◌≡◌, ◌∙◌, sym, subst, length, ℕ, List, rules, arith}
 use Rattle.std.proofs.lemmas.Result.{IfOk-weaker}
 use Rattle.gl_decide.specs.Bounds.{Bounds, bounds_of}
-use Rattle.gl_book.specs.Phases.{AreAnswered, jobs_of}
+use Rattle.gl_book.specs.Phases.{AreAnswered}
+use Rattle.gl_book.specs.Tasks.{tasks_in}
 use Rattle.gl_book.specs.Pieces.{Follow}
 use Rattle.gl_book.proofs.Looks.{with_all_workers}
 use Rattle.gl_book.proofs.Phases.{all_answered, all_within}
@@ -9,7 +10,7 @@ use Rattle.gl_book.proofs.phase.many_answers.Goals as goal
 
 pub answers_by_piece-requires-clause-within : goal.answers_by_piece-requires-clause-within
 answers_by_piece-requires-clause-within g c κs within =
-    let jobs = jobs_of c.args.waiting.now in
+    let jobs = tasks_in c.args.tasks.now in
     let count : c.in-Ok.count ≡ length jobs = search (rules, c.in-Ok.ensures, c.len.ensures) in
     all_within 0 (length jobs) c.in_ok-pieces.pieces.items (subst (Follow 0 c.in_ok-pieces.pieces.items) count c.in_ok-pieces.ensures.follow)
 
@@ -17,7 +18,7 @@ pub returns : goal.returns
 returns g c =
     let bounds = bounds_of c.args.limits.now in
     let w = c.args.world.now in
-    let jobs = jobs_of c.args.waiting.now in
+    let jobs = tasks_in c.args.tasks.now in
     let pieces = c.in_ok-pieces.pieces.items in
     let parts = c.in_ok-parts.parts.items in
     let count : c.in-Ok.count ≡ length jobs = search (rules, c.in-Ok.ensures, c.len.ensures) in

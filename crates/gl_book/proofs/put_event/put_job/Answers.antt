@@ -1,11 +1,9 @@
-use Rattle.std.proofs.Common.{◌∙◌, ap, sym, subst, ℕ, take, List, ◌++◌}
+use Rattle.std.proofs.Common.{sym, subst, ℕ, take, List}
 use Rattle.gl_base.specs.Outside.{Grows}
 use Rattle.gl_base.proofs.Growth.{grows-then}
 use Rattle.event_world.specs.Seen.{event_seen}
-use Rattle.gl_book.specs.Courses.{job_lines}
 use Rattle.gl_book.specs.Entry.{stalls_of}
 use Rattle.gl_book.specs.Lines.{event_lines}
-use Rattle.gl_book.specs.Phases.{job_seen}
 use Rattle.gl_book.specs.Stops.{told_before}
 use Rattle.gl_book.proofs.Joined.{on_err}
 use Rattle.gl_book.proofs.Puts.{err_then, front_first, front_second, ok_then}

@@ -1,8 +1,8 @@
 use Rattle.std.proofs.Common.{sym, refl, [], append-nil}
 use Rattle.gl_decide.specs.Bounds.{bounds_of}
-use Rattle.gl_book.specs.Transcript.{IsReadBy}
+use Rattle.gl_book.specs.Transcript.{IsReadBy, IsTranscript}
 use Rattle.gl_book.specs.Walk.{IsFirstState}
-use Rattle.gl_book.proofs.Ends.{walked, walk_reported, nothing_written}
+use Rattle.gl_book.proofs.Ends.{walked, walk_reported, text_told, nothing_written}
 use Rattle.gl_book.proofs.FirstStates.{later_first, still_empty}
 use Rattle.gl_book.proofs.run.write_text.Goals as goal
 
@@ -12,28 +12,36 @@ walk-requires-clause-empty g c κs h = still_empty c.new-2.new.texts c.forms.new
 pub returns-clause-written : goal.returns-clause-written
 returns-clause-written g c =
     let names = c.forms.new.texts in
-    let book = c.in-Ok-forms.book in
-    let read : IsReadBy names c.args.text.now book.list book.end = record {
+    let forms = c.in-Ok-forms.forms in
+    let book = c.in-Ok-alone.book in
+    let bounds = bounds_of c.args.limits.now in
+    let text = c.args.text.now in
+    let read : IsReadBy names text forms.list forms.end = record {
       table = c.forms.ensures.table;
       empty = still_empty c.new-2.new.texts names c.forms.ensures.kept c.in-Ok-new.ensures.empty;
       reads = c.in-Ok-forms.ensures.reads names ([], sym (append-nil names));
       numbered = c.in-Ok-forms.ensures.numbered;
     } in
     let begins : IsFirstState names c.in-Ok-new.state = later_first c.new-2.new.texts names c.in-Ok-new.state c.forms.ensures.table c.forms.ensures.kept c.in-Ok-new.ensures.first in
-    walked (bounds_of c.args.limits.now) c.args.text.now c.args.last_only _ _ _ _ names book c.requires read c.in-Ok-new.state begins c.walk.result c.walk.ensures.ok c.walk.ensures.front
+    let told = text_told bounds text names forms.list forms.end book c.in-Ok-alone.ensures.items c.in-Ok-alone.ensures.finish c.requires read c.in-Ok-new.state begins in
+    walked (IsTranscript bounds text) c.args.last_only _ _ _ _ names bounds book c.in-Ok-new.state told c.walk.result c.walk.ensures.ok c.walk.ensures.front
 
 pub returns-clause-reported : goal.returns-clause-reported
 returns-clause-reported g c =
     let names = c.forms.new.texts in
-    let book = c.in-Ok-forms.book in
-    let read : IsReadBy names c.args.text.now book.list book.end = record {
+    let forms = c.in-Ok-forms.forms in
+    let book = c.in-Ok-alone.book in
+    let bounds = bounds_of c.args.limits.now in
+    let text = c.args.text.now in
+    let read : IsReadBy names text forms.list forms.end = record {
       table = c.forms.ensures.table;
       empty = still_empty c.new-2.new.texts names c.forms.ensures.kept c.in-Ok-new.ensures.empty;
       reads = c.in-Ok-forms.ensures.reads names ([], sym (append-nil names));
       numbered = c.in-Ok-forms.ensures.numbered;
     } in
     let begins : IsFirstState names c.in-Ok-new.state = later_first c.new-2.new.texts names c.in-Ok-new.state c.forms.ensures.table c.forms.ensures.kept c.in-Ok-new.ensures.first in
-    walk_reported (bounds_of c.args.limits.now) c.args.text.now c.args.last_only _ _ _ _ names book c.requires read c.in-Ok-new.state begins c.walk.result c.walk.ensures.ok
+    let told = text_told bounds text names forms.list forms.end book c.in-Ok-alone.ensures.items c.in-Ok-alone.ensures.finish c.requires read c.in-Ok-new.state begins in
+    walk_reported (IsTranscript bounds text) c.args.last_only _ _ _ _ names bounds book c.in-Ok-new.state told c.walk.result c.walk.ensures.ok
 
 pub returns-in_default-clause-written : goal.returns-in_default-clause-written
 returns-in_default-clause-written g c = nothing_written (bounds_of c.args.limits.now) c.args.text.now c.args.last_only _ _ c.args.stalls.now c.args.stalls.now refl refl
@@ -43,3 +51,6 @@ returns-in_default-new-clause-written g c = nothing_written (bounds_of c.args.li
 
 pub returns-in_default-forms-clause-written : goal.returns-in_default-forms-clause-written
 returns-in_default-forms-clause-written g c = nothing_written (bounds_of c.args.limits.now) c.args.text.now c.args.last_only _ _ c.args.stalls.now c.args.stalls.now refl refl
+
+pub returns-in_default-alone-clause-written : goal.returns-in_default-alone-clause-written
+returns-in_default-alone-clause-written g c = nothing_written (bounds_of c.args.limits.now) c.args.text.now c.args.last_only _ _ c.args.stalls.now c.args.stalls.now refl refl

@@ -1,4 +1,5 @@
 use Rattle.std.proofs.Common.{◌≡◌, ◌∙◌, ap, sym, refl, subst, Some, None}
+use Rattle.book_shelf.specs.declared.item.Item.TheVariants as item
 use Rattle.gl_decide.specs.Bounds.{bounds_of}
 use Rattle.event_world.specs.NextState.{next_state}
 use Rattle.event_world.specs.Seen.{event_seen}
@@ -25,7 +26,7 @@ returns-in-Memory-clause-front g c =
     let written = g.K.Sink.written c.args.out.now in
     let stalls = c.args.stalls.now in
     let here = place_at state old written stalls in
-    front_past names bounds last form here written stalls (stays_front names bounds last here written stalls refl refl)
+    front_past names bounds last (item.Form form) here written stalls (stays_front names bounds last here written stalls refl refl)
 
 pub returns-in_default-cause : goal.returns-in_default-cause
 returns-in_default-cause g c =
@@ -42,7 +43,7 @@ returns-in_default-cause g c =
     let a = c.answer_of-answer.result in
     let proper : IsProperAnswer bounds state.world state.memoized e a = rw (c.world.ensures.world, c.memoized.ensures.memoized) at c.answer_of-answer.ensures in
     let past = refused_past names bounds last form e state c.requires.meant old written stalls c.requires.none a proper c.in-Some.cause (sym c.refused_cause.ensures ∙ c.in-Some.is) c.in_default-cause.not-Memory in
-    record { ok = subst (λ (r : Refusal). LeadsPast names bounds last form here (Some r) here) (sym c.refusal_at.ensures) past; front = tt; cause = refl }
+    record { ok = subst (λ (r : Refusal). LeadsPast names bounds last (item.Form form) here (Some r) here) (sym c.refusal_at.ensures) past; front = tt; cause = refl }
 
 pub returns-in-Err-clause-front : goal.returns-in-Err-clause-front
 returns-in-Err-clause-front g c =

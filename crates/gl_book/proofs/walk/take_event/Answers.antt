@@ -1,5 +1,6 @@
-use Rattle.std.proofs.Common.{◌≡◌, ◌∙◌, ◌<◌, ap, sym, refl, subst, true, false, length, rules}
+use Rattle.std.proofs.Common.{◌≡◌, ◌<◌, refl, true, false, length, rules}
 use Rattle.std.proofs.lemmas.Result.{IfOk-weaker}
+use Rattle.book_shelf.specs.declared.item.Item.TheVariants as item
 use Rattle.gl_decide.specs.Bounds.{bounds_of}
 use Rattle.event_world.specs.Seen.{event_seen}
 use Rattle.gl_book.specs.Courses.{place_at}
@@ -20,7 +21,7 @@ returns-in_err-end_phase-clause-front g c =
     let written = g.K.Sink.written c.args.out.now in
     let stalls = c.args.stalls.now in
     let here = place_at state old written stalls in
-    on_err c.from_residual.result (front_past names bounds last form here _ _ (phase_leads_front names bounds last state c.world-world.result.now c.world-world.ensures.world old written _ stalls _ c.in_err-end_phase.ensures.front))
+    on_err c.from_residual.result (front_past names bounds last (item.Form form) here _ _ (phase_leads_front names bounds last state c.world-world.result.now c.world-world.ensures.world old written _ stalls _ c.in_err-end_phase.ensures.front))
 
 pub answer_now-requires-clause-room : goal.answer_now-requires-clause-room
 answer_now-requires-clause-room g c κs within =
@@ -47,7 +48,7 @@ returns-then-ends_phase-clause-ok g c =
     let now = g.K.Sink.written c.end_phase.new.out in
     let after = c.end_phase.new.stalls in
     let mid = place_at state c.end_phase.new.progress now after in
-    IfOk-weaker c.answer_now.result _ _ (λ r h. then_past names bounds last form here mid r _ (phase_leads names bounds last state c.world-world.result.now c.world-world.ensures.world old written now stalls after c.end_phase.new.progress c.in_ok-end_phase.ensures.ok) h) c.answer_now.ensures.ok
+    IfOk-weaker c.answer_now.result _ _ (λ r h. then_past names bounds last (item.Form form) here mid r _ (phase_leads names bounds last state c.world-world.result.now c.world-world.ensures.world old written now stalls after c.end_phase.new.progress c.in_ok-end_phase.ensures.ok) h) c.answer_now.ensures.ok
 
 pub returns-then-ends_phase-clause-front : goal.returns-then-ends_phase-clause-front
 returns-then-ends_phase-clause-front g c =
@@ -63,7 +64,7 @@ returns-then-ends_phase-clause-front g c =
     let now = g.K.Sink.written c.end_phase.new.out in
     let after = c.end_phase.new.stalls in
     let mid = place_at state c.end_phase.new.progress now after in
-    err_then c.answer_now.result c.answer_now.ensures.front (λ h. then_front names bounds last form here mid _ _ (phase_leads names bounds last state c.world-world.result.now c.world-world.ensures.world old written now stalls after c.end_phase.new.progress c.in_ok-end_phase.ensures.ok) h)
+    err_then c.answer_now.result c.answer_now.ensures.front (λ h. then_front names bounds last (item.Form form) here mid _ _ (phase_leads names bounds last state c.world-world.result.now c.world-world.ensures.world old written now stalls after c.end_phase.new.progress c.in_ok-end_phase.ensures.ok) h)
 
 pub returns-in-Ok-clause-ok : goal.returns-in-Ok-clause-ok
 returns-in-Ok-clause-ok g c =
@@ -90,7 +91,7 @@ returns-in-Err-clause-front g c =
     let written = g.K.Sink.written c.args.out.now in
     let stalls = c.args.stalls.now in
     let here = place_at state old written stalls in
-    front_past names bounds last form here written stalls (stays_front names bounds last here written stalls refl refl)
+    front_past names bounds last (item.Form form) here written stalls (stays_front names bounds last here written stalls refl refl)
 
 pub returns-in-Ok-follow-clause-ok : goal.returns-in-Ok-follow-clause-ok
 returns-in-Ok-follow-clause-ok g c =
@@ -119,4 +120,4 @@ returns-in-Err-follow-clause-front g c =
     let written = g.K.Sink.written c.args.out.now in
     let stalls = c.args.stalls.now in
     let here = place_at state old written stalls in
-    front_past names bounds last form here written stalls (stays_front names bounds last here written stalls refl refl)
+    front_past names bounds last (item.Form form) here written stalls (stays_front names bounds last here written stalls refl refl)

@@ -1,10 +1,10 @@
-use Rattle.std.proofs.Common.{◌≡◌, ◌∙◌, ◌+◌, ◌<◌, ap, sym, refl, subst, ℕ, List, [], length, Option, Some, rules, arith}
+use Rattle.std.proofs.Common.{◌≡◌, ◌+◌, ◌<◌, sym, refl, subst, ℕ, List, [], length, Option, Some, rules, arith}
 use Rattle.gl_logic.specs.Names.{with_name}
 use Rattle.gl_decide.specs.Bounds.{bounds_of}
 use Rattle.gl_book.specs.Courses.{Course, EndsPhase, EndsPhaseByFront, LeadsPast, LeadsPastToFront, Stands, place_at}
 use Rattle.gl_book.specs.Lines.{counts_of}
 use Rattle.gl_book.specs.Phases.{JobSeen, jobs_of}
-use Rattle.gl_book.specs.Stops.{WritesWalk, end_refusal}
+use Rattle.gl_book.specs.Stops.{WritesWalk, refusal_of}
 use Rattle.gl_book.specs.declared.counts.Counts.{Counts}
 use Rattle.gl_book.specs.declared.refusal.Refusal.{Refusal}
 use Rattle.gl_book.proofs.Crosses.{begins, closes, ends_whole, front_closing, has_room_for}
@@ -27,14 +27,14 @@ loop-i-init g c =
           (subst (λ (js : List JobSeen). Stands names bounds last course 0 (record { state = c.args.state.now; counts = counts_of []; waiting = js; written = course.written; stalls = course.stalls })) (sym c.new.ensures) (begins names bounds last course c.requires.can_go_on));
     }
 
-pub take_form-requires-clause-empty : goal.take_form-requires-clause-empty
-take_form-requires-clause-empty g c κs within = subst (λ (ns : List (List ℕ)). with_name ns [] ≡ ns) (sym c.loop-i.invariant.texts) c.requires.empty
+pub take_item-requires-clause-empty : goal.take_item-requires-clause-empty
+take_item-requires-clause-empty g c κs within = subst (λ (ns : List (List ℕ)). with_name ns [] ≡ ns) (sym c.loop-i.invariant.texts) c.requires.empty
 
-pub take_form-requires-clause-ready : goal.take_form-requires-clause-ready
-take_form-requires-clause-ready g c κs within = c.loop-i.invariant.stands.ready
+pub take_item-requires-clause-ready : goal.take_item-requires-clause-ready
+take_item-requires-clause-ready g c κs within = c.loop-i.invariant.stands.ready
 
-pub take_form-requires-clause-room : goal.take_form-requires-clause-room
-take_form-requires-clause-room g c κs within =
+pub take_item-requires-clause-room : goal.take_item-requires-clause-room
+take_item-requires-clause-room g c κs within =
     let names = c.args.texts.now in
     let bounds = bounds_of c.args.limits.now in
     let last = c.args.last_only in
@@ -60,11 +60,11 @@ returns-in_err-refusal-clause-front g c =
     let written = g.K.Sink.written c.loop-i.out in
     let stalls = c.loop-i.stalls in
     let here = place_at state old written stalls in
-    let form = c.at-form.result.now in
-    let now = g.K.Sink.written c.take_form.new.out in
-    let after = c.take_form.new.stalls in
-    let front : LeadsPastToFront names bounds last form here now after = subst (λ (ns : List (List ℕ)). LeadsPastToFront ns bounds last form here now after) c.loop-i.invariant.texts c.in_err-refusal.ensures.front in
-    on_err c.from_residual.result (front course i c.at-form.ensures c.loop-i.invariant.stands)
+    let next = c.at-next.result.now in
+    let now = g.K.Sink.written c.take_item.new.out in
+    let after = c.take_item.new.stalls in
+    let front : LeadsPastToFront names bounds last next here now after = subst (λ (ns : List (List ℕ)). LeadsPastToFront ns bounds last next here now after) c.loop-i.invariant.texts c.in_err-refusal.ensures.front in
+    on_err c.from_residual.result (front course i c.at-next.ensures c.loop-i.invariant.stands)
 
 pub returns-in-Some-clause-ok : goal.returns-in-Some-clause-ok
 returns-in-Some-clause-ok g c =
@@ -78,12 +78,12 @@ returns-in-Some-clause-ok g c =
     let written = g.K.Sink.written c.loop-i.out in
     let stalls = c.loop-i.stalls in
     let here = place_at state old written stalls in
-    let form = c.at-form.result.now in
+    let next = c.at-next.result.now in
     let r = c.in-Some.refusal in
-    let q = place_at c.take_form.new.state c.take_form.new.progress (g.K.Sink.written c.take_form.new.out) c.take_form.new.stalls in
-    let told : LeadsPast c.loop-i.texts bounds last form here (Some r) q = subst (λ (o : Option Refusal). LeadsPast c.loop-i.texts bounds last form here o q) c.in-Some.is c.in_ok-refusal.ensures.ok in
-    let past : LeadsPast names bounds last form here (Some r) q = subst (λ (ns : List (List ℕ)). LeadsPast ns bounds last form here (Some r) q) c.loop-i.invariant.texts told in
-    let f = past course i c.at-form.ensures c.loop-i.invariant.stands in
+    let q = place_at c.take_item.new.state c.take_item.new.progress (g.K.Sink.written c.take_item.new.out) c.take_item.new.stalls in
+    let told : LeadsPast c.loop-i.texts bounds last next here (Some r) q = subst (λ (o : Option Refusal). LeadsPast c.loop-i.texts bounds last next here o q) c.in-Some.is c.in_ok-refusal.ensures.ok in
+    let past : LeadsPast names bounds last next here (Some r) q = subst (λ (ns : List (List ℕ)). LeadsPast ns bounds last next here (Some r) q) c.loop-i.invariant.texts told in
+    let f = past course i c.at-next.ensures c.loop-i.invariant.stands in
     when_ok c.close.result _ (WritesWalk names bounds course.first course.book last course.written _ course.stalls _) c.close.ensures.ok c.close.ensures.status (λ t k is. closes names bounds last course i q f.stands f.none (Some r) f.ends _ t k is)
 
 pub returns-in-Some-clause-front : goal.returns-in-Some-clause-front
@@ -98,12 +98,12 @@ returns-in-Some-clause-front g c =
     let written = g.K.Sink.written c.loop-i.out in
     let stalls = c.loop-i.stalls in
     let here = place_at state old written stalls in
-    let form = c.at-form.result.now in
+    let next = c.at-next.result.now in
     let r = c.in-Some.refusal in
-    let q = place_at c.take_form.new.state c.take_form.new.progress (g.K.Sink.written c.take_form.new.out) c.take_form.new.stalls in
-    let told : LeadsPast c.loop-i.texts bounds last form here (Some r) q = subst (λ (o : Option Refusal). LeadsPast c.loop-i.texts bounds last form here o q) c.in-Some.is c.in_ok-refusal.ensures.ok in
-    let past : LeadsPast names bounds last form here (Some r) q = subst (λ (ns : List (List ℕ)). LeadsPast ns bounds last form here (Some r) q) c.loop-i.invariant.texts told in
-    let f = past course i c.at-form.ensures c.loop-i.invariant.stands in
+    let q = place_at c.take_item.new.state c.take_item.new.progress (g.K.Sink.written c.take_item.new.out) c.take_item.new.stalls in
+    let told : LeadsPast c.loop-i.texts bounds last next here (Some r) q = subst (λ (o : Option Refusal). LeadsPast c.loop-i.texts bounds last next here o q) c.in-Some.is c.in_ok-refusal.ensures.ok in
+    let past : LeadsPast names bounds last next here (Some r) q = subst (λ (ns : List (List ℕ)). LeadsPast ns bounds last next here (Some r) q) c.loop-i.invariant.texts told in
+    let f = past course i c.at-next.ensures c.loop-i.invariant.stands in
     when_err c.close.result c.close.ensures.front (λ k. front_closing names bounds last course i q f.stands f.none (Some r) f.ends _ k)
 
 pub end_phase-requires-clause-room : goal.end_phase-requires-clause-room
@@ -158,7 +158,7 @@ returns-clause-ok g c =
     let ended : EndsPhase names bounds w last old written stalls new now after = subst (λ (ns : List (List ℕ)). EndsPhase ns bounds w last old written stalls new now after) c.loop-i.invariant.texts c.in_ok-end_phase.ensures.ok in
     let q = place_at state new now after in
     let s = phase_leads names bounds last state w c.world-world.ensures.world old written now stalls after new ended course i c.loop-i.invariant.stands in
-    let r = end_refusal c.args.book.now.end in
+    let r = refusal_of c.args.book.now.finish in
     let ends = ends_whole names bounds last course i q s (omega (arith, c.loop-i-test.false, c.len-i-end.ensures)) in
     when_ok c.close-2.result _ (WritesWalk names bounds course.first course.book last course.written _ course.stalls _) (rw c.refusal_of.ensures at c.close-2.ensures.ok) (rw c.refusal_of.ensures at c.close-2.ensures.status)
     (λ t k is. closes names bounds last course i q s ended.none r ends _ t k is)
@@ -182,6 +182,6 @@ returns-clause-front g c =
     let ended : EndsPhase names bounds w last old written stalls new now after = subst (λ (ns : List (List ℕ)). EndsPhase ns bounds w last old written stalls new now after) c.loop-i.invariant.texts c.in_ok-end_phase.ensures.ok in
     let q = place_at state new now after in
     let s = phase_leads names bounds last state w c.world-world.ensures.world old written now stalls after new ended course i c.loop-i.invariant.stands in
-    let r = end_refusal c.args.book.now.end in
+    let r = refusal_of c.args.book.now.finish in
     let ends = ends_whole names bounds last course i q s (omega (arith, c.loop-i-test.false, c.len-i-end.ensures)) in
     when_err c.close-2.result (rw c.refusal_of.ensures at c.close-2.ensures.front) (λ k. front_closing names bounds last course i q s ended.none r ends _ k)

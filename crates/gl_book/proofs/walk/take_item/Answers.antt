@@ -1,0 +1,12 @@
+use Rattle.std.proofs.Common.{sym, subst}
+use Rattle.book_shelf.specs.declared.item.Item.{Item}
+use Rattle.gl_decide.specs.Bounds.{bounds_of}
+use Rattle.gl_book.specs.Courses.{LeadsPastToFront, place_at}
+use Rattle.gl_book.proofs.walk.take_item.Goals as goal
+
+pub returns-in-Err-clause-front : goal.returns-in-Err-clause-front
+returns-in-Err-clause-front g c =
+    let bounds = bounds_of c.args.limits.now in
+    let stalls = c.args.stalls.now in
+    let here = place_at c.args.state.now c.args.progress.now (g.K.Sink.written c.args.out.now) stalls in
+    subst (λ (x : Item). LeadsPastToFront c.args.texts.now bounds c.args.last_only x here (g.K.Sink.written c.take_mark.new.out) stalls) (sym c.in-Mark.is) (c.in-Err.ensures.front bounds c.args.state.now stalls)

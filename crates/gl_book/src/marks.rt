@@ -1,0 +1,50 @@
+//! The marks of included books.
+
+ghost use Rattle.std.specs.Prelude.{◌≡◌, ℕ, [], ◌∷◌, ◌++◌, take, OnOk, OnErr};
+ghost use Rattle.gl_base.specs.Outside.{Grows};
+ghost use Rattle.gl_book.specs.Lines.{mark_line};
+ghost use Rattle.gl_book.specs.Stops.{IsCounted, told_before};
+
+use super::line_list::Lines;
+use super::lines::add_named;
+use super::put_event::put_behind;
+use super::stop::Stop;
+use book_shelf::Mark;
+use gl_base::sink::Sink;
+use gl_logic::{NoMemory, Texts};
+use std::alloc::Global;
+
+/// Adds the line of a mark: its word, and the name as it stands in the form.
+pub(crate) fn add_mark(
+    alloc: Global,
+    mark: Mark,
+    texts: &Texts,
+    lines: &mut Lines,
+) -> Result<(), NoMemory>
+    ensures { OnOk result (lines.new ≡ lines.old ++ mark_line texts.now mark ∷ []) }
+{
+    match mark {
+        Mark::Book(name) => add_named(alloc, b"BOOK ", name, b"", texts, lines),
+        Mark::End(name) => add_named(alloc, b"END ", name, b"", texts, lines),
+        Mark::Same(name) => add_named(alloc, b"SAME ", name, b"", texts, lines),
+    }
+}
+
+/// Writes the line of a mark, where not the last line alone is written.
+pub(crate) fn put_mark<K: Sink>(
+    alloc: Global,
+    mark: Mark,
+    texts: &Texts,
+    last_only: bool,
+    out: &mut K,
+) -> Result<(), Stop>
+    ensures ok { OnOk result (Grows (K.written out.old) (K.written out.new) (told_before last_only (mark_line texts.now mark ∷ []))) }
+    ensures front { OnErr result ((n : ℕ) × Grows (K.written out.old) (K.written out.new) (take n (told_before last_only (mark_line texts.now mark ∷ [])))) }
+    ensures cause { IsCounted (K.faults out.old) (K.faults out.new) result }
+{
+    let mut lines = Lines::new(alloc);
+    let Ok(()) = add_mark(alloc, mark, texts, &mut lines) else {
+        return Err(Stop::Memory);
+    };
+    put_behind(&lines, last_only, out)
+}
