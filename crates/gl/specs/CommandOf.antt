@@ -1,19 +1,30 @@
--- The command that a value of the program stands for.
-use Rattle.std.specs.Prelude.{ℕ, ◌≤◌}
+-- What a value of the program asks for.
+use Rattle.std.specs.Prelude.{◌≤◌}
 use Rattle.gl_decide.specs.Bounds.{bounds_of}
-use Rattle.gl.specs.Words.{Source, Book, Generated, Command}
-use Rattle.gl.specs.declared.words.Source.{Source as Given}
+use Rattle.gl.specs.Words.{Source, Book, Generated, Command, Order, Transcript, Judge}
+use Rattle.gl.specs.declared.words.Source.{Source as GivenSource}
 use Rattle.gl.specs.declared.words.Source.TheVariants as given
-use Rattle.gl.specs.declared.words.Command.{Command as Order}
+use Rattle.gl.specs.declared.words.Command.{Command as GivenCommand}
+use Rattle.gl.specs.declared.orders.Order.{Order as GivenOrder}
+use Rattle.gl.specs.declared.orders.Order.TheVariants as asked
 
-abbrev pub source_seen : Given → Source
+abbrev pub source_seen : GivenSource → Source
 source_seen (given.Book name) = Book name.now
 source_seen (given.Generated n) = Generated n
 
-abbrev pub command_seen : Order → Command
-command_seen order = record { bounds = bounds_of order.limits; source = source_seen order.source }
+abbrev pub command_seen : GivenCommand → Command
+command_seen command = record { bounds = bounds_of command.limits; source = source_seen command.source }
+
+abbrev pub order_seen : GivenOrder → Order
+order_seen (asked.Transcript command) = Transcript (command_seen command)
+order_seen (asked.Judge pair) = Judge pair.workers pair.cnf.now pair.log.now
 
 -- as many theorems as the generator gives
-abbrev pub IsFew : Given → Type 0
+abbrev pub IsFew : GivenSource → Type 0
 IsFew (given.Book name) = Unit {0}
 IsFew (given.Generated n) = n ≤ 10000
+
+-- as many theorems, or workers, as there may be
+abbrev pub IsWithin : GivenOrder → Type 0
+IsWithin (asked.Transcript command) = IsFew command.source
+IsWithin (asked.Judge pair) = (1 ≤ pair.workers) × (pair.workers ≤ 8)

@@ -2,4 +2,5 @@ pub mod Adapters
 pub mod Usage
 pub mod Words
 pub mod CommandOf
+pub mod Judging
 pub mod Runs

@@ -1,5 +1,5 @@
 -- The words of the command line, and the command that they make.
-use Rattle.std.specs.Prelude.{◌≡◌, ℕ, nat_lt, nat_le, ◌&&◌, if◌then◌else◌, Bool, true, false, List, [], ◌∷◌, length, codes, Option, Some, None, option_map, option_and_then}
+use Rattle.std.specs.Prelude.{ℕ, nat_lt, nat_le, ◌&&◌, if◌then◌else◌, Bool, true, false, bytes_eq, drop, List, [], ◌∷◌, length, codes, Option, Some, None, option_map, option_and_then}
 use Rattle.std.specs.List.{list_all}
 use Rattle.std.specs.Str.Parse.{digits_value}
 use Rattle.clap.specs.Words.{App, Rule, Row, Text, new_app, new_rule, with_rule, first_of, matches_of, fault_of}
@@ -18,6 +18,13 @@ plain_app = with_rule (with_rule (with_rule (with_rule (with_rule (with_rule (wi
 -- the words are those behind the program's name, and there are no flags for help and version
 unfoldable pub gl_app : App
 gl_app = record plain_app { top = record plain_app.top { no_binary_name = true; disable_help_flag = true; disable_version_flag = true } }
+
+-- behind `lrat`: the number of workers, and the names of two texts
+unfoldable pub plain_lrat_app : App
+plain_lrat_app = with_rule (with_rule (with_rule (new_app (codes "lrat")) (option_rule (codes "workers"))) (new_rule (codes "CNF"))) (new_rule (codes "LOG"))
+
+unfoldable pub lrat_app : App
+lrat_app = record plain_lrat_app { top = record plain_lrat_app.top { no_binary_name = true; disable_help_flag = true; disable_version_flag = true } }
 
 -- ---- numbers
 -- one to eight decimal digits
@@ -88,3 +95,27 @@ command_from rows = option_and_then (λ bounds. option_map (λ source. record { 
 -- the command that words make, where they make one
 abbrev pub command_of : List Text → Option Command
 command_of words = if is_empty (fault_of gl_app words) then command_from (matches_of gl_app words) else None
+
+-- ---- what words ask for
+pub data Order : Type 0 where
+  -- the transcript of a command
+  Transcript : Command → Order
+  -- the judgement, by so many workers, on the texts of these names: a formula, and a log
+  Judge : ℕ → Text → Text → Order
+
+-- both names are there
+abbrev pub judge_from : List Row → Option Order
+judge_from rows = option_and_then (λ workers. option_and_then (λ cnf. option_map (λ log. Judge workers cnf log)
+    (first_of (codes "LOG") rows)) (first_of (codes "CNF") rows)) (workers_from rows)
+
+abbrev pub judge_of : List Text → Option Order
+judge_of words = if is_empty (fault_of lrat_app words) then judge_from (matches_of lrat_app words) else None
+
+-- whether the first word is `lrat`
+abbrev pub is_lrat : List Text → Bool
+is_lrat [] = false
+is_lrat (w ∷ ws) = bytes_eq w (codes "lrat")
+
+-- what words ask for, where they ask for something
+abbrev pub order_of : List Text → Option Order
+order_of words = if is_lrat words then judge_of (drop 1 words) else option_map Transcript (command_of words)

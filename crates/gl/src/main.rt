@@ -1,8 +1,10 @@
 //! `gl [options] BOOK`: a book's transcript on standard output. `gl [options] --generate N`: the last line of that of a
-//! generated book.
+//! generated book. `gl lrat [options] CNF LOG`: the judgement on a formula and a log.
 #![tactic(auto)]
 
 mod adapters;
+mod judging;
+mod orders;
 mod run;
 #[cfg(test)]
 mod tests;

@@ -1,6 +1,10 @@
 mod adapters;
 mod books;
+mod cases;
+mod counting;
 mod faults;
+mod libraries;
+mod logs;
 mod long_books;
 mod meeting;
 mod phases;

@@ -70,7 +70,7 @@ fn end_of(kind: ErrorKind) -> WordsEnd
     }
 }
 
-fn with_option<'a>(
+pub(crate) fn with_option<'a>(
     alloc: Global,
     command: clap::Command<'a>,
     name: &'a str,
@@ -127,6 +127,21 @@ fn matched<'a>(alloc: Global, words: &'a [String]) -> Result<ArgMatches<'a>, Wor
     let Ok(command) = simple_command(alloc) else {
         return Err(WordsEnd::Memory);
     };
+    matched_by(command, words)
+}
+
+/// What the words give to each option of a simple command.
+pub(crate) fn matched_by<'a>(
+    command: clap::Command<'a>,
+    words: &'a [String],
+) -> Result<ArgMatches<'a>, WordsEnd>
+    requires free { is_simple_and_free (app_of command) ≡ true }
+    requires simple { is_simple (app_of command) ≡ true }
+    ensures usage { IsErrOf result WordsEnd.Usage → fault_of (app_of command.entry) (map string_bytes words.entry.now) ≢ [] }
+    ensures exact { IfOk result (λ m. fault_of (app_of command.entry) (map string_bytes words.entry.now) ≡ []) }
+    ensures rows { IfOk result (λ m. rows_of (found_of m) ≡ matches_of (app_of command.entry) (map string_bytes words.entry.now)) }
+    ensures text { result ≢ Err WordsEnd.NoText }
+{
     match command.try_get_matches_from(words) {
         Ok(matches) => Ok(matches),
         Err(error) => {
@@ -180,14 +195,20 @@ fn number_in(text: &str, least: u32, most: u32) -> Option<u32>
 }
 
 /// The text that stands with an option, or in the book's place.
-fn text_of<'a>(matches: &ArgMatches<'a>, id: &str) -> Option<&'a str>
+pub(crate) fn text_of<'a>(matches: &ArgMatches<'a>, id: &str) -> Option<&'a str>
     ensures { option_map (λ s. s.now) result ≡ first_of id.now (rows_of (found_of matches.now)) }
 {
     matches.get_str(id)
 }
 
 /// The number of an option: its usual one where the option is not there.
-fn number_of(matches: &ArgMatches, option: &str, usual: u32, least: u32, most: u32) -> Option<u32>
+pub(crate) fn number_of(
+    matches: &ArgMatches,
+    option: &str,
+    usual: u32,
+    least: u32,
+    most: u32,
+) -> Option<u32>
     requires low { least ≤ usual }
     requires high { usual ≤ most }
     ensures meant { result ≡ option_number usual least most (first_of option.now (rows_of (found_of matches.now))) }

@@ -1,7 +1,6 @@
 //! Calls of the outside that fail, in a book with every event and every verdict.
 
-use super::rows::{Fails, gives};
-use std::alloc::AllocError;
+use super::rows::{Fails, first_lines, gives};
 use std::process::Abort;
 use std::test::Fail;
 use std::thread::Threads;
@@ -77,15 +76,6 @@ DONE proved=1 vacuous=1 refuted=1 undecided=8
 /// The number of the line of a theorem that ran out of nodes, and of one that ran out of clauses, from 1.
 const STALLED: [u64; 2] = [27, 29];
 
-/// The first lines, so many.
-fn put_lines(text: &mut Vec<u8>, taken: usize) -> Result<(), AllocError> {
-    for line in LINES.lines().take(taken) {
-        text.extend_from_slice(line.as_bytes())?;
-        text.push(b'\n')?;
-    }
-    Ok(())
-}
-
 /// How many stalls are put where this call of the sink fails: the last line that was begun has put its stall before it is
 /// written.
 fn stalls_by(sink_call: u64) -> usize {
@@ -105,8 +95,7 @@ fn fails<R: AllocGlobal + Threads + Sync + Abort>(
     taken: usize,
     status: u8,
 ) -> Result<(), Fail> {
-    let mut want = Vec::new(rt.alloc());
-    put_lines(&mut want, taken)?;
+    let want = first_lines(rt.alloc(), LINES, taken)?;
     let want = (want.as_slice(), status, stalls_by(calls.1));
     gives(rt, (WORDS, BOOK, calls), want)
 }

@@ -2,12 +2,13 @@
 
 ghost use Rattle.std.specs.Prelude.{◌≤◌};
 
+use super::counting::Counting;
 use super::meeting::Meeting;
 use gl_base::limits::Limits;
 use gl_base::memory_sink::MemorySink;
 use gl_base::status::Status;
 use gl_book::{run_text, run_text_gated};
-use gl_decide::Stalls;
+use gl_decide::{Gate, Stalls};
 use std::alloc::Global;
 use std::process::Abort;
 use std::thread::Threads;
@@ -109,27 +110,45 @@ fn equal_bytes(rt: HostRuntime) {
 
 const TWO_VALUES: &[u8] = b"(value-triple 1)\n(value-triple 2)\n";
 
-/// Runs two jobs by two workers.
-fn run_gated<R: Threads + Sync>(rt: &R, alloc: Global, gate: &Meeting, sink: &mut MemorySink) {
+/// Runs a book by two workers.
+fn run_gated<R: Threads + Sync, G: Gate>(
+    rt: &R,
+    alloc: Global,
+    book: &[u8],
+    gate: &G,
+    sink: &mut MemorySink,
+) {
     let mut limits = Limits::usual();
     limits.workers = 2;
     let mut stalls = Stalls::new(alloc);
-    run_text_gated(
-        rt,
-        alloc,
-        TWO_VALUES,
-        &limits,
-        false,
-        gate,
-        &mut stalls,
-        sink,
-    );
+    run_text_gated(rt, alloc, book, &limits, false, gate, &mut stalls, sink);
 }
 
 #[test]
 fn jobs_meet(rt: HostRuntime) {
     let gate = Meeting::new();
     let mut sink = new_sink(&rt, rt.alloc());
-    run_gated(&rt, rt.alloc(), &gate, &mut sink);
+    run_gated(&rt, rt.alloc(), TWO_VALUES, &gate, &mut sink);
     assert!(rt; gate.met() == 2);
+}
+
+const TWO_CASES: &[u8] = b"(value-triple 1)
+(def-gl-param-thm f :hyp (unsigned-byte-p 2 x) :concl (< x 4) :param-hyp (equal (logbitp 1 x) k)
+  :param-bindings '((((k t)) ((x (:g-integer 0 1 2)))) (((k nil)) ((x (:g-integer 0 1 2)))))
+  :cov-bindings '((x (:g-integer 0 1 2))))
+";
+
+const TWO_CASES_TOLD: &[u8] = b"VALUE 1\nPROVED F\nDONE proved=1 vacuous=0 refuted=0 undecided=0\n";
+
+/// The value is task 0, the cover 1, and the cases are 2 and 3.
+#[test]
+fn parts_are_tasks(rt: HostRuntime) {
+    let gate = Counting::new();
+    let mut sink = new_sink(&rt, rt.alloc());
+    run_gated(&rt, rt.alloc(), TWO_CASES, &gate, &mut sink);
+    for number in 0..4 {
+        assert!(rt; gate.begun(number) == 1);
+    }
+    assert!(rt; gate.others() == 0);
+    assert!(rt; sink.bytes() == TWO_CASES_TOLD);
 }

@@ -10,8 +10,9 @@ use std::process::Abort;
 use std::test::Fail;
 use std::thread::Threads;
 
-const USAGE: &str =
-    "USAGE gl [--workers N] [--steps N] [--cells N] [--nodes N] [--clauses N] [--enum-bits N] (BOOK | --generate N)\n";
+/// The usage line.
+pub const USAGE: &str =
+    "USAGE gl [--workers N] [--steps N] [--cells N] [--nodes N] [--clauses N] [--enum-bits N] (BOOK | --generate N) | gl lrat [--workers N] CNF LOG\n";
 
 /// What a run over memory gave.
 #[derive(Drop)]
@@ -45,8 +46,19 @@ pub fn outcome<R: AllocGlobal + Threads + Sync>(
     room: usize,
     fails: Fails,
 ) -> Result<Given, Fail> {
+    outcome_over(rt, words, texts_of(rt.alloc(), book)?, room, fails)
+}
+
+/// What a run over memory gives, where the shelf holds these texts.
+pub fn outcome_over<R: AllocGlobal + Threads + Sync>(
+    rt: &R,
+    words: &str,
+    texts: Vec<(String, Vec<u8>)>,
+    room: usize,
+    fails: Fails,
+) -> Result<Given, Fail> {
     let alloc = rt.alloc();
-    let mut shelf = shelf_of(alloc, book, fails.0)?;
+    let mut shelf = MemoryShelf::new(alloc, texts, calls_of(alloc, fails.0)?)?;
     let words = words_in(alloc, words)?;
     let mut given = Given {
         out: MemorySink::new(alloc, room, calls_of(alloc, fails.1)?)?,
@@ -123,6 +135,16 @@ pub fn all_give<R: AllocGlobal + Threads + Sync + Abort>(rt: &R, table: &str) ->
         gives(rt, (words, book, NONE_FAILS), want)?;
     }
     Ok(())
+}
+
+/// The first lines of a text, so many.
+pub fn first_lines(alloc: Global, text: &str, count: usize) -> Result<Vec<u8>, AllocError> {
+    let mut lines = Vec::new(alloc);
+    for line in text.lines().take(count) {
+        lines.extend_from_slice(line.as_bytes())?;
+        lines.push(b'\n')?;
+    }
+    Ok(lines)
 }
 
 /// The words of a row, its book, what is written, and the code of the status.
@@ -208,46 +230,46 @@ pub fn words_in(alloc: Global, line: &str) -> Result<Vec<String>, AllocError> {
 const COMMANDS: &str = r#"
 ==
 => 64
-USAGE gl [--workers N] [--steps N] [--cells N] [--nodes N] [--clauses N] [--enum-bits N] (BOOK | --generate N)
+USAGE gl [--workers N] [--steps N] [--cells N] [--nodes N] [--clauses N] [--enum-bits N] (BOOK | --generate N) | gl lrat [--workers N] CNF LOG
 == a b
 => 64
-USAGE gl [--workers N] [--steps N] [--cells N] [--nodes N] [--clauses N] [--enum-bits N] (BOOK | --generate N)
+USAGE gl [--workers N] [--steps N] [--cells N] [--nodes N] [--clauses N] [--enum-bits N] (BOOK | --generate N) | gl lrat [--workers N] CNF LOG
 == -x
 => 64
-USAGE gl [--workers N] [--steps N] [--cells N] [--nodes N] [--clauses N] [--enum-bits N] (BOOK | --generate N)
+USAGE gl [--workers N] [--steps N] [--cells N] [--nodes N] [--clauses N] [--enum-bits N] (BOOK | --generate N) | gl lrat [--workers N] CNF LOG
 == --workers 9 b
 => 64
-USAGE gl [--workers N] [--steps N] [--cells N] [--nodes N] [--clauses N] [--enum-bits N] (BOOK | --generate N)
+USAGE gl [--workers N] [--steps N] [--cells N] [--nodes N] [--clauses N] [--enum-bits N] (BOOK | --generate N) | gl lrat [--workers N] CNF LOG
 == --workers 0 b
 => 64
-USAGE gl [--workers N] [--steps N] [--cells N] [--nodes N] [--clauses N] [--enum-bits N] (BOOK | --generate N)
+USAGE gl [--workers N] [--steps N] [--cells N] [--nodes N] [--clauses N] [--enum-bits N] (BOOK | --generate N) | gl lrat [--workers N] CNF LOG
 == --steps x b
 => 64
-USAGE gl [--workers N] [--steps N] [--cells N] [--nodes N] [--clauses N] [--enum-bits N] (BOOK | --generate N)
+USAGE gl [--workers N] [--steps N] [--cells N] [--nodes N] [--clauses N] [--enum-bits N] (BOOK | --generate N) | gl lrat [--workers N] CNF LOG
 == --steps 100000000 b
 => 64
-USAGE gl [--workers N] [--steps N] [--cells N] [--nodes N] [--clauses N] [--enum-bits N] (BOOK | --generate N)
+USAGE gl [--workers N] [--steps N] [--cells N] [--nodes N] [--clauses N] [--enum-bits N] (BOOK | --generate N) | gl lrat [--workers N] CNF LOG
 == --cells 999 b
 => 64
-USAGE gl [--workers N] [--steps N] [--cells N] [--nodes N] [--clauses N] [--enum-bits N] (BOOK | --generate N)
+USAGE gl [--workers N] [--steps N] [--cells N] [--nodes N] [--clauses N] [--enum-bits N] (BOOK | --generate N) | gl lrat [--workers N] CNF LOG
 == --enum-bits 17 b
 => 64
-USAGE gl [--workers N] [--steps N] [--cells N] [--nodes N] [--clauses N] [--enum-bits N] (BOOK | --generate N)
+USAGE gl [--workers N] [--steps N] [--cells N] [--nodes N] [--clauses N] [--enum-bits N] (BOOK | --generate N) | gl lrat [--workers N] CNF LOG
 == --generate 10001
 => 64
-USAGE gl [--workers N] [--steps N] [--cells N] [--nodes N] [--clauses N] [--enum-bits N] (BOOK | --generate N)
+USAGE gl [--workers N] [--steps N] [--cells N] [--nodes N] [--clauses N] [--enum-bits N] (BOOK | --generate N) | gl lrat [--workers N] CNF LOG
 == --generate
 => 64
-USAGE gl [--workers N] [--steps N] [--cells N] [--nodes N] [--clauses N] [--enum-bits N] (BOOK | --generate N)
+USAGE gl [--workers N] [--steps N] [--cells N] [--nodes N] [--clauses N] [--enum-bits N] (BOOK | --generate N) | gl lrat [--workers N] CNF LOG
 == b --generate 3
 => 64
-USAGE gl [--workers N] [--steps N] [--cells N] [--nodes N] [--clauses N] [--enum-bits N] (BOOK | --generate N)
+USAGE gl [--workers N] [--steps N] [--cells N] [--nodes N] [--clauses N] [--enum-bits N] (BOOK | --generate N) | gl lrat [--workers N] CNF LOG
 == --enum-bits 3
 => 64
-USAGE gl [--workers N] [--steps N] [--cells N] [--nodes N] [--clauses N] [--enum-bits N] (BOOK | --generate N)
+USAGE gl [--workers N] [--steps N] [--cells N] [--nodes N] [--clauses N] [--enum-bits N] (BOOK | --generate N) | gl lrat [--workers N] CNF LOG
 == --help
 => 64
-USAGE gl [--workers N] [--steps N] [--cells N] [--nodes N] [--clauses N] [--enum-bits N] (BOOK | --generate N)
+USAGE gl [--workers N] [--steps N] [--cells N] [--nodes N] [--clauses N] [--enum-bits N] (BOOK | --generate N) | gl lrat [--workers N] CNF LOG
 == --workers 8 --steps 007 --cells 4000000 b
 => 0
 DONE proved=0 vacuous=0 refuted=0 undecided=0

@@ -1,10 +1,9 @@
-use Rattle.std.proofs.Common.{◌≡◌, ◌∙◌, sym, ap, rules, arith, true, false, Bool, ℕ, List, length, ◌<◌, ◌≤◌, ◌&&◌, nat_le, nat_lt}
+use Rattle.std.proofs.Common.{◌≡◌, ◌∙◌, ap, rules, arith, true, false, Bool, length, ◌<◌, ◌≤◌, ◌&&◌, nat_le, nat_lt}
 use Rattle.std.specs.List.{list_all}
 use Rattle.std.specs.Result.{result_ok}
 use Rattle.std.specs.Str.Parse.{digits_value}
 use Rattle.std.proofs.lemmas.Str.Parse.{IsNumeralModel, numerals_by_value, parse_gives, digits_value_short}
 use Rattle.std.proofs.lemmas.Bool.Decides.{nat_tests}
-use Rattle.gl.specs.Words.{is_number}
 use Rattle.gl.proofs.words.number_that.Goals as goal
 
 both : (b d : Bool) → (b && d) ≡ true → (b ≡ true) × (d ≡ true)

@@ -1,0 +1,7 @@
+-- Words with a fault give nothing.
+use Rattle.std.proofs.Common.{◌≡◌, ◌≢◌, List, [], ◌∷◌, Option, None, refl, if◌then◌else◌}
+use Rattle.gl.specs.Words.{is_empty}
+
+pub none : {X Y : Type 0} (faults : List X) (o : Option Y) → faults ≢ [] → None ≡ (if is_empty faults then o else None)
+none [] o h = absurd (h refl)
+none (x ∷ xs) o h = refl
