@@ -1,4 +1,0 @@
-//! Integers and objects over stores of a few edges, with ample memory.
-
-mod integers;
-mod objects;

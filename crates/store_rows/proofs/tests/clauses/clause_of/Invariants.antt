@@ -1,5 +1,0 @@
-use Rattle.cnf_rup.specs.Literals.{IsClause}
-use Rattle.store_rows.proofs.tests.clauses.clause_of.Given as goal
-
-abbrev pub invariant-loop-literal : goal.invariant-loop-literal
-invariant-loop-literal g l = IsClause l.clause

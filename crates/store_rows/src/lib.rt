@@ -1,7 +1,0 @@
-//! Stores of bit functions, clauses and searches.
-//!
-//! This crate has no code but its tests, of `bfr_store`, `bdd_store`, `aig_store`, `cnf_rup` and `sat_core`.
-#![tactic(auto)]
-
-#[cfg(test)]
-mod tests;

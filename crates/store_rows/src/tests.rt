@@ -1,8 +1,0 @@
-//! Stores and clauses, with ample memory.
-
-mod clauses;
-mod diagrams;
-mod edge_lists;
-mod gates;
-mod graphs;
-mod searches;

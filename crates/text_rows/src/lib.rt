@@ -1,7 +1,0 @@
-//! Texts and how they are read.
-//!
-//! This crate has no code but its tests, of `sexp_reader`.
-#![tactic(auto)]
-
-#[cfg(test)]
-mod tests;

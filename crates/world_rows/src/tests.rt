@@ -1,7 +1,0 @@
-//! What forms mean, books' worlds and events, with ample memory.
-
-mod events;
-mod first_world;
-mod reader;
-mod shapes;
-mod terms;
