@@ -1,0 +1,23 @@
+"""What stands for functions and macros of ACL2 that the book language has under another name, or need not have."""
+
+# calls that are their argument, and calls that are their last one
+SAME = {"CASE-SPLIT", "DOUBLE-REWRITE", "EC-CALL", "FORCE", "GL-CONCRETE-LITE", "GL-HIDE", "HIDE", "HONS-COPY-PERSISTENT", "IDENTITY",
+        "MBT", "MBT*", "NON-EXEC", "NTHCDR-SAFE", "TIME$", "UNHIDE"}
+LAST = {"ASSERT$", "ASSERT*", "CHECK-VARS-NOT-FREE", "FAST-ALIST-FREE-ON-EXIT", "PROG2$", "PROGN$", "RETURN-LAST", "WITH-FAST-ALIST",
+        "WITH-FAST-ALISTS", "WITH-GUARD-CHECKING", "WITH-STOLEN-ALIST"}
+# calls that are NIL
+NOTHING = {"CW", "CW!", "CW-UNFORMATTED", "FMT-TO-COMMENT-WINDOW", "HARD-ERROR", "ILLEGAL", "RAISE", "WARNING$"}
+# functions under their other name
+RENAMED = {"ACL2-NUMBERP": "INTEGERP", "ADD-TO-SET": "ADD-TO-SET-EQUAL", "ADD-TO-SET-EQ": "ADD-TO-SET-EQUAL", "ASSOC": "ASSOC-EQUAL",
+           "ASSOC-EQ": "ASSOC-EQUAL", "BFIX$INLINE": "BFIX", "BOOL-FIX$INLINE": "BOOL-FIX", "FIRST-N": "TAKE", "FIX": "IFIX", "INT=": "=",
+           "INTERSECTION$": "INTERSECTION-EQUAL", "LBFIX": "BFIX", "LIFIX": "IFIX", "LNFIX": "NFIX", "LPOSFIX": "POS-FIX", "LSH": "ASH",
+           "MEMBER": "MEMBER-EQUAL", "MEMBER-EQ": "MEMBER-EQUAL", "MEMBER-EQL": "MEMBER-EQUAL", "MV": "LIST", "MV-NTH": "NTH",
+           "NO-DUPLICATESP": "NO-DUPLICATESP-EQUAL", "NO-DUPLICATESP-EQ": "NO-DUPLICATESP-EQUAL", "PAIRLIS": "PAIRLIS$",
+           "PUT-ASSOC": "PUT-ASSOC-EQUAL", "RATIONALP": "INTEGERP", "REAL/RATIONALP": "INTEGERP", "REALFIX": "IFIX", "REALP": "INTEGERP",
+           "REMOVE": "REMOVE-EQUAL", "REMOVE-EQ": "REMOVE-EQUAL", "REMOVE1": "REMOVE1-EQUAL", "RFIX": "IFIX",
+           "SET-DIFFERENCE$": "SET-DIFFERENCE-EQUAL", "SET-DIFFERENCE-EQ": "SET-DIFFERENCE-EQUAL", "SUBSETP": "SUBSETP-EQUAL",
+           "SUBSETP-EQ": "SUBSETP-EQUAL", "UNION$": "UNION-EQUAL", "UNION-EQ": "UNION-EQUAL"}
+# those of these that ask about ratios
+RATIO_FREE = {"ACL2-NUMBERP", "FIX", "RATIONALP", "REAL/RATIONALP", "REALFIX", "REALP", "RFIX"}
+# places of a list beyond those that the language names
+DEEPER = {"SIXTH": 5, "SEVENTH": 6, "EIGHTH": 7, "NINTH": 8, "TENTH": 9}

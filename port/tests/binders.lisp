@@ -1,0 +1,47 @@
+(in-package "ACL2")
+(include-book "centaur/gl/gl" :dir :system)
+(include-book "std/util/bstar" :dir :system)
+
+; b*, case-match, mbe and the forms that say nothing of values.
+(defun divided (x y)
+  (b* (((unless (posp y)) (mv :by-zero 0 0))
+       (q (floor x y))
+       (?unused (cw "quotient ~x0~%" q))
+       (r (- x (* q y)))
+       ((when (equal r 0)) (mv :exact q 0)))
+    (mv :with-rest q r)))
+(defun taken-apart (l)
+  (b* (((list a (cons b c) & d) l)
+       ((the integer e) (+ a b))
+       (`(,f ,g) d))
+    (list e c f g)))
+(defun by-shape (x)
+  (case-match x
+    (('neg a) (- a))
+    ((a b) (+ a b))
+    ((a b . &) (* a b))
+    (& 0)))
+(defun logical (x)
+  (mbe :logic (let ((x (ifix x))) (prog2$ (er hard? 'logical "never ~x0" x) (ifix x)))
+       :exec (the integer x)))
+
+(gl::def-gl-thm division
+  :hyp (and (unsigned-byte-p 5 x) (unsigned-byte-p 3 y))
+  :concl (b* (((mv kind q r) (divided x y)))
+           (case kind
+             (:by-zero (equal y 0))
+             (:exact (equal x (* q y)))
+             (t (and (< r y) (equal x (+ r (* q y)))))))
+  :g-bindings (gl::auto-bindings (:nat x 5) (:nat y 3)))
+(gl::def-gl-thm apart
+  :hyp (and (unsigned-byte-p 3 x) (unsigned-byte-p 3 y))
+  :concl (equal (taken-apart (list x (cons y 'c) nil (list 'f 'g))) (list (+ x y) 'c 'f 'g))
+  :g-bindings (gl::auto-bindings (:nat x 3) (:nat y 3)))
+(gl::def-gl-thm shapes
+  :hyp (and (unsigned-byte-p 3 x) (unsigned-byte-p 3 y))
+  :concl (and (equal (by-shape (list x y)) (+ x y))
+              (equal (by-shape (list x y 1)) (* y x))
+              (equal (by-shape (list 'neg x)) (- x))
+              (equal (by-shape x) 0)
+              (equal (logical x) x))
+  :g-bindings (gl::auto-bindings (:nat x 3) (:nat y 3)))

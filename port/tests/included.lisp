@@ -1,0 +1,6 @@
+(in-package "ACL2")
+(defconst *byte-limit* 256)
+(defund bytep (x) (and (natp x) (< x *byte-limit*)))
+(defun low-nibble (x) (mod x 16))
+(defun high-nibble (x) (floor x 16))
+(defun unneeded (x) (/ x 3))

@@ -1,0 +1,10 @@
+(in-package "ACL2")
+(include-book "included")
+(local (include-book "centaur/gl/gl" :dir :system))
+
+; The definitions come from a book that is included.
+(defun swapped (x) (+ (* 16 (low-nibble x)) (high-nibble x)))
+(gl::def-gl-thm swapped-twice
+  :hyp (bytep x)
+  :concl (equal (swapped (swapped x)) x)
+  :g-bindings (gl::auto-bindings (:nat x 8)))

@@ -1,0 +1,13 @@
+(in-package "ACL2")
+(include-book "centaur/gl/gl" :dir :system)
+(defconst *size* 8)
+(defun bytep (x) (and (natp x) (< x (expt 2 *size*))))
+(define swap ((x bytep))
+  :returns (y bytep :hyp :guard)
+  (b* (((mv low high) (mv (mod x 16) (floor x 16)))
+       ((when (equal low high)) x))
+    (+ (* 16 low) high)))
+(local (gl::def-gl-rule swap-swaps
+         :hyp (bytep x)
+         :concl (equal (swap (swap x)) x)
+         :g-bindings `((x ,(gl::g-int 0 1 9)))))
