@@ -1,0 +1,8 @@
+(defun down (n) (if (zp n) 0 (down (- n 1))))
+(def-gl-param-thm split :hyp (unsigned-byte-p 4 x) :concl (< (logand x 7) 8) :param-hyp (equal (logbitp 3 x) top) :param-bindings `((((top t)) ((x ,(g-int 0 1 5)))) (((top nil)) ((x ,(g-int 0 1 5))))) :cov-bindings `((x ,(g-int 0 1 5))))
+(def-gl-param-thm refuted :hyp (unsigned-byte-p 2 x) :concl (< x 3) :param-hyp (equal (logbitp 1 x) k) :param-bindings '((((k nil)) ((x (:g-integer 0 1 2)))) (((k t)) ((x (:g-integer 0 1 2))))) :cov-bindings '((x (:g-integer 0 1 2))))
+(def-gl-param-thm uncased :hyp (unsigned-byte-p 1 x) :concl t :param-hyp (equal x k) :param-bindings '((((k 0)) ((x (:g-integer 0 1))))) :cov-bindings '((x (:g-integer 0 1))))
+(gl-satlink-mode)
+(def-gl-param-thm vacuous :hyp (and (unsigned-byte-p 1 x) (< x 0)) :concl nil :param-hyp (equal x k) :param-bindings '((((k 0)) ((x (:g-integer 0 1))))) :cov-bindings '((x (:g-integer 0 1))))
+(def-gl-param-thm cover :hyp (unsigned-byte-p 2 x) :concl t :param-hyp (equal x k) :param-bindings '((((k 0)) ((x (:g-integer 0 1 2))))) :cov-bindings '((x (:g-integer 0 1))))
+(def-gl-param-thm clock :hyp (unsigned-byte-p 2 x) :concl (equal (down x) 0) :concl-clk 4 :param-hyp (equal (logbitp 1 x) k) :param-bindings '((((k nil)) ((x (:g-integer 0 1 2)))) (((k t)) ((x (:g-integer 0 1 2))))) :cov-bindings '((x (:g-integer 0 1 2))))
