@@ -4,6 +4,8 @@
 //! callee's measure of the actuals is below the caller's measure of the formals, by a table of forms: parts of a
 //! cons, a positive integer less a literal, halved or shifted, a gap that closes. Two natural measures may stand
 //! together, of which the first decides. ACL2 asks the same question of its prover; here a table answers it.
+//!
+//! Tests: the crate `admission_tests`.
 #![tactic(auto)]
 
 mod actuals;

@@ -15,6 +15,8 @@
 //! `value` walks the edge's cone with a stack of its own, in the room reserved for it. Each node carries the number of the
 //! last walk that came to it, and what it said then, so that a walk goes to each node of the cone once and never to the
 //! others. A test walks a conjunction that is 100,000 deep.
+//!
+//! Tests: the crate `store_tests`.
 #![tactic(auto)]
 
 mod bits;

@@ -8,6 +8,8 @@
 //!
 //! The walk down a function calls itself three calls deep for each variable that the function depends on, so 3,072 deep at
 //! most. What it has made of an edge is kept, so each test is walked once.
+//!
+//! Tests: the crate `store_tests`.
 #![tactic(auto)]
 
 mod edges;

@@ -44,6 +44,8 @@
 //!
 //! The same products on another machine, the whole process, beside BuDDy 2.4 (161,439, 524,647 and 1,691,665 nodes): 20, 120
 //! and 610 milliseconds here, 94, 204 and 659 there.
+//!
+//! Tests: the crate `store_tests`.
 #![tactic(auto)]
 
 mod bits;

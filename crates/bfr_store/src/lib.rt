@@ -5,6 +5,8 @@
 //! contracts see of a store is its [`Meaning`]. The trait [`Bits`] says what each call answers in terms of these functions
 //! alone, so that code over any store is proved from the trait: [`or`] and [`exclusive_or`] are examples. What an operation
 //! does to a store, and what it answers, is one fact, `Makes` of `specs/Keeps`.
+//!
+//! Tests: the crate `store_tests`.
 #![tactic(auto)]
 
 pub mod bits;

@@ -1,4 +1,6 @@
 //! Books that include books: their texts, read once each, as one list of forms.
+//!
+//! Tests: the crate `text_tests`.
 #![tactic(auto)]
 
 mod finish;

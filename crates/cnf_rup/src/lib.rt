@@ -4,6 +4,8 @@
 //! clauses, each with a list of hints that shows it by unit propagation: the rule of RUP proofs with the hints of LRAT. So
 //! each clause of a book follows from its first ones, and where the empty clause is in the book no assignment satisfies
 //! them. Who proposes clauses and hints need not be trusted.
+//!
+//! Tests: the crate `store_tests`.
 #![tactic(auto)]
 
 mod book;

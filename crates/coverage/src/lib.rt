@@ -3,6 +3,8 @@
 //! A binding tries a variable on the objects of a shape alone. The theorem speaks of all objects, so the
 //! hypothesis must keep the variable within its shape. [`covers`] judges this by the hypothesis's conjuncts,
 //! as they are written, and evaluates nothing.
+//!
+//! Tests: those of the crate `gl`.
 #![tactic(auto)]
 
 mod conjuncts;

@@ -3,6 +3,8 @@
 //! What a form means is a definition, `event_meant` in `specs/`: an event of the table, or the code of the
 //! first check that fails. [`event_of`] gives it. The state after an accepted event is `next_state`. [`prelude`] is
 //! the world of a book's first form.
+//!
+//! Tests: the crate `world_tests`.
 #![tactic(auto)]
 
 mod bound;

@@ -1,5 +1,7 @@
 //! Association lists with hash tables beside them, after ACL2's fast alists: a list stays a list, and a table that
 //! belongs to it finds the first pair with a key in constant time.
+//!
+//! Tests: the crate `arena_tests`.
 #![tactic(auto)]
 
 mod alists;

@@ -1,4 +1,6 @@
-// What stands below everything: how the outside is reached, the limits of a run and its status.
+//! What stands below everything: how the outside is reached, the limits of a run and its status.
+//!
+//! Tests: the crate `base_tests`.
 #![tactic(auto)]
 
 mod calls;

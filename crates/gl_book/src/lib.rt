@@ -12,6 +12,8 @@
 //! - what is left of an answer then: `settle`;
 //! - the last theorem of a text, without deciding one: `last`, by `last_step` and `untried`, and the lines of a verdict on it,
 //!   `verdict_text`.
+//!
+//! Tests: those of the crate `gl`.
 #![tactic(auto)]
 
 mod answer;

@@ -1,4 +1,6 @@
 //! Proof by cases: the theorems that a theorem by cases is made of, and what their answers come to.
+//!
+//! Tests: the crate `world_tests`.
 #![tactic(auto)]
 
 mod case_list;

@@ -2,6 +2,8 @@
 //!
 //! [`decide_theorem`] gives a verdict: by cover, then by a symbolic run, and where that runs out of nodes or clauses by
 //! [`scan`], which tries every input of a theorem of few indices on any number of workers at once.
+//!
+//! Tests: those of the crate `gl`.
 #![tactic(auto)]
 
 mod certify;

@@ -9,6 +9,8 @@
 //! that tells whether the result leaves 128 bits, and the conjunction of the parts' answers for an `equal` of conses;
 //! `docs/BENCHMARKS.md` has more theorems. The tests of the crate `interp_tests` call [`interp`] on worked theorems, and see
 //! each fault but want of memory once.
+//!
+//! Tests: the crate `interp_tests`.
 #![tactic(auto)]
 
 mod calls;

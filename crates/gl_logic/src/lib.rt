@@ -2,6 +2,8 @@
 //!
 //! The universe of objects is made of unbounded integers, characters of code 0 to 255, symbols,
 //! strings and conses. Symbols and strings are numbered by their text in one table, [`Texts`].
+//!
+//! Tests: the crate `base_tests`.
 #![tactic(auto)]
 
 mod assignment;

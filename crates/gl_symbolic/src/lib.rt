@@ -7,6 +7,8 @@
 //!
 //! [`hypothesis`] and [`refutation`] are the two runs, each up to the edge that is decided, for a caller that has a store's
 //! own decision.
+//!
+//! Tests: those of the crate `gl`; of parametrised inputs also in `parametrised`.
 #![tactic(auto)]
 
 mod condition;

@@ -7,6 +7,8 @@
 //!
 //! The work is in proportion to the term: names are looked up in constant time, and the first part of an
 //! `or`, which stands in the term twice, is copied. The stack holds at most 2,000 forms inside one another.
+//!
+//! Tests: the crate `world_tests`.
 #![tactic(auto)]
 
 mod arithmetic;

@@ -20,6 +20,8 @@
 //! On another machine, by the time of the whole process: 120 for a new integer of a million, 310 for a step of the list,
 //! 220 for one that is found again. All of these are of before cells that are made in a row had their slots in one block, and
 //! before a slot had a byte beside it.
+//!
+//! Tests: the crate `arena_tests`.
 #![tactic(auto)]
 
 mod arena;

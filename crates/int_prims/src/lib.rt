@@ -2,6 +2,8 @@
 //!
 //! The logic's integers are unbounded. Where a result leaves 128 bits the answer is [`Wide`], and no
 //! result is ever wrapped. Nothing here takes memory, and no loop counts up to an argument's value.
+//!
+//! Tests: the crate `base_tests`.
 #![tactic(auto)]
 
 mod apply;

@@ -16,6 +16,8 @@
 //! ten million additions in Python took 0.49: a loop of a million turns at most 0.06; `fib 80`, memoized, under 0.001; `fib 27`,
 //! not memoized, with its 12.2 million visits 0.18; a fast alist of 100,000 keys, each looked up, 0.13; a list of 100,000
 //! conses, built, reversed twice and compared, 0.07. `bench/evaluator` takes them, and `docs/BENCHMARKS.md` has the last.
+//!
+//! Tests: the crate `eval_tests`.
 #![tactic(auto)]
 
 mod ahead;

@@ -4,6 +4,8 @@
 //! several workers. Where it answers [`Judgement::Verified`], no assignment satisfies the formula. Nothing is taken on trust
 //! from who wrote the log. [`cnf_text`] and [`log_text`] write such texts of a refutation that a book of clauses holds, and the
 //! judgement on them is [`Judgement::Verified`].
+//!
+//! Tests: the crate `lrat_tests`.
 #![tactic(auto)]
 
 mod bad_text;

@@ -1,4 +1,6 @@
 //! Memo tables: the values of finished calls, by function and arguments.
+//!
+//! Tests: the crate `arena_tests`.
 #![tactic(auto)]
 
 mod argument;

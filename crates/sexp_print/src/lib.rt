@@ -1,4 +1,6 @@
 //! Printing of objects, as ACL2 prints them in upper case.
+//!
+//! Tests: the crate `base_tests`.
 #![tactic(auto)]
 
 mod atoms;

@@ -16,6 +16,8 @@
 //! | different symbols of 7 bytes | 203 | 73 |
 //! | `'a`, 1,398,101 times | 630 | 453 |
 //! | lists in one another, 998 deep | 865 | 549 |
+//!
+//! Tests: the crate `text_tests`.
 #![tactic(auto)]
 
 mod atom;

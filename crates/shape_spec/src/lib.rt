@@ -3,6 +3,8 @@
 //! A theorem binds each of its variables to a [`Shape`]. A truth value for each index of the shapes then
 //! gives each variable an object. Index values are numbered by the indices in order: the value of number k
 //! goes to the k-th smallest index, from 0.
+//!
+//! Tests: the crate `world_tests`.
 #![tactic(auto)]
 
 mod binding_form;

@@ -34,6 +34,8 @@
 //! | [`times`] | 4, 6, 8 | 269, 2,708, 28,399 | 583, 7,053, 80,111: rows shifted and added at the whole width |
 //! | [`floor_mod`] | 8 by 8 | 36,550 | 53,673: restoring division of magnitudes |
 //! | [`shift`] | 32 by a count of 5 | 196 | 1,221: two barrel shifters and a choice |
+//!
+//! Tests: the crate `bits_tests`.
 #![tactic(auto)]
 
 mod bitwise;

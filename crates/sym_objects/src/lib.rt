@@ -11,6 +11,8 @@
 //! table of the call, so that no depth is too great for them. A test makes two lists of 100,000 different integers, places
 //! them in an arena, makes their constant nodes, places one back, merges the two under one variable and reads the merge under
 //! both assignments: all of it takes 0.8 seconds of processor time on a shared machine.
+//!
+//! Tests: the crate `bits_tests`.
 #![tactic(auto)]
 
 pub mod arenas;

@@ -9,6 +9,8 @@
 //!   path. Its invariant is in `specs/Frames`: whatever comes of the focus, the frames make the answer of it.
 //! - Where no object is a choice, its kind is known (`simple`): integers go to the operations of `sym_bits` at full width
 //!   (`operations`, `tests_of_integers`), and T and NIL are a Boolean's edges (`predicates`).
+//!
+//! Tests: the crate `interp_tests`.
 #![tactic(auto)]
 
 mod answers;
