@@ -90,6 +90,14 @@ impl Clauses {
         }
     }
 
+    /// Forgets a clause.
+    pub fn forget_one(&mut self, clause: u32) {
+        let index = clause as usize;
+        if index < self.spans.len() {
+            self.spans[index].forgotten = true;
+        }
+    }
+
     /// Whether a clause is watched no longer.
     pub fn is_forgotten(&self, clause: u32) -> bool {
         match self.spans.get(clause as usize) {

@@ -8,7 +8,7 @@ ghost use Rattle.sat_core.specs.Decisions.{IsBookOf, IsDecidedBy, LearnsOne};
 
 use super::candidate::{try_found, try_known};
 use super::propose::learn_next;
-use super::search::Search;
+use super::search::{Event, Search};
 use aig_store::Aig;
 use bfr_store::{Decision, Edge};
 use cnf_rup::{ClauseBook, cnf_of};
@@ -31,7 +31,7 @@ fn is_found(
     aig: &mut Aig,
     e: Edge,
     search: &Search,
-    conflict: Option<u32>,
+    event: Event,
     out: &mut Assignment,
 ) -> Result<bool, NoMemory>
     requires live { IsLive aig.old e }
@@ -40,17 +40,17 @@ fn is_found(
     ensures bits { result ≡ Ok true → length out.new ≡ aig.old.width }
     ensures untouched { result ≢ Ok true → out.new ≡ out.old }
 {
-    if conflict.is_some() {
-        return Ok(false);
+    match event {
+        Event::Model => try_found(alloc, aig, e, search, out),
+        _ => Ok(false),
     }
-    try_found(alloc, aig, e, search, out)
 }
 
 /// Learns one clause. Whether the empty clause is in the book then.
 fn learns_empty(
     alloc: Global,
     search: &mut Search,
-    conflict: Option<u32>,
+    event: Event,
     book: &mut ClauseBook,
 ) -> Result<bool, NoMemory>
     requires { length book.old.entries < 4294967295 }
@@ -59,7 +59,7 @@ fn learns_empty(
     ensures book { OnOk result (IsBook book.new) }
     ensures follow { OnOk result (AllFollow book.new) }
 {
-    learn_next(alloc, search, conflict, book)?;
+    learn_next(alloc, search, event, book)?;
     Ok(is_refuted(book))
 }
 
@@ -98,12 +98,12 @@ fn search_for(
     ensures untouched { result ≢ Ok Decision.Sometimes → out.new ≡ out.old }
 {
     for _learned in 0..clauses {
-        let conflict = search.run()?;
-        let found = is_found(alloc, aig, e, search, conflict, out)?;
+        let event = search.run()?;
+        let found = is_found(alloc, aig, e, search, event, out)?;
         if found {
             return Ok(Decision::Sometimes);
         }
-        let empty = learns_empty(alloc, search, conflict, book)?;
+        let empty = learns_empty(alloc, search, event, book)?;
         if empty {
             return Ok(Decision::Never);
         }

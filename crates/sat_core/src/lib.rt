@@ -20,8 +20,10 @@
 //! by activity, in a heap: a whole number, to which later conflicts add more, and all are halved before one would leave its
 //! type. A conflict adds to the variables that it is followed through, and to those of the reasons of the learned clause's
 //! literals, as CaDiCaL and MapleSAT do: on products of words this halves the clauses that are learned. Each variable takes the
-//! value that it had last. The search begins anew after Luby's numbers times a hundred conflicts, and then and when forgets half
-//! of the long clauses that it learned, those whose literals had most levels. The book keeps them.
+//! value that it had last. The search begins anew where the glue of late clauses, the count of their literals' levels, is a tenth
+//! above that of all, and now and then forgets half of the long clauses that it learned, those of the greatest glue. The book
+//! keeps them. After as many conflicts as there are variables, and 500 at least, variables of gates are resolved away: the
+//! resolvents are learned by the book as other clauses are, each by two hints, and take the place of what they were made of.
 //!
 //! No call nests: each walk is a loop.
 //!
@@ -51,12 +53,13 @@ mod analysis;
 mod candidate;
 mod clauses;
 mod decide;
+mod eliminate;
 mod literal;
-mod luby;
 mod names;
 mod order;
 mod propagate;
 mod propose;
+mod restarts;
 mod search;
 mod store;
 mod trail;

@@ -8,7 +8,7 @@ use std::alloc::Global;
 const FIRST_STEP: u64 = 1 << 20;
 
 /// How slowly later bumps come to weigh more.
-const SLOWNESS: u64 = 128;
+const SLOWNESS: u64 = 64;
 
 /// Where an activity or the step has come to this, all are halved, as often as `HALVINGS` says.
 const MOST: u64 = 1 << 62;

@@ -4,17 +4,19 @@ ghost use Rattle.std.specs.Prelude.{◌≡◌, ◌<◌, true, false, length, All
 ghost use Rattle.cnf_rup.specs.Literals.{IsClause};
 ghost use Rattle.sat_core.specs.Decisions.{LearnsOne};
 
-use super::search::Search;
+use super::eliminate::Pair;
+use super::literal::Literal;
+use super::search::{Event, Search};
 use cnf_rup::{Clause, ClauseBook, Hints, Learn};
 use gl_logic::NoMemory;
 use std::alloc::Global;
 
-/// The clause that the search has found, in the book's variables. A number that is no literal is left out.
-fn clause_of(alloc: Global, search: &Search) -> Result<Clause, NoMemory>
+/// A clause of the search, in the book's variables. A number that is no literal is left out.
+fn clause_of(alloc: Global, search: &Search, literals: &[Literal]) -> Result<Clause, NoMemory>
     ensures { IfOk result (λ c. IsClause c) }
 {
     let mut clause = Clause::new(alloc);
-    for literal in search.analysis.literals() {
+    for literal in literals {
         let named = search.names.literal(*literal);
         if named != 0 && named != i32::MIN {
             clause.push(named)?;
@@ -62,7 +64,7 @@ fn propose(
     ensures taken { IfOk result (λ t. t ≡ true → LearnsOne book.old book.new) }
     ensures refused { IfOk result (λ t. t ≡ false → book.new ≡ book.old) }
 {
-    let clause = clause_of(alloc, search)?;
+    let clause = clause_of(alloc, search, search.analysis.literals())?;
     let hints = hints_of(alloc, search, conflict)?;
     match book.learn(&clause, &hints)? {
         Learn::Taken(_) => Ok(true),
@@ -109,20 +111,57 @@ fn learn_conflict(
     Ok(false)
 }
 
-/// Learns one clause.
+/// The hints of a resolvent: the two clauses.
+fn hints_of_pair(alloc: Global, pair: Pair) -> Result<Hints, NoMemory>
+    ensures { IfOk result (λ h. All (λ n. 0 < n) h) }
+{
+    let mut hints = Hints::new(alloc);
+    if pair.definition < u32::MAX && pair.other < u32::MAX {
+        hints.push(pair.definition + 1)?;
+        hints.push(pair.other + 1)?;
+    }
+    Ok(hints)
+}
+
+/// Learns the resolvent that the search has made, of these clauses. Whether it was taken.
+fn learn_resolvent(
+    alloc: Global,
+    search: &mut Search,
+    pair: Pair,
+    book: &mut ClauseBook,
+) -> Result<bool, NoMemory>
+    requires { length book.old.entries < 4294967295 }
+    ensures taken { IfOk result (λ t. t ≡ true → LearnsOne book.old book.new) }
+    ensures refused { IfOk result (λ t. t ≡ false → book.new ≡ book.old) }
+{
+    let clause = clause_of(alloc, search, search.resolvent())?;
+    let hints = hints_of_pair(alloc, pair)?;
+    match book.learn(&clause, &hints)? {
+        Learn::Taken(_) => {
+            search.take_resolvent(pair)?;
+            Ok(true)
+        }
+        Learn::NotShown(_) => Ok(false),
+    }
+}
+
+/// Learns one clause: what the search has come to.
 pub fn learn_next(
     alloc: Global,
     search: &mut Search,
-    conflict: Option<u32>,
+    event: Event,
     book: &mut ClauseBook,
 ) -> Result<(), NoMemory>
     requires { length book.old.entries < 4294967295 }
     ensures { OnOk result (LearnsOne book.old book.new) }
 {
-    if let Some(conflict) = conflict {
-        if learn_conflict(alloc, search, conflict, book)? {
-            return Ok(());
-        }
+    let taken = match event {
+        Event::Conflict(conflict) => learn_conflict(alloc, search, conflict, book)?,
+        Event::Resolvent(pair) => learn_resolvent(alloc, search, pair, book)?,
+        Event::Model => false,
+    };
+    if taken {
+        return Ok(());
     }
     learn_tautology(alloc, book)?;
     search.begin_again()

@@ -5,15 +5,36 @@
 
 use super::analysis::Analysis;
 use super::clauses::Clauses;
+use super::eliminate::{Elimination, Pair};
 use super::literal::Literal;
-use super::luby::Luby;
 use super::names::Names;
 use super::order::Order;
+use super::restarts::Restarts;
 use super::trail::{Trail, Truth};
 use super::watch::{Watch, Watches};
 use cnf_rup::ClauseBook;
 use gl_logic::NoMemory;
 use std::alloc::Global;
+
+/// What a search comes to.
+#[derive(Clone, Copy)]
+pub enum Event {
+    /// This clause is false.
+    Conflict(u32),
+    /// A resolvent of these clauses was made, of a variable that is resolved away.
+    Resolvent(Pair),
+    /// All variables have values, and no clause is false.
+    Model,
+}
+
+/// Whether variables are resolved away.
+#[derive(Clone, Copy, PartialEq, Eq)]
+enum Stage {
+    /// Not before so many conflicts.
+    Before(u32),
+    Now,
+    After,
+}
 
 /// A search for an assignment that satisfies the clauses of a book.
 #[derive(Drop)]
@@ -30,21 +51,27 @@ pub struct Search {
     order: Order,
     /// By variable, the last value that it had.
     phases: Vec<bool>,
-    restarts: Luby,
+    restarts: Restarts,
     /// How many clauses are to be learned before some are forgotten, and how many there are to be from one time to the next.
     left: u32,
     period: u32,
     /// A clause that the unit clauses make false.
     failed: Option<u32>,
+    elimination: Elimination,
+    stage: Stage,
+    alloc: Global,
     /// How many literals were taken from the trail, and the clauses gone through that watch their complements.
     pub(crate) propagations: u64,
 }
 
 /// How many clauses are learned before some are forgotten for the first time.
-const FIRST_PERIOD: u32 = 2_000;
+const FIRST_PERIOD: u32 = 500;
 
 /// How many more there are each time.
-const LONGER: u32 = 300;
+const LONGER: u32 = 50;
+
+/// After how many conflicts, at least, variables are resolved away: as many as there are variables, where these are more.
+const FEW: u32 = 500;
 
 impl Search {
     /// A search over the clauses of a book.
@@ -62,10 +89,13 @@ impl Search {
             analysis: Analysis::new(alloc, variables)?,
             order: Order::new(alloc, variables)?,
             phases: vec![in alloc; false; variables as usize]?,
-            restarts: Luby::new(),
+            restarts: Restarts::new(),
             left: FIRST_PERIOD,
             period: FIRST_PERIOD,
             failed: None,
+            elimination: Elimination::new(alloc, variables)?,
+            stage: Stage::Before(variables.max(FEW)),
+            alloc,
             propagations: 0,
         };
         search.load(alloc, book)?;
@@ -82,6 +112,9 @@ impl Search {
             }
             let clause = self.clauses.count();
             self.clauses.push(&literals, 0)?;
+            if let Some(first) = literals.get(0) {
+                self.elimination.define(clause, first.variable())?;
+            }
             self.watch(clause)?;
             if literals.len() == 1 {
                 self.assert(literals[0], clause)?;
@@ -135,13 +168,20 @@ impl Search {
             let Some(variable) = self.order.take() else {
                 return Ok(false);
             };
-            if self.trail.truth(Literal::of(variable, false)) == Truth::Open {
+            if self.is_free(variable) {
                 let phase = self.phase(variable);
                 self.trail.decide(Literal::of(variable, !phase))?;
                 return Ok(true);
             }
         }
         Ok(false)
+    }
+
+    /// Whether a variable can be decided.
+    #[inline]
+    fn is_free(&self, variable: u32) -> bool {
+        self.trail.truth(Literal::of(variable, false)) == Truth::Open
+            && !self.elimination.is_gone(variable)
     }
 
     fn phase(&self, variable: u32) -> bool {
@@ -168,21 +208,80 @@ impl Search {
         Ok(())
     }
 
-    /// Decides and propagates until a clause is false, which is answered, or all variables have values.
-    pub fn run(&mut self) -> Result<Option<u32>, NoMemory> {
-        if self.failed.is_some() {
-            return Ok(self.failed);
-        }
+    /// Decides and propagates until a clause is false or all variables have values.
+    fn descend(&mut self) -> Result<Event, NoMemory> {
         for _ in 0..=self.variables {
-            let conflict = self.propagate()?;
-            if conflict.is_some() {
-                return Ok(conflict);
+            if let Some(conflict) = self.propagate()? {
+                return Ok(Event::Conflict(conflict));
             }
             if !self.decide()? {
-                return Ok(None);
+                break;
             }
         }
-        Ok(None)
+        Ok(Event::Model)
+    }
+
+    /// Goes on to what comes next. While variables are resolved away no decision stands.
+    pub fn run(&mut self) -> Result<Event, NoMemory> {
+        if let Some(failed) = self.failed {
+            return Ok(Event::Conflict(failed));
+        }
+        match self.stage {
+            Stage::Before(0) => {
+                if let Some(conflict) = self.propagate()? {
+                    return Ok(Event::Conflict(conflict));
+                }
+                self.elimination
+                    .begin(self.alloc, &self.clauses, &self.trail)?;
+                self.stage = Stage::Now;
+            }
+            _ => {}
+        }
+        if self.stage == Stage::Now {
+            if let Some(pair) = self.elimination.next(&mut self.clauses, &self.trail)? {
+                return Ok(Event::Resolvent(pair));
+            }
+            self.end_elimination()?;
+        }
+        self.descend()
+    }
+
+    /// The literals of the resolvent that was made.
+    pub fn resolvent(&self) -> &[Literal] {
+        self.elimination.literals()
+    }
+
+    /// Takes in the resolvent that was made, which was learned.
+    pub fn take_resolvent(&mut self, pair: Pair) -> Result<(), NoMemory> {
+        let clause = self.clauses.count();
+        self.clauses.push(self.elimination.literals(), 0)?;
+        self.watch(clause)?;
+        self.elimination
+            .take_in(pair, clause, &self.clauses, &self.trail)
+    }
+
+    /// Forgets the clauses that have a variable that was resolved away, of those that were learned too.
+    fn end_elimination(&mut self) -> Result<(), NoMemory> {
+        self.stage = Stage::After;
+        for clause in 0..self.clauses.count() {
+            if self.elimination.is_one_gone(self.clauses.of(clause)) {
+                self.clauses.forget_one(clause);
+            }
+        }
+        self.pairs.forget(&self.clauses)?;
+        self.watches.forget(&self.clauses)
+    }
+
+    /// Counts a conflict. Whether variables are to be resolved away now.
+    fn is_time(&mut self) -> bool {
+        match self.stage {
+            Stage::Before(conflicts) => {
+                let left = conflicts.saturating_sub(1);
+                self.stage = Stage::Before(left);
+                left == 0
+            }
+            _ => false,
+        }
     }
 
     /// Finds the clause to be learned from a conflict. The level at which it gives its first literal, if it is found.
@@ -205,9 +304,11 @@ impl Search {
         self.watch(clause)?;
         self.order.age();
         self.left = self.left.saturating_sub(1);
-        let back = if self.restarts.is_due() { 0 } else { level };
+        let is_due = self.restarts.is_due(glue);
+        let is_time = self.is_time();
+        let back = if is_due || is_time { 0 } else { level };
         self.go_back(back)?;
-        if back == 0 && self.left == 0 {
+        if self.left == 0 {
             self.forget()?;
         }
         match self.analysis.literals().get(0) {
