@@ -1,18 +1,19 @@
 -- Entries, held one after another.
-use Rattle.std.proofs.Common.{◌≡◌, ◌∙◌, ap, sym, subst, refl, ℕ, zero, suc, ℤ, ◌<◌, Bool, true, false, cond, List, [], ◌∷◌, ◌++◌, map, length, get_or, take, arith, Option, Some, None}
+use Rattle.std.proofs.Common.{◌≡◌, ◌∙◌, ap, sym, subst, refl, ℕ, ℤ, ◌<◌, Bool, true, false, cond, List, [], ◌∷◌, ◌++◌, map, length, Option, Some, None}
 use Rattle.std.specs.Prelude.{◌||◌, option_map}
-use Rattle.std.specs.List.{list_any}
-use Rattle.std.proofs.lemmas.List.{append-nil, append_assoc, length-map, map-append}
+use Rattle.std.specs.List.{All, list_any}
+use Rattle.std.proofs.lemmas.List.Elements.{All-append, All-cons, All-nil}
+use Rattle.std.proofs.lemmas.List.{append_assoc, length-map, map-append}
 use Rattle.std.proofs.lemmas.List.Folds.{list_any-append}
 use Rattle.gl_logic.proofs.Optional.{none_some}
 use Rattle.lrat_tool.specs.Flat.{FlatSeen}
-use Rattle.lrat_tool.specs.Held.{HasEntry, IsHeld, LineRead, Rises, last_id, place_in, placed}
-use Rattle.lrat_tool.specs.HintWords.{hint_of, is_below}
+use Rattle.lrat_tool.specs.Held.{HasEntry, IsHeld, LineRead, Rises, last_id}
+use Rattle.lrat_tool.specs.HintWords.{held_of, hint_of, is_below}
 use Rattle.lrat_tool.specs.Judgements.{is_below_zero}
 use Rattle.lrat_tool.specs.Logs.{LineMeant, Nothing, Clause, Bad, LogEntry}
 use Rattle.lrat_tool.specs.declared.log.Log.{Log}
 use Rattle.lrat_tool.specs.declared.number.Hint.{Hint}
-use Rattle.lrat_tool.proofs.Ids.{below_is, placed_push, rises_push}
+use Rattle.lrat_tool.proofs.Ids.{below_is, rises_push}
 
 -- a hint's word, and what it says
 abbrev hint_or : Hint → Option Hint → Hint
@@ -29,12 +30,12 @@ pub rest_more : {X : Type 0} (lists : List (List X)) (rest zs : List X) (z : X) 
 rest_more {X} lists rest zs z s t was is =
     is ∙ ap (λ (f : FlatSeen X). record { lists = f.lists; rest = f.rest ++ z ∷ [] }) was ∙ ap (λ (l : List X). record { lists = lists; rest = l }) (append_assoc rest zs (z ∷ []))
 
--- places with one more
-pub places_more : (first : ℕ) (ids : List ℕ) (lists : List (List ℕ)) (rest : List ℕ) (zs : List ℤ) (z : ℤ) (s t : FlatSeen ℕ) → s ≡ record { lists = lists; rest = rest ++ map (place_in first ids) zs }
-    → t ≡ record { lists = s.lists; rest = s.rest ++ place_in first ids z ∷ [] } → t ≡ record { lists = lists; rest = rest ++ map (place_in first ids) (zs ++ z ∷ []) }
-places_more first ids lists rest zs z s t was is =
-    rest_more lists rest (map (place_in first ids) zs) (place_in first ids z) s t was is
-    ∙ ap (λ (l : List ℕ). record { lists = lists; rest = rest ++ l }) (sym (map-append (place_in first ids) zs (z ∷ [])))
+-- hints with one more
+pub hints_more : (lists : List (List ℕ)) (rest : List ℕ) (zs : List ℤ) (z : ℤ) (s t : FlatSeen ℕ) → s ≡ record { lists = lists; rest = rest ++ map held_of zs }
+    → t ≡ record { lists = s.lists; rest = s.rest ++ held_of z ∷ [] } → t ≡ record { lists = lists; rest = rest ++ map held_of (zs ++ z ∷ []) }
+hints_more lists rest zs z s t was is =
+    rest_more lists rest (map held_of zs) (held_of z) s t was is
+    ∙ ap (λ (l : List ℕ). record { lists = lists; rest = rest ++ l }) (sym (map-append held_of zs (z ∷ [])))
 
 either : (a b : Bool) → (a || b) ≡ (a || (b || false))
 either true b = refl
@@ -46,9 +47,9 @@ below_more zs z h old new is was now =
     now ∙ (λ i. was i || (ap is_below (sym is) ∙ below_is z) i) ∙ either (list_any is_below_zero zs) (is_below_zero z) ∙ sym (list_any-append is_below_zero zs (z ∷ []))
 
 -- an entry more
-module _ (first : ℕ) (es : List LogEntry) (old mid new : Log) (e : LogEntry) (below : Bool) (held : IsHeld first es old) (later : last_id first old.ids.items < e.id)
+module _ (first : ℕ) (es : List LogEntry) (old mid new : Log) (e : LogEntry) (below : Bool) (held : IsHeld first es old) (later : last_id first old.ids.items < e.id) (small : e.id < 4294967296)
     (clauses : mid.clauses ≡ record { lists = old.clauses.lists; rest = old.clauses.rest ++ e.clause })
-    (hints : mid.hints ≡ record { lists = old.hints.lists; rest = old.hints.rest ++ map (place_in first old.ids.items) e.hints })
+    (hints : mid.hints ≡ record { lists = old.hints.lists; rest = old.hints.rest ++ map held_of e.hints })
     (ids : mid.ids.items ≡ old.ids.items) (lines : mid.lines.items ≡ old.lines.items) (rats : mid.rats.items ≡ old.rats.items)
     (is_below : below ≡ list_any is_below_zero e.hints) (ended : HasEntry mid e.id e.line below new) where
   numbers : new.ids.items ≡ old.ids.items ++ e.id ∷ []
@@ -60,13 +61,13 @@ module _ (first : ℕ) (es : List LogEntry) (old mid new : Log) (e : LogEntry) (
         ∙ ap (λ (s : FlatSeen ℤ). record { lists = s.lists ++ s.rest ∷ []; rest = [] }) (clauses ∙ ap (λ (s : FlatSeen ℤ). record { lists = s.lists; rest = s.rest ++ e.clause }) held.clauses)
         ∙ ap (λ (l : List (List ℤ)). record { lists = l; rest = [] }) (sym (map-append (λ d. d.clause) es (e ∷ [])));
     hints = ended.hints
-        ∙ ap (λ (s : FlatSeen ℕ). record { lists = s.lists ++ s.rest ∷ []; rest = [] }) (hints ∙ ap (λ (s : FlatSeen ℕ). record { lists = s.lists; rest = s.rest ++ map (place_in first old.ids.items) e.hints }) held.hints)
-        ∙ ap (λ (is : List ℕ). record { lists = placed first [] es ++ map (place_in first is) e.hints ∷ []; rest = [] }) held.ids
-        ∙ ap (λ (l : List (List ℕ)). record { lists = l; rest = [] }) (sym (placed_push first [] es e));
+        ∙ ap (λ (s : FlatSeen ℕ). record { lists = s.lists ++ s.rest ∷ []; rest = [] }) (hints ∙ ap (λ (s : FlatSeen ℕ). record { lists = s.lists; rest = s.rest ++ map held_of e.hints }) held.hints)
+        ∙ ap (λ (l : List (List ℕ)). record { lists = l; rest = [] }) (sym (map-append (λ d. map held_of d.hints) es (e ∷ [])));
     ids = numbers ∙ ap (λ (l : List ℕ). l ++ e.id ∷ []) held.ids ∙ sym (map-append (λ d. d.id) es (e ∷ []));
     lines = ended.lines ∙ ap (λ (l : List ℕ). l ++ e.line ∷ []) (lines ∙ held.lines) ∙ sym (map-append (λ d. d.line) es (e ∷ []));
     rats = ended.rats ∙ (λ i. (rats ∙ held.rats) i ++ is_below i ∷ []) ∙ sym (map-append (λ d. list_any is_below_zero d.hints) es (e ∷ []));
     rises = subst (Rises first) (sym numbers) (rises_push first old.ids.items e.id held.rises later);
+    small = subst (All (λ id. id < 4294967296)) (sym numbers) (All-append (λ (id : ℕ). id < 4294967296) old.ids.items (e.id ∷ []) held.small (All-cons (λ (id : ℕ). id < 4294967296) e.id [] small (All-nil (λ (id : ℕ). id < 4294967296))));
   }
 
 -- ---- what a line leaves
@@ -87,23 +88,16 @@ module _ (first : ℕ) (es : List LogEntry) (new : Log) where
   pub deletion_line : (m : LineMeant) (b : Bool) → m ≡ cond b Nothing Bad → IsHeld first es new → LineRead first es new m b
   deletion_line m b e h = subst (λ (l : LineMeant). LineRead first es new l b) (sym e) (deletion_by b h)
 
--- ---- an entry of those that are held
-pub placed_at : (first : ℕ) (ids : List ℕ) (es : List LogEntry) (k : ℕ) (d : LogEntry) → k < length es → get_or (placed first ids es) k [] ≡ map (place_in first (ids ++ map (λ e. e.id) (take k es))) (get_or es k d).hints
-placed_at first ids [] k d l = absurd (omega (arith, l))
-placed_at first ids (e ∷ es) zero d l = ap (λ (is : List ℕ). map (place_in first is) e.hints) (sym (append-nil ids))
-placed_at first ids (e ∷ es) (suc k) d l =
-    placed_at first (ids ++ e.id ∷ []) es k d (omega (arith, l)) ∙ ap (λ (is : List ℕ). map (place_in first is) (get_or es k d).hints) (append_assoc ids (e.id ∷ []) (map (λ x. x.id) (take k es)))
-
-pub placed_length : (first : ℕ) (ids : List ℕ) (es : List LogEntry) → length (placed first ids es) ≡ length es
-placed_length first ids [] = refl
-placed_length first ids (e ∷ es) = omega (arith, placed_length first (ids ++ e.id ∷ []) es)
-
+-- ---- as many as the entries
 module _ (first : ℕ) (es : List LogEntry) (log : Log) (held : IsHeld first es log) where
   many_clauses : length log.clauses.lists ≡ length es
   many_clauses = ap (λ (s : FlatSeen ℤ). length s.lists) held.clauses ∙ length-map es (λ (e : LogEntry). e.clause)
 
   pub many_hints : length log.hints.lists ≡ length log.clauses.lists
-  many_hints = ap (λ (s : FlatSeen ℕ). length s.lists) held.hints ∙ placed_length first [] es ∙ sym many_clauses
+  many_hints = ap (λ (s : FlatSeen ℕ). length s.lists) held.hints ∙ length-map es (λ (e : LogEntry). map held_of e.hints) ∙ sym many_clauses
+
+  pub many_ids : length log.ids.items ≡ length log.clauses.lists
+  many_ids = ap (λ (l : List ℕ). length l) held.ids ∙ length-map es (λ (e : LogEntry). e.id) ∙ sym many_clauses
 
   pub many_rats : length log.rats.items ≡ length log.clauses.lists
   many_rats = ap (λ (l : List Bool). length l) held.rats ∙ length-map es (λ (e : LogEntry). list_any is_below_zero e.hints) ∙ sym many_clauses

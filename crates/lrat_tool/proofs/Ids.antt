@@ -1,11 +1,10 @@
 -- Ascending numbers, and where one stands among them.
-use Rattle.std.proofs.Common.{◌≡◌, ◌≢◌, ◌∙◌, ap, sym, refl, ℕ, zero, suc, ℤ, pos, negsuc, ◌+◌, ◌-◌, ◌<◌, ◌≤◌, false, cond, List, [], ◌∷◌, ◌++◌, map, length, get_or, min, arith, inl, inr}
-use Rattle.std.specs.Prelude.{◌==◌, nat_le}
+use Rattle.std.proofs.Common.{◌≡◌, ◌≢◌, ◌∙◌, ap, sym, refl, ℕ, zero, suc, ℤ, pos, negsuc, ◌+◌, ◌-◌, ◌<◌, ◌≤◌, true, false, cond, List, [], ◌∷◌, ◌++◌, map, length, get_or, take, min, arith, inl, inr}
+use Rattle.std.specs.Prelude.{◌==◌, nat_le, nat_lt}
 use Rattle.std.proofs.lemmas.Bool.{cases_lt, eq-eqb}
-use Rattle.std.proofs.lemmas.List.{append-nil, append_assoc}
 use Rattle.std.proofs.lemmas.Bool.Decides.{nat_tests}
-use Rattle.lrat_tool.specs.Held.{Rises, id_place, last_id, place_in, place_of_hint, placed}
-use Rattle.lrat_tool.specs.HintWords.{hint_of, is_below}
+use Rattle.lrat_tool.specs.Held.{Rises, id_place, last_id, place_by}
+use Rattle.lrat_tool.specs.HintWords.{held_of, hint_of, is_below}
 use Rattle.lrat_tool.specs.Judgements.{is_below_zero, place_from, place_named}
 use Rattle.lrat_tool.specs.Logs.{LogEntry}
 
@@ -28,6 +27,12 @@ rises_push last (i ∷ ids) id r l = (r.0, rises_push i ids id r.1 l)
 pub last_push : (last : ℕ) (ids : List ℕ) (id : ℕ) → last_id last (ids ++ id ∷ []) ≡ id
 last_push last [] id = refl
 last_push last (i ∷ ids) id = last_push i ids id
+
+pub rises_take : (last : ℕ) (ids : List ℕ) (k : ℕ) → Rises last ids → Rises last (take k ids)
+rises_take last [] zero r = tt
+rises_take last [] (suc k) r = tt
+rises_take last (id ∷ ids) zero r = tt
+rises_take last (id ∷ ids) (suc k) r = (r.0, rises_take id ids k r.1)
 
 last_at : (last i : ℕ) (ids : List ℕ) → get_or (i ∷ ids) (length ids) 0 ≡ last_id last (i ∷ ids)
 last_at last i [] = refl
@@ -83,6 +88,11 @@ pub below_is : (z : ℤ) → is_below (hint_of z) ≡ is_below_zero z
 below_is (pos n) = refl
 below_is (negsuc n) = refl
 
+-- the place that a hint names
+abbrev pub place_in : ℕ → List ℕ → ℤ → ℕ
+place_in first ids (pos n) = place_by first ids n
+place_in first ids (negsuc n) = 0
+
 module _ (first : ℕ) (ids : List ℕ) (small : (j : ℕ) → j < length ids → get_or ids j 0 < 4294967296) (few : first < 4294967296) where
   past : (n : ℕ) → 4294967296 ≤ n → nat_le n first ≡ false
   past n le = grind (arith, nat_tests)
@@ -90,18 +100,35 @@ module _ (first : ℕ) (ids : List ℕ) (small : (j : ℕ) → j < length ids �
   big : (n : ℕ) → 4294967296 ≤ n → cond (nat_le n first) n (id_place (first + 1) ids n) ≡ 0
   big n le = ap (λ b. cond b n (id_place (first + 1) ids n)) (past n le) ∙ beyond (first + 1) ids n small le
 
-  least : (n : ℕ) → n ≤ 4294967296 → min n 4294967296 ≡ n
-  least n le = omega arith
+  least : (n : ℕ) → n < 4294967296 → min n 4294967296 ≡ n
+  least n l = omega (arith, l)
 
   most : (n : ℕ) → 4294967296 ≤ n → min n 4294967296 ≡ 4294967296
-  most n le = omega arith
+  most n le = omega (arith, le)
 
-  pub hint_place : (z : ℤ) → place_of_hint first ids (hint_of z) ≡ place_in first ids z
-  hint_place (pos n) = elim (cases_lt n 4294967296) [
-    | inl l ↦ ap (λ m. cond (nat_le m first) m (id_place (first + 1) ids m)) (least n (omega (arith, l)))
-    | inr l ↦ ap (λ m. cond (nat_le m first) m (id_place (first + 1) ids m)) (most n l) ∙ big 4294967296 (omega arith) ∙ sym (big n l)
+  below : (n : ℕ) → n < 4294967296 → nat_lt n 4294967296 ≡ true
+  below n l = grind (arith, nat_tests)
+
+  -- a number that is held, and one that is too great for an id
+  held_number : (n : ℕ) → n < 4294967296 → held_of (pos n) ≡ n
+  held_number n l = ap (λ m. cond (nat_lt m 4294967296) m 0) (least n l) ∙ ap (λ b. cond b n 0) (below n l)
+
+  held_none : (n : ℕ) → 4294967296 ≤ n → held_of (pos n) ≡ 0
+  held_none n le = ap (λ m. cond (nat_lt m 4294967296) m 0) (most n le)
+
+  none : place_by first ids 0 ≡ 0
+  none = ap (λ b. cond b 0 (id_place (first + 1) ids 0)) (not_past first)
+    where
+      not_past : (f : ℕ) → nat_le 0 f ≡ true
+      not_past f = grind (arith, nat_tests)
+
+  -- the place of what is held of a hint is the hint's
+  pub held_place : (z : ℤ) → place_by first ids (held_of z) ≡ place_in first ids z
+  held_place (pos n) = elim (cases_lt n 4294967296) [
+    | inl l ↦ ap (place_by first ids) (held_number n l)
+    | inr l ↦ ap (place_by first ids) (held_none n l) ∙ none ∙ sym (big n l)
   ]
-  hint_place (negsuc n) = refl
+  held_place (negsuc n) = none
 
 -- ---- places by entries
 pub place_by_ids : (place : ℕ) (es : List LogEntry) (n : ℕ) → place_from place es n ≡ id_place place (map (λ e. e.id) es) n
@@ -111,10 +138,3 @@ place_by_ids place (e ∷ es) n = ap (λ p. cond (e.id == n) place p) (place_by_
 pub named_by_ids : (formula : List (List ℤ)) (es : List LogEntry) (z : ℤ) → place_named formula es z ≡ place_in (length formula) (map (λ e. e.id) es) z
 named_by_ids formula es (pos n) = ap (λ p. cond (nat_le n (length formula)) n p) (place_by_ids (length formula + 1) es n)
 named_by_ids formula es (negsuc n) = refl
-
--- ---- hints of entries
-pub placed_push : (first : ℕ) (ids : List ℕ) (es : List LogEntry) (e : LogEntry) → placed first ids (es ++ e ∷ []) ≡ placed first ids es ++ map (place_in first (ids ++ map (λ d. d.id) es)) e.hints ∷ []
-placed_push first ids [] e = ap (λ (is : List ℕ). map (place_in first is) e.hints ∷ []) (sym (append-nil ids))
-placed_push first ids (d ∷ es) e =
-    ap (λ (ls : List (List ℕ)). map (place_in first ids) d.hints ∷ ls) (placed_push first (ids ++ d.id ∷ []) es e
-    ∙ ap (λ (is : List ℕ). placed first (ids ++ d.id ∷ []) es ++ map (place_in first is) e.hints ∷ []) (append_assoc ids (d.id ∷ []) (map (λ x. x.id) es)))

@@ -3,27 +3,28 @@ use Rattle.std.proofs.Common.{◌≡◌, ◌∙◌, ap, sym, refl, ℕ, zero, su
 use Rattle.std.specs.Prelude.{◌&&◌, ◌||◌, ◌==◌, not, is_none}
 use Rattle.std.specs.List.{list_any}
 use Rattle.std.proofs.lemmas.List.{get_or-map, get_or-take, length-map, length-take, take-map}
+use Rattle.std.proofs.lemmas.List.Elements.{All-take}
 use Rattle.std.proofs.lemmas.Bool.{false≢true}
 use Rattle.cnf_rup.specs.Books.{is_empty}
 use Rattle.cnf_rup.specs.Shown.{first_unshown}
 use Rattle.lrat_tool.specs.Flat.{FlatSeen}
 use Rattle.lrat_tool.specs.Ends.{to_empty}
-use Rattle.lrat_tool.specs.Held.{IsHeld, fault_at, place_in}
+use Rattle.lrat_tool.specs.Held.{IsHeld, fault_at}
+use Rattle.lrat_tool.specs.HintWords.{held_of}
 use Rattle.lrat_tool.specs.Judgements.{by_shown, by_wrong, clauses_said, first_wrong, is_below_zero, judged, place_named, up_to_empty, wrong_with}
 use Rattle.lrat_tool.specs.Logs.{LogEntry}
-use Rattle.lrat_tool.specs.Pieces.{AllRight, IsFoundAmong, LogSeen, before, is_right_at, log_seen}
+use Rattle.lrat_tool.specs.Pieces.{AllRight, IsFoundAmong, LogSeen, before, is_right_at, log_seen, place_at}
 use Rattle.lrat_tool.specs.declared.found.Found.TheVariants as found
 use Rattle.lrat_tool.specs.declared.judgement.Judgement.{Judgement}
 use Rattle.lrat_tool.specs.declared.judgement.Judgement.TheVariants.{Rat, NotShown}
 use Rattle.lrat_tool.specs.declared.log.Log.{Log}
-use Rattle.lrat_tool.proofs.Held.{placed_at}
-use Rattle.lrat_tool.proofs.Ids.{named_by_ids}
+use Rattle.lrat_tool.proofs.Ids.{held_place, named_by_ids, place_in}
 use Rattle.lrat_tool.proofs.Judged.{none_wrong, one_wrong}
 use Rattle.lrat_tool.proofs.Texts.{take_of_taken}
 
-map_same : (g h : ℤ → ℕ) → ((z : ℤ) → g z ≡ h z) → (zs : List ℤ) → map g zs ≡ map h zs
-map_same g h e [] = refl
-map_same g h e (z ∷ zs) = λ i. e z i ∷ map_same g h e zs i
+map_then : (g : ℕ → ℕ) (h p : ℤ → ℕ) → ((z : ℤ) → g (h z) ≡ p z) → (zs : List ℤ) → map g (map h zs) ≡ map p zs
+map_then g h p e [] = refl
+map_then g h p e (z ∷ zs) = λ i. e z i ∷ map_then g h p e zs i
 
 -- the fault of an entry is told by its flag and its line
 pub same_fault : (old new : Log) (k : ℕ) → new.rats ≡ old.rats → new.lines ≡ old.lines → fault_at new k ≡ fault_at old k
@@ -96,7 +97,7 @@ none_by : (o : Option Judgement) → is_none o ≡ true → o ≡ None
 none_by None h = refl
 none_by (Some j) h = absurd (false≢true h)
 
-module _ (f : FlatSeen ℤ) (es : List LogEntry) (log : Log) (held : IsHeld (length f.lists) es log) where
+module _ (f : FlatSeen ℤ) (es : List LogEntry) (log : Log) (held : IsHeld (length f.lists) es log) (few : length f.lists < 4294967296) where
   abbrev seen : LogSeen
   seen = log_seen f log
 
@@ -113,10 +114,20 @@ module _ (f : FlatSeen ℤ) (es : List LogEntry) (log : Log) (held : IsHeld (len
     clause_at : get_or seen.clauses k [] ≡ entry.clause
     clause_at = ap (λ (s : FlatSeen ℤ). get_or s.lists k []) held.clauses ∙ get_or-map (λ (e : LogEntry). e.clause) es k d [] l
 
-    hints_at : get_or seen.hints k [] ≡ map (place_named f.lists (take k es)) entry.hints
+    ids_at : take k seen.ids ≡ map (λ e. e.id) (take k es)
+    ids_at = ap (λ (is : List ℕ). take k is) held.ids ∙ take-map (λ (e : LogEntry). e.id) k es
+
+    place_is : (z : ℤ) → place_at seen k (held_of z) ≡ place_named f.lists (take k es) z
+    place_is z =
+        held_place (length f.lists) (take k seen.ids) (λ j m. All-take (λ (id : ℕ). id < 4294967296) k seen.ids held.small j 0 m) few z
+        ∙ ap (λ (is : List ℕ). place_in (length f.lists) is z) ids_at
+        ∙ sym (named_by_ids f.lists (take k es) z)
+
+    hints_at : map (place_at seen k) (get_or seen.hints k []) ≡ map (place_named f.lists (take k es)) entry.hints
     hints_at =
-        ap (λ (s : FlatSeen ℕ). get_or s.lists k []) held.hints ∙ placed_at (length f.lists) [] es k d l
-        ∙ sym (map_same (place_named f.lists (take k es)) (place_in (length f.lists) (map (λ e. e.id) (take k es))) (named_by_ids f.lists (take k es)) entry.hints)
+        ap (λ (s : FlatSeen ℕ). map (place_at seen k) (get_or s.lists k [])) held.hints
+        ∙ ap (map (place_at seen k)) (get_or-map (λ (e : LogEntry). map held_of e.hints) es k d [] l)
+        ∙ map_then (place_at seen k) held_of (place_named f.lists (take k es)) place_is entry.hints
 
     before_at : before seen k ≡ clauses_said f.lists (take k es)
     before_at = ap (λ (s : FlatSeen ℤ). f.lists ++ take k s.lists) held.clauses ∙ ap (λ (cs : List (List ℤ)). f.lists ++ cs) (take-map (λ (e : LogEntry). e.clause) k es)

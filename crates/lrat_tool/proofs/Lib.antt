@@ -1,8 +1,11 @@
+pub mod Behind
+pub mod Cuts
 pub mod Entries
 pub mod Flats
 pub mod Formulas
 pub mod Held
 pub mod Ids
+pub mod Joined
 pub mod Judged
 pub mod Judging
 pub mod LogLines

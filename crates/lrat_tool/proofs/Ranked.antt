@@ -10,7 +10,8 @@ use Rattle.sexp_print.specs.Printed.{BeginsWith}
 use Rattle.cnf_rup.proofs.Among.{literal-same, same-literal}
 use Rattle.cnf_rup.specs.Shown.{first_unshown}
 use Rattle.lrat_tool.specs.Flat.{cut}
-use Rattle.lrat_tool.specs.Pieces.{AllRight, IsFoundAmong, LogSeen, before, is_right_at}
+use Rattle.lrat_tool.specs.Pieces.{AllRight, IsFoundAmong, LogSeen, before, is_right_at, place_at}
+use Rattle.lrat_tool.specs.Held.{place_by}
 use Rattle.lrat_tool.specs.Ranks.{AreRanked, AreRenamed, IsRenaming, rank_from, ranked}
 use Rattle.lrat_tool.specs.declared.found.Found.{Found}
 use Rattle.lrat_tool.specs.declared.found.Found.TheVariants as found
@@ -109,7 +110,7 @@ cut_map f (a ∷ b ∷ bs) xs =
     (λ i. first i ∷ cut_map f (b ∷ bs) xs i)
 
 -- ---- entries
-module _ (s t : LogSeen) (renamed : AreRenamed s.formula s.clauses t.formula t.clauses) (hints : t.hints ≡ s.hints) (rats : t.rats ≡ s.rats) where
+module _ (s t : LogSeen) (renamed : AreRenamed s.formula s.clauses t.formula t.clauses) (ids : t.ids ≡ s.ids) (hints : t.hints ≡ s.hints) (rats : t.rats ≡ s.rats) where
   before_too : (k : ℕ) → before t k ≡ map (map renamed.by) (before s k)
   before_too k =
       (λ i. renamed.formula_is i ++ take k (renamed.clauses_is i))
@@ -121,10 +122,16 @@ module _ (s t : LogSeen) (renamed : AreRenamed s.formula s.clauses t.formula t.c
   clause_too (c ∷ cs) zero = refl
   clause_too (c ∷ cs) (suc k) = clause_too cs k
 
+  many : length t.formula ≡ length s.formula
+  many = ap length renamed.formula_is ∙ length-map s.formula (map renamed.by)
+
+  hints_too : (k : ℕ) → map (place_at t k) (get_or t.hints k []) ≡ map (place_at s k) (get_or s.hints k [])
+  hints_too k = λ i. map (place_by (many i) (take k (ids i))) (get_or (hints i) k [])
+
   pub right_too : (k : ℕ) → is_right_at t k ≡ is_right_at s k
   right_too k =
-      (λ i. not (get_or (rats i) k false) && is_none (first_unshown (before_too k i) ((ap (λ cs. get_or cs k []) renamed.clauses_is ∙ clause_too s.clauses k) i) (get_or (hints i) k [])))
-      ∙ ap (λ o. not (get_or s.rats k false) && is_none o) (shown_too renamed.by renamed.is.same renamed.is.odd (before s k) (get_or s.clauses k []) (get_or s.hints k []))
+      (λ i. not (get_or (rats i) k false) && is_none (first_unshown (before_too k i) ((ap (λ cs. get_or cs k []) renamed.clauses_is ∙ clause_too s.clauses k) i) (hints_too k i)))
+      ∙ ap (λ o. not (get_or s.rats k false) && is_none o) (shown_too renamed.by renamed.is.same renamed.is.odd (before s k) (get_or s.clauses k []) (map (place_at s k) (get_or s.hints k [])))
 
   pub all_too : (a b : ℕ) → AllRight t a b → AllRight s a b
   all_too a b h k l m = sym (right_too k) ∙ h k l m
@@ -133,6 +140,9 @@ module _ (s t : LogSeen) (renamed : AreRenamed s.formula s.clauses t.formula t.c
   found_too a b found.None h = all_too a b h
   found_too a b (found.At k) h = (h.0, h.1, sym (right_too k) ∙ h.2, all_too a k h.3)
   found_too a b found.Memory h = tt
+
+pub as_many_first : (formula clauses new_formula new_clauses : List (List ℤ)) → AreRenamed formula clauses new_formula new_clauses → length new_formula ≡ length formula
+as_many_first formula clauses new_formula new_clauses r = ap length r.formula_is ∙ length-map formula (map r.by)
 
 pub as_many : (formula clauses new_formula new_clauses : List (List ℤ)) → AreRenamed formula clauses new_formula new_clauses → length new_clauses ≡ length clauses
 as_many formula clauses new_formula new_clauses r = ap length r.clauses_is ∙ length-map clauses (map r.by)

@@ -1,7 +1,8 @@
--- Entries of a log as they are held: hints are the places of the clauses that they name.
-use Rattle.std.specs.Prelude.{◌≡◌, ◌<◌, ◌+◌, ◌==◌, ℕ, ℤ, pos, negsuc, nat_le, Bool, true, false, if◌then◌else◌, List, [], ◌∷◌, ◌++◌, get_or, map, Option, Some, None, option_map, option_and_then}
-use Rattle.std.specs.List.{list_any}
+-- Entries of a log as they are held: hints are the numbers of the clauses that they name.
+use Rattle.std.specs.Prelude.{◌≡◌, ◌<◌, ◌+◌, ◌==◌, ℕ, ℤ, nat_le, Bool, true, false, if◌then◌else◌, List, [], ◌∷◌, ◌++◌, get_or, map, Option, Some, None, option_map, option_and_then}
+use Rattle.std.specs.List.{All, list_any}
 use Rattle.lrat_tool.specs.Flat.{FlatSeen}
+use Rattle.lrat_tool.specs.HintWords.{held_of}
 use Rattle.lrat_tool.specs.Judgements.{is_below_zero}
 use Rattle.lrat_tool.specs.Logs.{LineMeant, Nothing, Clause, Bad, LogEntry, entry_behind, is_zero_word, most_literal, or_bad, words_meant}
 use Rattle.lrat_tool.specs.Numbers.{integer_said, integer_within}
@@ -9,8 +10,6 @@ use Rattle.lrat_tool.specs.Places.{rest_of}
 use Rattle.lrat_tool.specs.declared.judgement.Judgement.{Judgement}
 use Rattle.lrat_tool.specs.declared.judgement.Judgement.TheVariants.{Rat, NotShown}
 use Rattle.lrat_tool.specs.declared.lines.Line.{Line}
-use Rattle.lrat_tool.specs.declared.number.Hint.{Hint}
-use Rattle.lrat_tool.specs.declared.number.Hint.TheVariants.{Below, Number}
 use Rattle.lrat_tool.specs.declared.log.Log.{Log}
 
 -- ---- numbers of entries
@@ -28,28 +27,19 @@ abbrev pub id_place : ℕ → List ℕ → ℕ → ℕ
 id_place place [] h = 0
 id_place place (id ∷ ids) h = if id == h then place else id_place (place + 1) ids h
 
--- the place that a hint names, behind so many first clauses and entries of these numbers
-abbrev pub place_in : ℕ → List ℕ → ℤ → ℕ
-place_in first ids (pos n) = if nat_le n first then n else id_place (first + 1) ids n
-place_in first ids (negsuc n) = 0
-
-abbrev pub place_of_hint : ℕ → List ℕ → Hint → ℕ
-place_of_hint first ids Below = 0
-place_of_hint first ids (Number n) = if nat_le n first then n else id_place (first + 1) ids n
-
--- the places that the hints of entries name, each among those before it
-abbrev pub placed : ℕ → List ℕ → List LogEntry → List (List ℕ)
-placed first ids [] = []
-placed first ids (e ∷ es) = map (place_in first ids) e.hints ∷ placed first (ids ++ e.id ∷ []) es
+-- the place of the clause of a number, behind so many first clauses and entries of these numbers; 0 where there is none
+abbrev pub place_by : ℕ → List ℕ → ℕ → ℕ
+place_by first ids n = if nat_le n first then n else id_place (first + 1) ids n
 
 -- the entries are held
 pub record IsHeld (first : ℕ) (es : List LogEntry) (log : Log) : Type 0 where
   pub clauses : log.clauses ≡ record { lists = map (λ e. e.clause) es; rest = [] }
-  pub hints : log.hints ≡ record { lists = placed first [] es; rest = [] }
+  pub hints : log.hints ≡ record { lists = map (λ e. map held_of e.hints) es; rest = [] }
   pub ids : log.ids.items ≡ map (λ e. e.id) es
   pub lines : log.lines.items ≡ map (λ e. e.line) es
   pub rats : log.rats.items ≡ map (λ e. list_any is_below_zero e.hints) es
   pub rises : Rises first log.ids.items
+  pub small : All (λ id. id < 4294967296) log.ids.items
 
 -- ---- words
 -- what each word before the first 0 says, where each says something, and the words behind it
@@ -63,10 +53,10 @@ LiteralsRead old new ws left true = (zs : List ℤ) × (said_to_zero (integer_wi
 LiteralsRead old new ws left false = said_to_zero (integer_within most_literal) ws ≡ None
 
 -- hints likewise; whether one of them is below 0
-abbrev pub HintsRead : ℕ → List ℕ → FlatSeen ℕ → FlatSeen ℕ → List (List ℕ) → List (List ℕ) → Option Bool → Type 0
-HintsRead first ids old new ws left (Some below) = (zs : List ℤ) × (said_to_zero integer_said ws ≡ Some (zs, left))
-    × (new ≡ record { lists = old.lists; rest = old.rest ++ map (place_in first ids) zs }) × (below ≡ list_any is_below_zero zs)
-HintsRead first ids old new ws left None = said_to_zero integer_said ws ≡ None
+abbrev pub HintsRead : FlatSeen ℕ → FlatSeen ℕ → List (List ℕ) → List (List ℕ) → Option Bool → Type 0
+HintsRead old new ws left (Some below) = (zs : List ℤ) × (said_to_zero integer_said ws ≡ Some (zs, left))
+    × (new ≡ record { lists = old.lists; rest = old.rest ++ map held_of zs }) × (below ≡ list_any is_below_zero zs)
+HintsRead old new ws left None = said_to_zero integer_said ws ≡ None
 
 -- what a line leaves of a log that holds these entries: it is well-formed, and its entry is held, or it is not
 abbrev pub LineRead : ℕ → List LogEntry → Log → LineMeant → Bool → Type 0

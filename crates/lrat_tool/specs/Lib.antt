@@ -15,3 +15,4 @@ pub mod Models
 pub mod Written
 pub mod Long
 pub mod Ranks
+pub mod Parts

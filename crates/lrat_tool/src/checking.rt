@@ -9,7 +9,7 @@ ghost use Rattle.lrat_tool.specs.Held.{IsHeld, fault_at};
 ghost use Rattle.lrat_tool.specs.Judgements.{judged, judgement};
 ghost use Rattle.lrat_tool.specs.Logs.{LogEntry};
 ghost use Rattle.lrat_tool.specs.Models.{HasNoModel};
-ghost use Rattle.lrat_tool.specs.Pieces.{Follow, IsFoundAmong, log_seen};
+ghost use Rattle.lrat_tool.specs.Pieces.{AreNumbered, Follow, IsFoundAmong, log_seen};
 ghost use Rattle.lrat_tool.specs.Ranks.{AreRenamed};
 ghost use Rattle.lrat_tool.specs.Ends.{to_empty};
 
@@ -18,8 +18,9 @@ use super::flat::Clauses;
 use super::formula::read_formula;
 use super::found::Found;
 use super::hint_lists::HintLists;
+use super::joining::read_log_by;
 use super::judgement::Judgement;
-use super::log::{Log, read_log};
+use super::log::Log;
 use super::piece::Piece;
 use super::pieces::first_wrong_entry;
 use super::ranks::Ranks;
@@ -146,6 +147,7 @@ fn first_wrong<R: Threads + Sync>(
     requires end { end ≤ length log.old.clauses.lists }
     requires hints { length log.old.hints.lists ≡ length log.old.clauses.lists }
     requires rats { length log.old.rats.items ≡ length log.old.clauses.lists }
+    requires numbered { AreNumbered formula.old log.old }
     ensures found { IsFoundAmong (log_seen formula.old log.old) 0 end result }
     ensures rats { log.new.rats ≡ log.old.rats }
     ensures lines { log.new.lines ≡ log.old.lines }
@@ -182,6 +184,7 @@ fn judge_entries<R: Threads + Sync>(
     workers: u32,
 ) -> Result<Judgement, NoMemory>
     requires held { (es : List LogEntry) × IsHeld (length formula.old.lists) es log.old }
+    requires few { length formula.old.lists < 4294967296 }
     requires workers { 1 ≤ workers }
     ensures { (es : List LogEntry) → IsHeld (length formula.old.lists) es log.old → IfOk result (λ j. j ≡ judged formula.old.lists es) }
 {
@@ -223,7 +226,7 @@ fn judge_texts<R: Threads + Sync>(
     let Ok(first) = u32::try_from(formula.len()) else {
         return Err(NoMemory);
     };
-    let mut entries = match read_log(alloc, log, first) {
+    let mut entries = match read_log_by(rt, alloc, log, first, workers) {
         Ok(entries) => entries,
         Err(BadText::At(line)) => return Ok(Judgement::BadLog(line)),
         Err(BadText::Memory) => return Err(NoMemory),

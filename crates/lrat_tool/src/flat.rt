@@ -51,6 +51,15 @@ impl Clauses {
         Ok(())
     }
 
+    /// Puts literals last.
+    pub(crate) fn push_all(&mut self, literals: &[i32]) -> Result<(), NoMemory>
+        ensures ok { OnOk result (self.new ≡ record self.old { rest = self.old.rest ++ literals.now }) }
+        ensures err { OnErr result (self.new ≡ self.old) }
+    {
+        self.literals.extend_from_slice(literals)?;
+        Ok(())
+    }
+
     /// Ends a list with the literals that stand behind the last one.
     pub(crate) fn end(&mut self) -> Result<(), NoMemory>
         ensures ok { OnOk result (self.new ≡ record { lists = self.old.lists ++ self.old.rest ∷ []; rest = [] }) }

@@ -7,7 +7,7 @@ use gl_logic::NoMemory;
 use std::alloc::Global;
 use std::marker::Model;
 
-/// Lists of places of clauses, and behind the last one places of a list that has not ended yet. Contracts see the lists.
+/// Lists of numbers of clauses, and behind the last one numbers of a list that has not ended yet. Contracts see the lists.
 #[derive(Drop)]
 pub(crate) struct HintLists {
     hints: Vec<u32>,
@@ -39,7 +39,7 @@ impl HintLists {
         })
     }
 
-    /// Puts the place of a clause last.
+    /// Puts the number of a clause last.
     pub(crate) fn push(&mut self, hint: u32) -> Result<(), NoMemory>
         ensures ok { OnOk result (self.new ≡ record self.old { rest = self.old.rest ++ hint ∷ [] }) }
         ensures err { OnErr result (self.new ≡ self.old) }
@@ -48,7 +48,16 @@ impl HintLists {
         Ok(())
     }
 
-    /// Ends a list with the places that stand behind the last one.
+    /// Puts numbers of clauses last.
+    pub(crate) fn push_all(&mut self, hints: &[u32]) -> Result<(), NoMemory>
+        ensures ok { OnOk result (self.new ≡ record self.old { rest = self.old.rest ++ hints.now }) }
+        ensures err { OnErr result (self.new ≡ self.old) }
+    {
+        self.hints.extend_from_slice(hints)?;
+        Ok(())
+    }
+
+    /// Ends a list with the numbers that stand behind the last one.
     pub(crate) fn end(&mut self) -> Result<(), NoMemory>
         ensures ok { OnOk result (self.new ≡ record { lists = self.old.lists ++ self.old.rest ∷ []; rest = [] }) }
         ensures err { OnErr result (self.new ≡ self.old) }
@@ -60,7 +69,7 @@ impl HintLists {
         Ok(())
     }
 
-    /// How many places of clauses stand before a list, from 0, or before the end; 0 where there is none of this number.
+    /// How many numbers stand before a list, from 0, or before the end; 0 where there is none of this place.
     pub(crate) fn before(&self, k: usize) -> u32 {
         match self.places.get(k) {
             Some(place) => *place,

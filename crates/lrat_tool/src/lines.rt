@@ -41,11 +41,12 @@ fn is_blank(byte: u8) -> bool
 }
 
 /// Where the line ends that begins at a place: at the next byte 10, or at the text's end.
-fn line_end(text: &[u8], from: usize) -> usize
+pub(crate) fn line_end(text: &[u8], from: usize) -> usize
     requires { from ≤ length text.now }
     ensures after { from ≤ result }
     ensures within { result ≤ length text.now }
     ensures lines { lines_of (drop from text.now) ≡ take (result - from) (drop from text.now) ∷ lines_behind text.now result }
+    ensures ends { result < length text.now → get_or text.now result 0 ≡ 10 }
 {
     let mut at = from;
     while at < text.len() && text[at] != b'\n' {

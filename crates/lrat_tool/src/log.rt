@@ -5,21 +5,20 @@ ghost use Rattle.lrat_tool.specs.Bad.{IfAt};
 ghost use Rattle.lrat_tool.specs.Places.{IsLineIn, rest_of};
 ghost use Rattle.lrat_tool.specs.Numbers.{natural_within};
 ghost use Rattle.lrat_tool.specs.Logs.{LogEntry, after, are_ids, log_meant, most_id};
-ghost use Rattle.lrat_tool.specs.Held.{HasEntry, HintsRead, IsHeld, LineRead, LiteralsRead, Rises, entry_line, last_id, line_meant};
+ghost use Rattle.lrat_tool.specs.Held.{HasEntry, HintsRead, IsHeld, LineRead, LiteralsRead, entry_line, last_id, line_meant};
 
 use super::bad_text::BadText;
 use super::flat::Clauses;
 use super::hint_lists::HintLists;
 use super::lines::{Line, line_at, next_word};
 use super::number::{integer, is_zero, natural, read_hint};
-use super::places::place_of_hint;
 use gl_logic::NoMemory;
 use std::alloc::Global;
 
 /// The greatest variable of a literal.
 const MOST_LITERAL: u32 = 2_147_483_647;
 
-/// The entries of a log, in order. A hint is held as the place of the clause that it names, from 1, or 0 where it names none.
+/// The entries of a log, in order. A hint is held as the number of the clause that it names, or 0 where none can have its number.
 #[derive(Drop)]
 pub(crate) struct Log {
     pub clauses: Clauses,
@@ -33,7 +32,7 @@ pub(crate) struct Log {
 }
 
 /// No entries.
-fn no_entries(alloc: Global) -> Result<Log, NoMemory>
+pub(crate) fn no_entries(alloc: Global) -> Result<Log, NoMemory>
     ensures { (first : ℕ) → IfOk result (λ log. IsHeld first [] log) }
 {
     let clauses = Clauses::new(alloc)?;
@@ -67,17 +66,10 @@ fn read_literals(clauses: &mut Clauses, text: &[u8], line: &mut Line) -> Result<
     Ok(false)
 }
 
-/// Reads hints up to a 0, as places. Tells whether one is below 0.
-fn read_hints(
-    hints: &mut HintLists,
-    ids: &[u32],
-    first: u32,
-    text: &[u8],
-    line: &mut Line,
-) -> Result<Option<bool>, NoMemory>
-    requires within { IsLineIn line.old (length text.now) }
-    requires rises { Rises first ids.now }
-    ensures read { IfOk result (HintsRead first ids.now hints.old hints.new (rest_of text.now line.old) (rest_of text.now line.new)) }
+/// Reads hints up to a 0. Tells whether one is below 0.
+fn read_hints(hints: &mut HintLists, text: &[u8], line: &mut Line) -> Result<Option<bool>, NoMemory>
+    requires { IsLineIn line.old (length text.now) }
+    ensures read { IfOk result (HintsRead hints.old hints.new (rest_of text.now line.old) (rest_of text.now line.new)) }
     ensures within { IsLineIn line.new (length text.now) }
     ensures number { line.new.number ≡ line.old.number }
 {
@@ -91,13 +83,13 @@ fn read_hints(
             return Ok(None);
         };
         below = hint.or_below(below);
-        hints.push(place_of_hint(ids, first, hint))?;
+        hints.push(hint.held())?;
     }
     Ok(None)
 }
 
 /// Ends an entry.
-fn end_entry(log: &mut Log, id: u32, line: u32, below: bool) -> Result<(), NoMemory>
+pub(crate) fn end_entry(log: &mut Log, id: u32, line: u32, below: bool) -> Result<(), NoMemory>
     ensures { OnOk result (HasEntry log.old id line below log.new) }
 {
     log.clauses.end()?;
@@ -111,7 +103,6 @@ fn end_entry(log: &mut Log, id: u32, line: u32, below: bool) -> Result<(), NoMem
 /// Reads the literals and the hints of an entry.
 fn read_entry(log: &mut Log, first: u32, text: &[u8], line: Line, id: u32) -> Result<bool, NoMemory>
     requires within { IsLineIn line (length text.now) }
-    requires rises { Rises first log.old.ids.items }
     requires later { last_id first log.old.ids.items < id }
     ensures { (es : List LogEntry) → IsHeld first es log.old → IfOk result (LineRead first es log.new (entry_line text.now line id)) }
 {
@@ -119,7 +110,7 @@ fn read_entry(log: &mut Log, first: u32, text: &[u8], line: Line, id: u32) -> Re
     if !read_literals(&mut log.clauses, text, &mut line)? {
         return Ok(false);
     }
-    let Some(below) = read_hints(&mut log.hints, log.ids.as_slice(), first, text, &mut line)? else {
+    let Some(below) = read_hints(&mut log.hints, text, &mut line)? else {
         return Ok(false);
     };
     if let Some(_) = next_word(text, &mut line) {
@@ -159,7 +150,7 @@ fn next_id(ids: &[u32], first: u32, word: &[u8]) -> Option<u32>
 }
 
 /// The last number.
-fn last_of(ids: &[u32], first: u32) -> u32
+pub(crate) fn last_of(ids: &[u32], first: u32) -> u32
     ensures { result ≡ last_id first ids.now }
 {
     match ids {
@@ -170,8 +161,7 @@ fn last_of(ids: &[u32], first: u32) -> u32
 
 /// Reads a line: nothing, an entry or a deletion. Tells whether it is well-formed.
 fn read_line(log: &mut Log, first: u32, text: &[u8], line: Line) -> Result<bool, NoMemory>
-    requires within { IsLineIn line (length text.now) }
-    requires rises { Rises first log.old.ids.items }
+    requires { IsLineIn line (length text.now) }
     ensures { (es : List LogEntry) → IsHeld first es log.old → IfOk result (LineRead first es log.new (line_meant text.now line (last_id first log.old.ids.items))) }
 {
     let mut behind = line;

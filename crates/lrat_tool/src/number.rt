@@ -4,7 +4,7 @@ ghost use Rattle.std.specs.Prelude.{◌≡◌, ◌≤◌, ◌<◌, ◌^◌, ◌|
 ghost use Rattle.std.specs.List.{list_all};
 ghost use Rattle.std.specs.Str.Parse.{digits_value};
 ghost use Rattle.lrat_tool.specs.Numbers.{integer_said, integer_within, is_digit, natural_said, natural_within};
-ghost use Rattle.lrat_tool.specs.HintWords.{hint_of, is_below};
+ghost use Rattle.lrat_tool.specs.HintWords.{held_hint, hint_of, is_below};
 
 /// One more than the greatest id: greater numbers are not told apart.
 const BEYOND: u64 = 4_294_967_296;
@@ -26,6 +26,16 @@ impl Hint {
         match self {
             Hint::Below => true,
             Hint::Number(_) => before,
+        }
+    }
+
+    /// What is held of it: its number, or 0, which names no clause, where it is below 0 or greater than each id.
+    pub(crate) fn held(&self) -> u32
+        ensures { result ≡ held_hint self.now }
+    {
+        match self {
+            Hint::Number(n) if *n < BEYOND => *n as u32,
+            _ => 0,
         }
     }
 }

@@ -2,13 +2,14 @@
 
 ghost use Rattle.std.specs.Prelude.{◌≡◌, ◌≤◌, ◌<◌, ◌^◌, ◌-◌, ℕ, ℤ, List, [], ◌++◌, length, take, get_or, All, IfOk, option_map, is_none, vec_len, slice_index_or};
 ghost use Rattle.cnf_rup.specs.Marked.{AreWithin, IsOpenUnit};
-ghost use Rattle.cnf_rup.specs.Shown.{clause_at, first_unshown, stop, turn_at};
-ghost use Rattle.lrat_tool.specs.Pieces.{AreChecked, EachFound, Follow, IsFoundAmong, IsFoundOf, is_right_at, joined_of, log_seen};
+ghost use Rattle.cnf_rup.specs.Shown.{clause_at};
+ghost use Rattle.lrat_tool.specs.Pieces.{AreChecked, AreNumbered, EachFound, Follow, IsFoundAmong, IsFoundOf, is_right_at, joined_of, log_seen, place_at, stop_of, turn_for, unshown_at};
 
 use super::flat::Clauses;
 use super::found::Found;
 use super::log::Log;
 use super::piece::Piece;
+use super::places::place_of;
 use cnf_rup::check::{is_one_true, take_as_false, turn};
 use cnf_rup::trail::Trail;
 use cnf_rup::turn::Turn;
@@ -41,22 +42,25 @@ fn clause_named<'a>(
     }
 }
 
-/// What the clause of a place is.
-fn turn_named(
-    trail: &Trail,
-    formula: &Clauses,
-    clauses: &Clauses,
-    before: usize,
-    place: u32,
-) -> Turn
-    requires before { before ≤ length clauses.now.lists }
-    requires formula { All (AreWithin trail.now.room) formula.now.lists }
-    requires clauses { All (AreWithin trail.now.room) clauses.now.lists }
-    requires small { trail.now.room < 2 ^ 32 }
-    ensures turn { result ≡ turn_at (formula.now.lists ++ take before clauses.now.lists) trail.now.literals place }
+/// The place of the clause that a hint names, of the formula's and so many behind them.
+fn place_named(formula: &Clauses, log: &Log, k: usize, hint: u32) -> u32
+    requires within { k ≤ length log.now.clauses.lists }
+    requires numbered { AreNumbered formula.now log.now }
+    ensures { result ≡ place_at (log_seen formula.now log.now) k hint }
+{
+    let ids = log.ids.as_slice();
+    place_of(&ids[..k], formula.len() as u32, hint)
+}
+
+/// What the clause is that a hint names.
+fn turn_named(trail: &Trail, formula: &Clauses, log: &Log, k: usize, hint: u32) -> Turn
+    requires within { k ≤ length log.now.clauses.lists }
+    requires checked { AreChecked trail.now.room formula.now log.now }
+    ensures turn { result ≡ turn_for (log_seen formula.now log.now) k trail.now.literals hint }
     ensures unit { (l : ℤ) → result ≡ Turn.Unit l → IsOpenUnit trail.now.room trail.now.literals l }
 {
-    match clause_named(formula, clauses, before, place) {
+    let place = place_named(formula, log, k, hint);
+    match clause_named(formula, &log.clauses, k, place) {
         None => Turn::Neither,
         Some(clause) => turn(trail, clause),
     }
@@ -66,19 +70,17 @@ fn turn_named(
 fn follow(
     trail: &mut Trail,
     formula: &Clauses,
-    clauses: &Clauses,
-    before: usize,
+    log: &Log,
+    k: usize,
     hints: &[u32],
 ) -> Result<bool, NoMemory>
-    requires before { before ≤ length clauses.now.lists }
-    requires formula { All (AreWithin trail.old.room) formula.now.lists }
-    requires clauses { All (AreWithin trail.old.room) clauses.now.lists }
-    requires small { trail.old.room < 2 ^ 32 }
-    ensures shown { IfOk result (λ r. r ≡ is_none (stop (formula.now.lists ++ take before clauses.now.lists) trail.old.literals 0 hints.now)) }
+    requires within { k ≤ length log.now.clauses.lists }
+    requires checked { AreChecked trail.old.room formula.now log.now }
+    ensures shown { IfOk result (λ r. r ≡ is_none (stop_of (log_seen formula.now log.now) k trail.old.literals 0 hints.now)) }
     ensures room { trail.new.room ≡ trail.old.room }
 {
     for hint in hints {
-        match turn_named(trail, formula, clauses, before, *hint) {
+        match turn_named(trail, formula, log, k, *hint) {
             Turn::Conflict => return Ok(true),
             Turn::Unit(literal) => trail.set(literal)?,
             Turn::Neither => return Ok(false),
@@ -88,26 +90,19 @@ fn follow(
 }
 
 /// Whether hints show a clause from those before it.
-fn is_shown(
-    trail: &mut Trail,
-    formula: &Clauses,
-    clauses: &Clauses,
-    k: usize,
-    hints: &[u32],
-) -> Result<bool, NoMemory>
-    requires within { k < length clauses.now.lists }
-    requires formula { All (AreWithin trail.old.room) formula.now.lists }
-    requires clauses { All (AreWithin trail.old.room) clauses.now.lists }
-    ensures shown { IfOk result (λ r. r ≡ is_none (first_unshown (formula.now.lists ++ take k clauses.now.lists) (get_or clauses.now.lists k []) hints.now)) }
+fn is_shown(trail: &mut Trail, formula: &Clauses, log: &Log, k: usize) -> Result<bool, NoMemory>
+    requires within { k < length log.now.clauses.lists }
+    requires checked { AreChecked trail.old.room formula.now log.now }
+    ensures shown { IfOk result (λ r. r ≡ is_none (unshown_at (log_seen formula.now log.now) k)) }
     ensures room { trail.new.room ≡ trail.old.room }
 {
     trail.clear();
-    let clause = clauses.at(k);
+    let clause = log.clauses.at(k);
     take_as_false(trail, clause)?;
     if is_one_true(trail, clause) {
         return Ok(true);
     }
-    follow(trail, formula, clauses, k, hints)
+    follow(trail, formula, log, k, log.hints.at(k))
 }
 
 /// Whether an entry has no hint below 0, and its hints show it from the clauses before it.
@@ -120,7 +115,7 @@ fn is_right(trail: &mut Trail, formula: &Clauses, log: &Log, k: usize) -> Result
     if log.rats[k] {
         return Ok(false);
     }
-    is_shown(trail, formula, &log.clauses, k, log.hints.at(k))
+    is_shown(trail, formula, log, k)
 }
 
 /// Checks the entries of a piece, up to the first that is wrong.

@@ -1,9 +1,7 @@
 //! The places of clauses by their numbers.
 
 ghost use Rattle.std.specs.Prelude.{◌≡◌, ◌≤◌, ◌<◌, ◌+◌, ◌^◌, ℕ, List, length, get_or};
-ghost use Rattle.lrat_tool.specs.Held.{Rises, id_place, place_of_hint as place_meant};
-
-use super::number::Hint;
+ghost use Rattle.lrat_tool.specs.Held.{Rises, id_place, place_by};
 
 /// Where the number stands among ascending ones, if it does: not before the first, and before the second. Numbers that follow
 /// one another without a gap leave one place.
@@ -52,19 +50,14 @@ fn place_of_id(ids: &[u32], first: u32, id: u64) -> u32
     }
 }
 
-/// The place of the clause that a hint names, 0 where it names none.
-pub(crate) fn place_of_hint(ids: &[u32], first: u32, hint: Hint) -> u32
+/// The place of the clause of a number, 0 where there is none.
+pub(crate) fn place_of(ids: &[u32], first: u32, number: u32) -> u32
     requires { Rises first ids.now }
-    ensures { result ≡ place_meant first ids.now hint }
+    ensures { result ≡ place_by first ids.now number }
 {
-    match hint {
-        Hint::Below => 0,
-        Hint::Number(n) => {
-            if n <= u64::from(first) {
-                n as u32
-            } else {
-                place_of_id(ids, first, n)
-            }
-        }
+    if number <= first {
+        number
+    } else {
+        place_of_id(ids, first, u64::from(number))
     }
 }

@@ -144,6 +144,88 @@ const ROWS: &[(&str, &str, Judgement)] = &[
     ),
 ];
 
+/// The same of logs that workers cut: lines of each kind stand where one part ends and the next begins.
+const PARTS: &[(&str, &str, Judgement)] = &[
+    (
+        FOUR,
+        "5 2 0 1 2 0\n6 2 0 1 2 0\n7 2 0 5 0\n8 0 7 3 4 0",
+        Judgement::Verified,
+    ),
+    (
+        FOUR,
+        "5 2 0 1 2 0\r\n\r\n6 2 0 1 2 0\r\n\r\n7 0 5 3 4 0\r\n",
+        Judgement::Verified,
+    ),
+    (
+        FOUR,
+        "\n\n\n\n\n\n\n\n\n5 2 0 1 2 0\n\n\n\n\n\n\n\n\n6 0 5 3 4 0\n\n\n\n\n\n\n\n\n",
+        Judgement::Verified,
+    ),
+    (
+        FOUR,
+        "c 5 2 0\n5 2 0 1 2 0\nc\nc 6 0 9 9 0 9 9 9 9 9 9 9 9 9 9\n6 0 5 3 4 0\nc 0",
+        Judgement::Verified,
+    ),
+    (
+        FOUR,
+        "5 2 0 1 2 0\nc\nc\nc\nc\nc\nc\n6 0 5 3 99 0\n",
+        Judgement::NotShown(8),
+    ),
+    (
+        FOUR,
+        "5 2 0 1 2 0\n\n\n5 d 1 2 0\n\n\n6 0 5 3 4 -1 0\n",
+        Judgement::Rat(7),
+    ),
+    (
+        FOUR,
+        "9 2 0 1 2 0\n20 2 0 9 0\n300 d 20 0\n4000 0 20 3 4 0\n",
+        Judgement::Verified,
+    ),
+    (
+        FOUR,
+        "5 2 0 6 0\n6 2 0 1 2 0\n7 0 6 3 4 0\n",
+        Judgement::NotShown(1),
+    ),
+    (
+        FOUR,
+        "5 2 0 1 2 0\n6 0 5 3 4 0\n7 2 0 1 2 0\n8 2 0 1 2 0\n9 d x 0\n",
+        Judgement::BadLog(5),
+    ),
+    (
+        FOUR,
+        "5 2 0 1 2 0\nx\n6 2 0 1 2 0\n7 0 6 3 4 0\ny\n",
+        Judgement::BadLog(2),
+    ),
+    (
+        FOUR,
+        "7 2 0 1 2 0\n6 2 0 1 2 0\n8 0 6 3 4 0\ny\n",
+        Judgement::BadLog(2),
+    ),
+    (
+        FOUR,
+        "5 2 0 1 2 0\n6 2 0 1 2 0\ny\n6 0 5 3 4 0\n",
+        Judgement::BadLog(3),
+    ),
+    (
+        FOUR,
+        "4294967295 2 0 1 2 0\n4294967294 0 5 3 4 0\n",
+        Judgement::BadLog(2),
+    ),
+    (
+        FOUR,
+        "4294967294 2 0 1 2 0\n4294967295 0 4294967294 3 4 0\n",
+        Judgement::Verified,
+    ),
+    (
+        FOUR,
+        "5 2 0 1 2 0\n6 0 4294967301 5 3 4 0\n",
+        Judgement::NotShown(2),
+    ),
+    (FOUR, "5 2 0 1 2 0", Judgement::NoRefutation),
+    (FOUR, "\n", Judgement::NoRefutation),
+    (FOUR, "\n\n\n\n\n\n\n\n\n\n\n\nx", Judgement::BadLog(13)),
+];
+
 /// The judgement on texts of fewer than 4,294,967,295 bytes, and else none.
 pub fn judged<R: Threads + Sync>(
     rt: &R,
@@ -161,7 +243,7 @@ pub fn judged<R: Threads + Sync>(
     Ok(Some(judge(rt, alloc, cnf, log, workers)?))
 }
 
-/// Compares the judgement by one, two, three and eight workers with what is wanted.
+/// Compares the judgement by one to eight workers with what is wanted.
 fn try_texts<R: Abort + Threads + Sync>(
     rt: &R,
     alloc: Global,
@@ -169,10 +251,10 @@ fn try_texts<R: Abort + Threads + Sync>(
     log: &str,
     wanted: Judgement,
 ) -> Result<(), NoMemory> {
-    for workers in &[1, 2, 3, 8] {
-        assert!(rt; 1 <= *workers && *workers <= 8);
-        let given = judged(rt, alloc, cnf.as_bytes(), log.as_bytes(), *workers)?;
-        assert!(rt; given == Some(wanted), "{cnf}{log}");
+    for workers in 1..9 {
+        assert!(rt; 1 <= workers && workers <= 8);
+        let given = judged(rt, alloc, cnf.as_bytes(), log.as_bytes(), workers)?;
+        assert!(rt; given == Some(wanted), "{workers} {cnf}{log}");
     }
     Ok(())
 }
@@ -233,8 +315,50 @@ fn the_first_wrong_entry(rt: HostRuntime) -> Result<(), Fail> {
     Ok(())
 }
 
+/// A log of sixteen lines that are equally long, each the clause of the formula again, with another line in the place of one.
+fn lines_with(rt: &impl Abort, alloc: Global, place: u32, other: &str) -> String {
+    let mut text = String::new(alloc);
+    for number in 10..26 {
+        if number == place {
+            assert!(rt; text.push_str(other).is_ok());
+        } else {
+            let line = format!(in alloc; "{number} 1 0 1 0\n").expect(rt, "no memory");
+            assert!(rt; text.push_str(line.as_str()).is_ok());
+        }
+    }
+    text
+}
+
+/// Each line in turn has the number of the one before it, or a lower one, has no form, has no hint, or is a comment: for some
+/// number of workers it is the first of a part.
+#[test]
+fn lines_at_each_seam(rt: HostRuntime) -> Result<(), Fail> {
+    let cnf = "p cnf 1 1\n1 0\n";
+    for place in 11..26 {
+        let line = place - 9;
+        let before = place - 1;
+        let none = format!(in rt.alloc(); "{place} 1 0 00\n")?;
+        let unshown = format!(in rt.alloc(); "{place} 1 0   0\n")?;
+        let same = format!(in rt.alloc(); "{before} 1 0 1 0\n")?;
+        let rows = [
+            (same.as_str(), Judgement::BadLog(line)),
+            ("9  1 0 1 0\n", Judgement::BadLog(line)),
+            (none.as_str(), Judgement::BadLog(line)),
+            (unshown.as_str(), Judgement::NotShown(line)),
+            ("c  1 0 1 0\n", Judgement::NoRefutation),
+            ("\n", Judgement::NoRefutation),
+        ];
+        for (other, wanted) in rows {
+            let log = lines_with(&rt, rt.alloc(), place, other);
+            try_texts(&rt, rt.alloc(), cnf, log.as_str(), wanted)?;
+        }
+    }
+    Ok(())
+}
+
 #[test]
 fn rows_are_judged(rt: HostRuntime) -> Result<(), Fail> {
     try_rows(&rt, rt.alloc(), ROWS)?;
+    try_rows(&rt, rt.alloc(), PARTS)?;
     Ok(())
 }
