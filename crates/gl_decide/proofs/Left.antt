@@ -17,7 +17,7 @@ use Rattle.gl_symbolic.specs.declared.decision.Decision.{Decision}
 use Rattle.gl_symbolic.specs.declared.decision.Decision.TheVariants as decision
 use Rattle.gl_symbolic.specs.declared.room.Room.{Room}
 use Rattle.gl_symbolic.specs.declared.room.Room.TheVariants as room
-use Rattle.gl_decide.specs.Answered.{IsRunOut, IsStalled, IsTold}
+use Rattle.gl_decide.specs.Answered.{IsAnswered, IsDecidedOtherwise, IsOtherwise, IsRunOut, IsStalled, IsTold}
 use Rattle.gl_decide.specs.Bounds.{Bounds}
 use Rattle.gl_decide.specs.Rooms.{AreStoresFor, IsFullAfter, IsGivenUpAfter, IsShownAfter, IsUnbegun, LeavesStores}
 use Rattle.gl_decide.specs.Theorem.{Theorem}
@@ -80,8 +80,18 @@ shown_told s thm (decision.Steps p a) (verdict.Steps q env) e h = tt
 shown_told s thm (decision.Cells p a) (verdict.Cells q env) e h = tt
 shown_told s thm d v e h = absurd e
 
+pub told_answered : (thm : Theorem) (d : Decision) (v : Verdict) → IsTold thm d v → IsAnswered v
+told_answered thm decision.Proved verdict.Proved e = tt
+told_answered thm decision.Vacuous verdict.Vacuous e = tt
+told_answered thm (decision.Refuted a) (verdict.Refuted env) e = tt
+told_answered thm (decision.Clock p a) (verdict.Clock q env) e = tt
+told_answered thm (decision.Width p a) (verdict.Width q env) e = tt
+told_answered thm (decision.Steps p a) (verdict.Steps q env) e = tt
+told_answered thm (decision.Cells p a) (verdict.Cells q env) e = tt
+told_answered thm d v e = absurd e
+
 module _ (g : Ghosts Diagrams) (h : Ghosts SatSeen) (bounds : Bounds) (t : Thm) (d : Decision) where
-  pub left_told : (r : Room) (v : Verdict) → IsTold (theorem_of t) d v → LeavesRoom g h bounds.nodes bounds.clauses t d r → LeavesStores g h bounds (theorem_of t) v r
+  pub left_told : (r : Room) (v : Verdict) → IsTold (theorem_of t) d v → LeavesRoom g h bounds.nodes bounds.clauses t.mode d r → LeavesStores g h bounds (theorem_of t) v r
   left_told room.Empty v e l = unbegun_told (theorem_of t) d v l e
   left_told (room.Bdd s) v e l = (l.0, stores_for g bounds.nodes s d v l.1 (full_told g s (theorem_of t) d v e))
   left_told (room.Sat s) v e l = (
@@ -92,7 +102,7 @@ module _ (g : Ghosts Diagrams) (h : Ghosts SatSeen) (bounds : Bounds) (t : Thm) 
   )
 
   -- memory was refused
-  pub left_refused : (r : Room) → LeavesRoom g h bounds.nodes bounds.clauses t d r → LeavesStores g h bounds (theorem_of t) verdict.Memory r
+  pub left_refused : (r : Room) → LeavesRoom g h bounds.nodes bounds.clauses t.mode d r → LeavesStores g h bounds (theorem_of t) verdict.Memory r
   left_refused room.Empty l = tt
   left_refused (room.Bdd s) l = (l.0, stores_for g bounds.nodes s d verdict.Memory l.1 tt)
   left_refused (room.Sat s) l = (l.0, stores_for h bounds.nodes s d verdict.Memory l.1 tt, tt, λ _. tt)
@@ -105,6 +115,10 @@ narrow_full g s w bounds thm _ few p = tt
 narrow_given_up : (clauses : ℕ) (s : SatSeen) (w : WorldSeen) (bounds : Bounds) (thm : Theorem) (v : Verdict) → width_of thm.bindings ≤ bounds.enum_bits → IsProperVerdict w bounds thm v → IsGivenUpAfter clauses s v
 narrow_given_up clauses s w bounds thm (verdict.Clauses st) few p = absurd (omega (arith, few, p.2))
 narrow_given_up clauses s w bounds thm _ few p = tt
+
+answered_full : {B : Type 0} (g : Ghosts B) (s : SobsSeen B) (v : Verdict) → IsAnswered v → IsFullAfter g s v
+answered_full g s (verdict.Nodes st) a = absurd a
+answered_full g s _ a = tt
 
 -- where a decision ran out, it was begun
 begun : (bounds : Bounds) (d : Decision) (c : StallCause) → IsRunOut bounds d c → symbolic.IsUnbegun d → ⊥
@@ -120,7 +134,7 @@ begun bounds (decision.Cells p a) c o u = o
 begun bounds decision.Memory c o u = o
 
 module _ (g : Ghosts Diagrams) (h : Ghosts SatSeen) (w : WorldSeen) (bounds : Bounds) (t : Thm) (d : Decision) (c : StallCause) (out : IsRunOut bounds d c) where
-  pub left_scanned : (r : Room) (v : Verdict) → width_of t.bindings ≤ bounds.enum_bits → IsProperVerdict w bounds (theorem_of t) v → LeavesRoom g h bounds.nodes bounds.clauses t d r → LeavesStores g h bounds (theorem_of t) v r
+  pub left_scanned : (r : Room) (v : Verdict) → width_of t.bindings ≤ bounds.enum_bits → IsProperVerdict w bounds (theorem_of t) v → LeavesRoom g h bounds.nodes bounds.clauses t.mode d r → LeavesStores g h bounds (theorem_of t) v r
   left_scanned room.Empty v few p l = absurd (begun bounds d c out l)
   left_scanned (room.Bdd s) v few p l = (l.0, stores_for g bounds.nodes s d v l.1 (narrow_full g s w bounds (theorem_of t) v few p))
   left_scanned (room.Sat s) v few p l = (
@@ -130,21 +144,27 @@ module _ (g : Ghosts Diagrams) (h : Ghosts SatSeen) (w : WorldSeen) (bounds : Bo
     λ more. absurd (omega (arith, few, more)),
   )
 
+  -- ---- verdicts of other modes
+  pub left_otherwise : (r : Room) (v : Verdict) → IsDecidedOtherwise w bounds (theorem_of t) v → LeavesRoom g h bounds.nodes bounds.clauses t.mode d r → LeavesStores g h bounds (theorem_of t) v r
+  left_otherwise room.Empty v o l = absurd (begun bounds d c out l)
+  left_otherwise (room.Bdd s) v o l = (l.0, stores_for g bounds.nodes s d v l.1 (answered_full g s v o.answered))
+  left_otherwise (room.Sat s) v o l = absurd (o.own l.0)
+
 -- ---- stalls, where diagrams never give up
 module _ (g : Ghosts Diagrams) (h : Ghosts SatSeen) (w : WorldSeen) (bounds : Bounds) (t : Thm) (covered : IsCovered (theorem_of t)) (never : (s : Diagrams) → IsTrue (g.spent s) → ⊥) where
-  full_left : (wide : bounds.enum_bits < width_of t.bindings) (r : Room) (v : Verdict) → IsStalled w (theorem_of t) (why.Nodes bounds.nodes) v → LeavesRoom g h bounds.nodes bounds.clauses t decision.Full r → IsProperVerdict w bounds (theorem_of t) v × LeavesStores g h bounds (theorem_of t) v r
+  full_left : (wide : bounds.enum_bits < width_of t.bindings) (r : Room) (v : Verdict) → IsStalled w (theorem_of t) (why.Nodes bounds.nodes) v → LeavesRoom g h bounds.nodes bounds.clauses t.mode decision.Full r → IsProperVerdict w bounds (theorem_of t) v × LeavesStores g h bounds (theorem_of t) v r
   full_left wide room.Empty v st l = absurd l
   full_left wide (room.Bdd s) (verdict.Nodes k) st l = ((covered, wide, st), (l.0, stores_for g bounds.nodes s decision.Full (verdict.Nodes k) l.1 l.1.run_out))
   full_left wide (room.Sat s) (verdict.Nodes k) st l = ((covered, wide, st), (l.0, stores_for h bounds.nodes s decision.Full (verdict.Nodes k) l.1 l.1.run_out, tt, λ _. tt))
   full_left wide r v st l = absurd st
 
-  spent_left : (wide : bounds.enum_bits < width_of t.bindings) (r : Room) (v : Verdict) → IsStalled w (theorem_of t) (why.Clauses bounds.clauses) v → LeavesRoom g h bounds.nodes bounds.clauses t decision.Spent r → IsProperVerdict w bounds (theorem_of t) v × LeavesStores g h bounds (theorem_of t) v r
+  spent_left : (wide : bounds.enum_bits < width_of t.bindings) (r : Room) (v : Verdict) → IsStalled w (theorem_of t) (why.Clauses bounds.clauses) v → LeavesRoom g h bounds.nodes bounds.clauses t.mode decision.Spent r → IsProperVerdict w bounds (theorem_of t) v × LeavesStores g h bounds (theorem_of t) v r
   spent_left wide room.Empty v st l = absurd l
   spent_left wide (room.Bdd s) v st l = absurd (never s.store l.1.run_out)
   spent_left wide (room.Sat s) (verdict.Clauses k) st l = ((covered, l.0, wide, st), (l.0, stores_for h bounds.nodes s decision.Spent (verdict.Clauses k) l.1 tt, l.3, λ _. tt))
   spent_left wide r v st l = absurd st
 
-  left_stalled : (wide : bounds.enum_bits < width_of t.bindings) (d : Decision) (c : StallCause) (r : Room) (v : Verdict) → IsRunOut bounds d c → IsStalled w (theorem_of t) c v → LeavesRoom g h bounds.nodes bounds.clauses t d r
+  left_stalled : (wide : bounds.enum_bits < width_of t.bindings) (d : Decision) (c : StallCause) (r : Room) (v : Verdict) → IsRunOut bounds d c → IsStalled w (theorem_of t) c v → LeavesRoom g h bounds.nodes bounds.clauses t.mode d r
       → IsProperVerdict w bounds (theorem_of t) v × LeavesStores g h bounds (theorem_of t) v r
   left_stalled wide decision.Full c r v out st l = full_left wide r v (subst (λ (k : StallCause). IsStalled w (theorem_of t) k v) out st) l
   left_stalled wide decision.Spent c r v out st l = spent_left wide r v (subst (λ (k : StallCause). IsStalled w (theorem_of t) k v) out st) l
@@ -157,10 +177,13 @@ module _ (g : Ghosts Diagrams) (h : Ghosts SatSeen) (w : WorldSeen) (bounds : Bo
   left_stalled wide (decision.Cells p a) c r v out st l = absurd out
   left_stalled wide decision.Memory c r v out st l = absurd out
 
-  -- a decision that ran out: a scan, or a stall
-  pub ran_out : (d : Decision) (c : StallCause) (r : Room) (v : Verdict) → IsRunOut bounds d c → (width_of t.bindings ≤ bounds.enum_bits → IsProperVerdict w bounds (theorem_of t) v) → (bounds.enum_bits < width_of t.bindings → IsStalled w (theorem_of t) c v)
-      → LeavesRoom g h bounds.nodes bounds.clauses t d r → IsProperVerdict w bounds (theorem_of t) v × LeavesStores g h bounds (theorem_of t) v r
-  ran_out d c r v out scanned stalled l = elim (cases_lt bounds.enum_bits (width_of t.bindings)) [
-    | inl wide ↦ left_stalled wide d c r v out (stalled wide) l
+  -- a decision that ran out: a scan, another mode's answer, or a stall
+  pub ran_out : (d : Decision) (c : StallCause) (r : Room) (v : Verdict) → IsRunOut bounds d c → (width_of t.bindings ≤ bounds.enum_bits → IsProperVerdict w bounds (theorem_of t) v) → (bounds.enum_bits < width_of t.bindings → IsOtherwise w bounds (theorem_of t) c v)
+      → LeavesRoom g h bounds.nodes bounds.clauses t.mode d r → IsProperVerdict w bounds (theorem_of t) v × LeavesStores g h bounds (theorem_of t) v r
+  ran_out d c r v out scanned otherwise l = elim (cases_lt bounds.enum_bits (width_of t.bindings)) [
+    | inl wide ↦ elim (otherwise wide) [
+      | inl o ↦ (o.proper, left_otherwise g h w bounds t d c out r v o l)
+      | inr s ↦ left_stalled wide d c r v out s l
+    ]
     | inr few ↦ (scanned few, left_scanned g h w bounds t d c out r v few (scanned few) l)
   ]

@@ -1,5 +1,6 @@
 -- A theorem that is covered, and the verdicts that a scan's answers and a symbolic decision's make.
-use Rattle.std.specs.Prelude.{◌≡◌, ℕ, Bool, List, length}
+use Rattle.std.specs.Prelude.{◌≡◌, ◌≢◌, ℕ, Bool, List, length}
+use Rattle.std.proofs.Common.{◌⊎◌}
 use Rattle.gl_logic.specs.Assignments.{value_at}
 use Rattle.gl_logic.specs.Object.{Object}
 use Rattle.gl_logic.specs.IsGround.{AreGround}
@@ -9,6 +10,7 @@ use Rattle.gl_logic.specs.WorldSeen.{WorldSeen}
 use Rattle.coverage.specs.Sound.{AllAreBound}
 use Rattle.shape_spec.specs.Indices.{width_of, IsBindings}
 use Rattle.shape_spec.specs.InputMeant.{input_meant}
+use Rattle.shape_spec.specs.declared.theorem.Mode.TheVariants as mode
 use Rattle.shape_spec.specs.declared.theorem.Part.{Part}
 use Rattle.lisp_eval.specs.declared.fault.EvalFault.{EvalFault}
 use Rattle.lisp_eval.specs.declared.fault.EvalFault.TheVariants as fault
@@ -17,7 +19,7 @@ use Rattle.gl_symbolic.specs.declared.decision.Decision.TheVariants as decision
 use Rattle.gl_decide.specs.Bounds.{Bounds}
 use Rattle.gl_decide.specs.Stalls.{IsStallOf}
 use Rattle.gl_decide.specs.Theorem.{Theorem, input_at}
-use Rattle.gl_decide.specs.Verdicts.{IsCovered}
+use Rattle.gl_decide.specs.Verdicts.{IsCovered, IsProperVerdict}
 use Rattle.gl_decide.specs.declared.stall.StallCause.{StallCause}
 use Rattle.gl_decide.specs.declared.stall.StallCause.TheVariants as why
 use Rattle.gl_decide.specs.declared.verdict.Verdict.{Verdict}
@@ -91,3 +93,22 @@ abbrev pub IsStalled : WorldSeen → Theorem → StallCause → Verdict → Type
 IsStalled w thm (why.Nodes n) (verdict.Nodes s) = IsStallOf w thm (why.Nodes n) s
 IsStalled w thm (why.Clauses n) (verdict.Clauses s) = IsStallOf w thm (why.Clauses n) s
 IsStalled w thm c _ = ⊥
+
+-- ---- other modes
+-- decided, or an input on which a part has a cause
+abbrev pub IsAnswered : Verdict → Type 0
+IsAnswered (verdict.Uncovered v) = ⊥
+IsAnswered (verdict.Nodes s) = ⊥
+IsAnswered (verdict.Clauses s) = ⊥
+IsAnswered verdict.Memory = ⊥
+IsAnswered _ = Unit {0}
+
+-- a proper answer to a theorem that is not searched in its own mode
+pub record IsDecidedOtherwise (w : WorldSeen) (bounds : Bounds) (thm : Theorem) (v : Verdict) : Type 0 where
+  pub own : thm.mode ≢ mode.Sat
+  pub answered : IsAnswered v
+  pub proper : IsProperVerdict w bounds thm v
+
+-- such an answer, or the stall of this cause
+abbrev pub IsOtherwise : WorldSeen → Bounds → Theorem → StallCause → Verdict → Type 0
+IsOtherwise w bounds thm c v = IsDecidedOtherwise w bounds thm v ⊎ IsStalled w thm c v

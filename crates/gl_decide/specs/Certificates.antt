@@ -1,14 +1,9 @@
 -- Books that show a theorem.
-use Rattle.std.specs.Prelude.{◌≤◌, ℕ, List}
-use Rattle.bfr_store.specs.declared.meaning.Meaning.{Ghosts}
+use Rattle.std.specs.Prelude.{ℕ, List}
 use Rattle.cnf_rup.specs.Books.{BookSeen}
 use Rattle.cnf_rup.specs.Refutations.{IsRefutation}
 use Rattle.gl_logic.specs.Object.{Object}
 use Rattle.gl_logic.specs.WorldSeen.{WorldSeen}
-use Rattle.sat_core.specs.Decisions.{SatSeen}
-use Rattle.gl_symbolic.specs.Books.{HoldsEmpty}
-use Rattle.gl_symbolic.specs.declared.room.Room.{Room}
-use Rattle.gl_symbolic.specs.declared.room.Room.TheVariants as room
 use Rattle.gl_decide.specs.Bounds.{Bounds}
 use Rattle.gl_decide.specs.Theorem.{Theorem}
 use Rattle.gl_decide.specs.Verdicts.{IsCovered, Refutes}
@@ -30,8 +25,3 @@ abbrev pub IsOpen : Verdict → Type 0
 IsOpen Proved = ⊥
 IsOpen Vacuous = ⊥
 IsOpen _ = Unit {0}
-
--- stores of a search, of at most so many nodes, whose last decision's book is there, with the empty clause in it
-abbrev pub IsShownIn : Ghosts SatSeen → Room → Type 0
-IsShownIn h (room.Sat s) = HoldsEmpty s.store × (h.limit_of s.store ≤ 4000000)
-IsShownIn h _ = ⊥

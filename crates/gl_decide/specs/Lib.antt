@@ -13,3 +13,4 @@ pub mod Trials
 pub mod Pieces
 pub mod Answered
 pub mod Certificates
+pub mod ShownRooms

@@ -12,7 +12,8 @@ ghost use Rattle.gl_decide.specs.Bounds.{bounds_of};
 ghost use Rattle.gl_decide.specs.Rooms.{LeavesStores};
 ghost use Rattle.gl_decide.specs.TheoremOf.{theorem_of};
 ghost use Rattle.gl_decide.specs.Verdicts.{IsCovered, IsProperVerdict};
-ghost use Rattle.gl_decide.specs.Certificates.{IsCertificate, IsOpen, IsShownIn, unscanned};
+ghost use Rattle.gl_decide.specs.Certificates.{IsCertificate, IsOpen, unscanned};
+ghost use Rattle.gl_decide.specs.ShownRooms.{IsShownIn};
 
 use super::decide::stalled;
 use super::told::{cause_of, told};

@@ -10,9 +10,10 @@ ghost use Rattle.gl_decide.specs.Bounds.{bounds_of};
 ghost use Rattle.gl_decide.specs.Rooms.{LeavesStores};
 ghost use Rattle.gl_decide.specs.TheoremOf.{theorem_of};
 ghost use Rattle.gl_decide.specs.Verdicts.{IsCovered, IsProperVerdict};
-ghost use Rattle.gl_decide.specs.Answered.{IsCoveredIn, IsRefutedAt, IsStalled, IsStoppedAt};
+ghost use Rattle.gl_decide.specs.Answered.{IsCoveredIn, IsOtherwise, IsRefutedAt, IsStalled, IsStoppedAt};
 
 use super::gate::OpenGate;
+use super::otherwise::decide_otherwise;
 use super::scanned::Scan;
 use super::scanning::scan;
 use super::stall::{StallCause, make_stall};
@@ -32,10 +33,11 @@ use std::alloc::Global;
 use std::thread::Threads;
 
 /// Decides a theorem: by cover, and then by one symbolic run in its mode. Where that runs out of nodes or clauses, every
-/// input of a theorem of at most `limits.enum_bits` indices is tried, and a wider one is Nodes or Clauses.
+/// input of a theorem of at most `limits.enum_bits` indices is tried. A wider one is tried in the modes behind its own: of
+/// mode Bdd in mode Param and then in mode Sat, of mode Param in mode Sat. What they leave undecided is Nodes or Clauses.
 ///
-/// The stores of the run stay in the room: full ones after Nodes; after Clauses the book of a search that has learned
-/// `limits.clauses` clauses; after Proved and Vacuous of a wider theorem in mode Sat the book that shows it.
+/// The stores of the run in the theorem's mode stay in the room: full ones after Nodes; after Clauses the book of a search
+/// that has learned `limits.clauses` clauses; after Proved and Vacuous of a wider theorem in mode Sat the book that shows it.
 pub fn decide_theorem<R: Threads + Sync>(
     rt: &R,
     alloc: Global,
@@ -63,7 +65,7 @@ pub fn decide_theorem<R: Threads + Sync>(
     }
 }
 
-/// Decides a covered theorem. The verdict, and the stores of the symbolic run as it leaves them.
+/// Decides a covered theorem. The verdict, and the stores of the run in its mode as it leaves them.
 fn decide_covered<R: Threads + Sync>(
     rt: &R,
     alloc: Global,
@@ -93,7 +95,7 @@ fn decide_covered<R: Threads + Sync>(
     }
 }
 
-/// Decides a covered theorem whose symbolic run ran out.
+/// Decides a covered theorem whose run in its mode ran out.
 fn give_up<R: Threads + Sync>(
     rt: &R,
     alloc: Global,
@@ -105,12 +107,15 @@ fn give_up<R: Threads + Sync>(
     requires covered { IsCoveredIn world.now (theorem_of thm.now) }
     requires functions { AreFunctionsOf world.now thm.now.memoized }
     ensures scanned { width_of thm.now.bindings ≤ limits.now.enum_bits → IsProperVerdict world.now (bounds_of limits.now) (theorem_of thm.now) result }
-    ensures stalled { limits.now.enum_bits < width_of thm.now.bindings → IsStalled world.now (theorem_of thm.now) cause result }
+    ensures wide { limits.now.enum_bits < width_of thm.now.bindings → IsOtherwise world.now (bounds_of limits.now) (theorem_of thm.now) cause result }
 {
     if bit_count(&thm.bindings) <= u32::from(limits.enum_bits) {
         decide_by_scan(rt, alloc, world, thm, limits)
     } else {
-        stalled(world, thm, cause)
+        match decide_otherwise(alloc, world, thm, limits) {
+            Some(verdict) => verdict,
+            None => stalled(world, thm, cause),
+        }
     }
 }
 

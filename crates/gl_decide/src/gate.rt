@@ -3,7 +3,7 @@
 /// Called once by a worker when it begins a piece. It changes no answer; tests use it.
 pub trait Gate: Sync {
     /// A worker begins a piece.
-    fn enter(&self, piece: u32);
+    fn enter(&self, piece: u64);
 }
 
 /// A gate that does nothing.
@@ -11,5 +11,5 @@ pub trait Gate: Sync {
 pub struct OpenGate;
 
 impl Gate for OpenGate {
-    fn enter(&self, _piece: u32) {}
+    fn enter(&self, _piece: u64) {}
 }

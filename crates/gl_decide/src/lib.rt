@@ -1,7 +1,7 @@
 //! Verdicts on theorems.
 //!
 //! [`decide_theorem`] gives a verdict: by cover, then by a symbolic run, and where that runs out of nodes or clauses by
-//! [`scan`], which tries every input of a theorem of few indices on any number of workers at once.
+//! [`scan`], which tries every input of a theorem of few indices on any number of workers at once, or by runs in other modes.
 //!
 //! Tests: those of the crate `gl`.
 #![tactic(auto)]
@@ -11,6 +11,7 @@ mod decide;
 mod gate;
 mod join;
 pub mod laws;
+mod otherwise;
 mod piece;
 mod pieces;
 mod place;

@@ -54,7 +54,7 @@ fn answers<R: Threads + Sync, G: Gate>(
         requires { IsOfWorld world.now (theorem_of thm.now) }
         ensures { IsProperOf world.entry.now limits.entry.now.steps limits.entry.now.cells (theorem_of thm.entry.now) piece result }
     {
-        gate.enter(piece.number);
+        gate.enter(u64::from(piece.number));
         scan_piece(alloc, world, thm, limits, piece)
     };
     thread::map_vec(rt, pieces, &each)

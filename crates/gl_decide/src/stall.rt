@@ -19,8 +19,9 @@ pub enum StallCause {
     Clauses(u32),
 }
 
-/// One decision ran out of nodes or clauses. Only [`decide_theorem`](super::decide_theorem) hands one out, and it can't be
-/// copied. When the program runs it holds the cause; contracts see the theorem and the world of the decision too.
+/// One decision ran out of nodes or clauses. Only [`decide_theorem`](super::decide_theorem) and
+/// [`certificate`](super::certificate) hand one out, and it can't be copied. When the program runs it holds the cause;
+/// contracts see the theorem and the world of the decision too.
 #[derive(Drop)]
 pub struct Stall {
     cause: StallCause,

@@ -5,6 +5,7 @@ use Rattle.bfr_store.specs.declared.meaning.Meaning.{Ghosts}
 use Rattle.sat_core.specs.Decisions.{SatSeen}
 use Rattle.shape_spec.specs.Indices.{width_of}
 use Rattle.shape_spec.specs.declared.theorem.Part.TheVariants as part
+use Rattle.shape_spec.specs.declared.theorem.Mode.{Mode}
 use Rattle.shape_spec.specs.declared.theorem.Mode.TheVariants as mode
 use Rattle.shape_spec.specs.declared.theorem.Thm.{Thm}
 use Rattle.sym_objects.specs.Seen.{SobsSeen, IsWhole}
@@ -39,9 +40,9 @@ pub record IsRoomFor {B : Type 0} (g : Ghosts B) (nodes : ℕ) (s : SobsSeen B) 
   pub store : g.limit_of s.store ≡ nodes
   pub run_out : HasRunOut g s d
 
--- the stores are those of the theorem's mode: diagrams in each but Sat. In mode Sat an answer that no assignment makes a
--- function true is shown by the book of the last decision
-abbrev pub LeavesRoom : Ghosts Diagrams → Ghosts SatSeen → ℕ → ℕ → Thm → Decision → Room → Type 0
-LeavesRoom g h nodes clauses thm d room.Empty = IsUnbegun d
-LeavesRoom g h nodes clauses thm d (room.Bdd s) = (thm.mode ≢ mode.Sat) × IsRoomFor g nodes s d
-LeavesRoom g h nodes clauses thm d (room.Sat s) = (thm.mode ≡ mode.Sat) × IsRoomFor h nodes s d × IsShown (HoldsEmpty s.store) d × GivesUpWell clauses s.store d
+-- the stores are those of the mode: diagrams in each but Sat. In mode Sat an answer that no assignment makes a function true
+-- is shown by the book of the last decision
+abbrev pub LeavesRoom : Ghosts Diagrams → Ghosts SatSeen → ℕ → ℕ → Mode → Decision → Room → Type 0
+LeavesRoom g h nodes clauses m d room.Empty = IsUnbegun d
+LeavesRoom g h nodes clauses m d (room.Bdd s) = (m ≢ mode.Sat) × IsRoomFor g nodes s d
+LeavesRoom g h nodes clauses m d (room.Sat s) = (m ≡ mode.Sat) × IsRoomFor h nodes s d × IsShown (HoldsEmpty s.store) d × GivesUpWell clauses s.store d

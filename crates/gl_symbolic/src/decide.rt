@@ -26,13 +26,14 @@ use sym_objects::Sobs;
 /// Decides a theorem by one symbolic run, in a store that has no variable yet, beside a machine that has just begun.
 ///
 /// The hypothesis first: where the store gives up on it, nothing is said. The conclusion is run under the hypothesis'
-/// truth.
+/// truth, and in each mode but Sat with the indices that the hypothesis fixes as constants.
 pub fn decide_symbolically<B: Settles>(
     alloc: Global,
     objs: &mut Sobs<B>,
     machine: &mut Machine,
     world: &World,
     thm: &Thm,
+    mode: Mode,
 ) -> Decision
     requires whole { IsWhole B.Meaning objs.old }
     requires width { B.width_of objs.old.store ≡ 0 }
@@ -49,7 +50,7 @@ pub fn decide_symbolically<B: Settles>(
         Err(decision) => decision,
         Ok((env, hyp)) => match reach(alloc, objs, hyp) {
             Ok(None) => Decision::Vacuous,
-            Ok(Some(found)) => match thm.mode {
+            Ok(Some(found)) => match mode {
                 Mode::Bdd | Mode::Param => {
                     conclude_narrowed(alloc, objs, machine, world, thm, hyp, &found)
                 }

@@ -23,6 +23,6 @@ mod stores;
 
 pub use decide::decide_symbolically;
 pub use decision::Decision;
-pub use room::{Room, decide_in_mode};
+pub use room::{Room, decide_in_mode, run_in_mode};
 pub use runs::{hypothesis, refutation};
 pub use settles::Settles;

@@ -5,7 +5,7 @@
 //! Boolean constraints"), as GL itself makes one (Swords and Davis, "Bit-blasting ACL2 theorems"). An assignment that is found
 //! of such a run goes through the vector before it is told.
 
-ghost use Rattle.std.specs.Prelude.{◌≡◌, ◌≤◌, ◌<◌, ℕ, Bool, false, List, map, length, All, IfOk, IfSome};
+ghost use Rattle.std.specs.Prelude.{◌≡◌, ◌≤◌, ◌<◌, ℕ, Bool, false, List, map, length, All, IfOk, IfSome, IfNone};
 ghost use Rattle.gl_logic.specs.Assignments.{value_at};
 ghost use Rattle.gl_logic.specs.IsTermOf.{IsTermOf};
 ghost use Rattle.gl_logic.specs.TermOf.{term_of};
@@ -220,6 +220,7 @@ fn parameters(alloc: Global, objs: &mut Sobs<Bdd>, hyp: Edge) -> Result<Edges, P
 /// A decision that did not run out of nodes.
 fn unless_full(decision: Decision) -> Option<Decision>
     ensures same { IfSome result (λ d. d ≡ decision) }
+    ensures full { IfNone result (decision ≡ Decision.Full) }
 {
     match decision {
         Decision::Full => None,
@@ -245,6 +246,7 @@ pub(crate) fn decide_parametrised(
     ensures grows { Grows ⟦<Bdd as Meaning>⟧ objs.old objs.new }
     ensures proper { IfSome result (IsProper world.now machine.old.steps machine.old.arena.limit thm.now) }
     ensures run_out { IfSome result (HasRunOut ⟦<Bdd as Meaning>⟧ objs.new) }
+    ensures full { IfNone result (IsFull ⟦<Bdd as Meaning>⟧ objs.new) }
     ensures rests { Rests machine.old machine.new }
 {
     match hypothesis(alloc, objs, machine, world, thm) {

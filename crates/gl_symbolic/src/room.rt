@@ -41,7 +41,25 @@ pub fn decide_in_mode(alloc: Global, world: &World, thm: &Thm, limits: &Limits) 
     requires concl { IsTermOf world.now.definitions (term_of thm.now.concl) }
     requires functions { AreFunctionsOf world.now thm.now.memoized }
     ensures proper { IsProper world.now limits.now.steps limits.now.cells thm.now result.0 }
-    ensures room { LeavesRoom ⟦<Bdd as Meaning>⟧ ⟦<AigSat as Meaning>⟧ limits.now.nodes limits.now.clauses thm.now result.0 result.1 }
+    ensures room { LeavesRoom ⟦<Bdd as Meaning>⟧ ⟦<AigSat as Meaning>⟧ limits.now.nodes limits.now.clauses thm.now.mode result.0 result.1 }
+{
+    run_in_mode(alloc, world, thm, thm.mode, limits)
+}
+
+/// Decides a theorem in a mode that need not be its own, as [`decide_in_mode`] decides one of that mode. But where the
+/// parameters or the conclusion on them take all nodes, a theorem of another mode is not run once more without them.
+pub fn run_in_mode(
+    alloc: Global,
+    world: &World,
+    thm: &Thm,
+    mode: Mode,
+    limits: &Limits,
+) -> (Decision, Room)
+    requires hyp { IsTermOf world.now.definitions (term_of thm.now.hyp) }
+    requires concl { IsTermOf world.now.definitions (term_of thm.now.concl) }
+    requires functions { AreFunctionsOf world.now thm.now.memoized }
+    ensures proper { IsProper world.now limits.now.steps limits.now.cells thm.now result.0 }
+    ensures room { LeavesRoom ⟦<Bdd as Meaning>⟧ ⟦<AigSat as Meaning>⟧ limits.now.nodes limits.now.clauses mode result.0 result.1 }
 {
     // every term of the world has a value
     let _count = world.count();
@@ -49,10 +67,10 @@ pub fn decide_in_mode(alloc: Global, world: &World, thm: &Thm, limits: &Limits) 
         return (Decision::Memory, Room::Empty);
     };
     match machine.begin(world, &thm.memoized) {
-        Ok(()) => match thm.mode {
-            Mode::Bdd => by_diagrams(alloc, &mut machine, world, thm, limits),
-            Mode::Param => by_parameters(alloc, &mut machine, world, thm, limits),
-            Mode::Sat => by_search(alloc, &mut machine, world, thm, limits),
+        Ok(()) => match mode {
+            Mode::Bdd => by_diagrams(alloc, &mut machine, world, thm, mode, limits),
+            Mode::Param => by_parameters(alloc, &mut machine, world, thm, mode, limits),
+            Mode::Sat => by_search(alloc, &mut machine, world, thm, mode, limits),
         },
         Err(EvalFault::Cells) => (unplaced(alloc, thm), Room::Empty),
         Err(_) => (Decision::Memory, Room::Empty),
@@ -70,20 +88,22 @@ fn unplaced(alloc: Global, thm: &Thm) -> Decision
 }
 
 /// Decides over decision diagrams, with the conclusion run on an input that meets the hypothesis under every assignment.
-/// Where the nodes suffice for the hypothesis and not for that, decides once more without it, in new stores.
+/// Where the nodes suffice for the hypothesis and not for that, a theorem of mode Param is decided once more without it, in
+/// new stores.
 fn by_parameters(
     alloc: Global,
     machine: &mut Machine,
     world: &World,
     thm: &Thm,
+    mode: Mode,
     limits: &Limits,
 ) -> (Decision, Room)
     requires ready { IsReady world.now thm.now machine.old }
     requires hyp { IsTermOf world.now.definitions (term_of thm.now.hyp) }
     requires concl { IsTermOf world.now.definitions (term_of thm.now.concl) }
-    requires mode { thm.now.mode ≢ Mode.Sat }
+    requires mode { mode ≢ Mode.Sat }
     ensures proper { IsProper world.now machine.old.steps machine.old.arena.limit thm.now result.0 }
-    ensures room { LeavesRoom ⟦<Bdd as Meaning>⟧ ⟦<AigSat as Meaning>⟧ limits.now.nodes limits.now.clauses thm.now result.0 result.1 }
+    ensures room { LeavesRoom ⟦<Bdd as Meaning>⟧ ⟦<AigSat as Meaning>⟧ limits.now.nodes limits.now.clauses mode result.0 result.1 }
 {
     let nodes = limits.nodes;
     let Ok(store) = Bdd::new(alloc, nodes) else {
@@ -92,11 +112,16 @@ fn by_parameters(
     let Ok(mut objs) = Sobs::new(alloc, store, nodes) else {
         return (Decision::Memory, Room::Empty);
     };
-    if let Some(decision) = decide_parametrised(alloc, &mut objs, machine, world, thm) {
-        return (decision, Room::Bdd(objs));
+    match decide_parametrised(alloc, &mut objs, machine, world, thm) {
+        Some(decision) => (decision, Room::Bdd(objs)),
+        None => match thm.mode {
+            Mode::Param => {
+                drop(objs);
+                by_diagrams(alloc, machine, world, thm, mode, limits)
+            }
+            Mode::Bdd | Mode::Sat => (Decision::Full, Room::Bdd(objs)),
+        },
     }
-    drop(objs);
-    by_diagrams(alloc, machine, world, thm, limits)
 }
 
 /// Decides over decision diagrams.
@@ -105,14 +130,15 @@ fn by_diagrams(
     machine: &mut Machine,
     world: &World,
     thm: &Thm,
+    mode: Mode,
     limits: &Limits,
 ) -> (Decision, Room)
     requires ready { IsReady world.now thm.now machine.old }
     requires hyp { IsTermOf world.now.definitions (term_of thm.now.hyp) }
     requires concl { IsTermOf world.now.definitions (term_of thm.now.concl) }
-    requires mode { thm.now.mode ≢ Mode.Sat }
+    requires mode { mode ≢ Mode.Sat }
     ensures proper { IsProper world.now machine.old.steps machine.old.arena.limit thm.now result.0 }
-    ensures room { LeavesRoom ⟦<Bdd as Meaning>⟧ ⟦<AigSat as Meaning>⟧ limits.now.nodes limits.now.clauses thm.now result.0 result.1 }
+    ensures room { LeavesRoom ⟦<Bdd as Meaning>⟧ ⟦<AigSat as Meaning>⟧ limits.now.nodes limits.now.clauses mode result.0 result.1 }
 {
     let nodes = limits.nodes;
     let Ok(store) = Bdd::new(alloc, nodes) else {
@@ -121,7 +147,7 @@ fn by_diagrams(
     let Ok(mut objs) = Sobs::new(alloc, store, nodes) else {
         return (Decision::Memory, Room::Empty);
     };
-    let decision = decide_symbolically(alloc, &mut objs, machine, world, thm);
+    let decision = decide_symbolically(alloc, &mut objs, machine, world, thm, mode);
     (decision, Room::Bdd(objs))
 }
 
@@ -131,14 +157,15 @@ fn by_search(
     machine: &mut Machine,
     world: &World,
     thm: &Thm,
+    mode: Mode,
     limits: &Limits,
 ) -> (Decision, Room)
     requires ready { IsReady world.now thm.now machine.old }
     requires hyp { IsTermOf world.now.definitions (term_of thm.now.hyp) }
     requires concl { IsTermOf world.now.definitions (term_of thm.now.concl) }
-    requires mode { thm.now.mode ≡ Mode.Sat }
+    requires mode { mode ≡ Mode.Sat }
     ensures proper { IsProper world.now machine.old.steps machine.old.arena.limit thm.now result.0 }
-    ensures room { LeavesRoom ⟦<Bdd as Meaning>⟧ ⟦<AigSat as Meaning>⟧ limits.now.nodes limits.now.clauses thm.now result.0 result.1 }
+    ensures room { LeavesRoom ⟦<Bdd as Meaning>⟧ ⟦<AigSat as Meaning>⟧ limits.now.nodes limits.now.clauses mode result.0 result.1 }
 {
     let nodes = limits.nodes;
     let Ok(store) = AigSat::new(alloc, nodes, limits.clauses) else {
@@ -147,7 +174,7 @@ fn by_search(
     let Ok(mut objs) = Sobs::new(alloc, store, nodes) else {
         return (Decision::Memory, Room::Empty);
     };
-    let decision = decide_symbolically(alloc, &mut objs, machine, world, thm);
+    let decision = decide_symbolically(alloc, &mut objs, machine, world, thm, mode);
     let _spent = is_spent(&mut objs);
     (decision, Room::Sat(objs))
 }

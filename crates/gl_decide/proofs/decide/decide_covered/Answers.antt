@@ -13,12 +13,12 @@ give_up-requires-clause-covered g c κs within = record { ground = c.ground_call
 pub returns-in-Some-clause-proper : goal.returns-in-Some-clause-proper
 returns-in-Some-clause-proper g c =
     let d = c.decide_in_mode-decision in
-    (ran_out diagrams.ghosts search_graphs.ghosts c.args.world.now (bounds_of c.args.limits.now) c.args.thm.now c.requires.covered (λ s e. absurd cc) d.result.0 c.in-Some.cause d.result.1 c.give_up.result c.in-Some.ensures c.give_up.ensures.scanned c.give_up.ensures.stalled d.ensures.room).0
+    (ran_out diagrams.ghosts search_graphs.ghosts c.args.world.now (bounds_of c.args.limits.now) c.args.thm.now c.requires.covered (λ s e. absurd cc) d.result.0 c.in-Some.cause d.result.1 c.give_up.result c.in-Some.ensures c.give_up.ensures.scanned c.give_up.ensures.wide d.ensures.room).0
 
 pub returns-in-Some-clause-room : goal.returns-in-Some-clause-room
 returns-in-Some-clause-room g c =
     let d = c.decide_in_mode-decision in
-    (ran_out diagrams.ghosts search_graphs.ghosts c.args.world.now (bounds_of c.args.limits.now) c.args.thm.now c.requires.covered (λ s e. absurd cc) d.result.0 c.in-Some.cause d.result.1 c.give_up.result c.in-Some.ensures c.give_up.ensures.scanned c.give_up.ensures.stalled d.ensures.room).1
+    (ran_out diagrams.ghosts search_graphs.ghosts c.args.world.now (bounds_of c.args.limits.now) c.args.thm.now c.requires.covered (λ s e. absurd cc) d.result.0 c.in-Some.cause d.result.1 c.give_up.result c.in-Some.ensures c.give_up.ensures.scanned c.give_up.ensures.wide d.ensures.room).1
 
 pub returns-in-Ok-clause-proper : goal.returns-in-Ok-clause-proper
 returns-in-Ok-clause-proper g c =

@@ -15,3 +15,6 @@ pub returns-in-Err-Empty-clause-proper : goal.returns-in-Err-Empty-clause-proper
 returns-in-Err-Empty-clause-proper c =
     let none = c.parameters.ensures.empty (rw (c.in-Err-Empty.is, c.in-Err-Empty.field-0-is) refl) in
     λ a m. unmet_where c.args.world.now (term_at c.args.thm.now Hyp) (input_under c.args.thm.now a) _ (c.in-Ok.ensures.edge.told a) (none a) m
+
+pub returns-in-Err-Full-clause-full : goal.returns-in-Err-Full-clause-full
+returns-in-Err-Full-clause-full c = c.parameters.ensures.full (rw (c.in-Err-Full.is, c.in-Err-Full.field-0-is) refl)

@@ -1,7 +1,7 @@
 use Rattle.std.proofs.Common.{subst, refl, ℕ}
 use Rattle.lisp_eval.specs.MachineCalls.{HasTooManyConstants}
 use Rattle.gl_symbolic.proofs.Begun.{unplaced_proper}
-use Rattle.gl_symbolic.proofs.room.decide_in_mode.Goals as goal
+use Rattle.gl_symbolic.proofs.room.run_in_mode.Goals as goal
 
 pub returns-in-Err-Cells-clause-proper : goal.returns-in-Err-Cells-clause-proper
 returns-in-Err-Cells-clause-proper c =
