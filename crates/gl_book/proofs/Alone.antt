@@ -16,7 +16,8 @@ use Rattle.gl_decide.specs.Bounds.{Bounds}
 use Rattle.gl_book.specs.Entry.{Entry, Refused}
 use Rattle.gl_book.specs.Walk.{Walk, bad, end_refusal}
 use Rattle.gl_book.specs.Transcript as transcript
-use Rattle.gl_book.specs.Transcript.{IsReadBy, ComesOf, ComesOfList, ComesOfBook}
+use Rattle.gl_book.specs.Transcript.{ComesOf, ComesOfList, ComesOfBook}
+use Rattle.book_state.specs.Reading.{IsReadBy}
 
 module _ (names : List (List ℕ)) (bounds : Bounds) where
   -- nothing is left but a refusal

@@ -18,7 +18,8 @@ use Rattle.gl_book.specs.Answers.{IsTooLarge, IsProperValue, IsProperTruth, IsPr
 use Rattle.gl_book.specs.Completeness.{refusal_in, AgreeBut, StaysWithin, IsFound, IsOfConstant}
 use Rattle.gl_book.specs.Entry.{Entry, Answered, Marked, Refused}
 use Rattle.gl_book.specs.Stops.{refusal_of}
-use Rattle.gl_book.specs.Walk.{event_in, value_in, state_after, constant_cause, refused_cause, refusal_at, Walk, ended, bad, marked, refused, without_value, event}
+use Rattle.gl_book.specs.Walk.{value_in, state_after, constant_cause, refused_cause, refusal_at, Walk, ended, bad, marked, refused, without_value, event}
+use Rattle.book_state.specs.States.{event_in}
 use Rattle.gl_book.specs.declared.answer.Answer.{Answer}
 use Rattle.gl_book.specs.declared.answer.Answer.TheVariants as answer
 use Rattle.gl_book.specs.declared.answer.Cause.{Cause}

@@ -23,16 +23,19 @@ use Rattle.event_world.specs.NextState.{BookState, next_state}
 use Rattle.gl_decide.specs.Bounds.{Bounds}
 use Rattle.gl_decide.specs.Stalls.{StallSeen}
 use Rattle.gl_decide.specs.declared.verdict.Verdict.TheVariants as verdict
-use Rattle.gl_book.specs.Answers.{IsAnswerable, IsOfDefinitions, IsProperAnswer}
+use Rattle.gl_book.specs.Answers.{IsProperAnswer}
+use Rattle.book_state.specs.Answerable.{IsAnswerable, IsOfDefinitions}
 use Rattle.gl_book.specs.declared.cases.CasesVerdict.TheVariants as whole
 use Rattle.gl_book.proofs.PartsDecided.{memory_decides}
 use Rattle.gl_book.specs.Courses.{AreBehind, Course, EndsPhaseByFront, HasRoomFor, IsQuiet, KeepsPhase, KeepsPhaseFront, Place, Stands, WritesPhase, WritesPhaseFront, counts_after, count_waited, phase_lines, waited}
 use Rattle.gl_book.specs.Entry.{Entry, Answered, Marked, Refused, entry_stalls, stalls_of, stalls_in}
 use Rattle.gl_book.specs.Lines.{entry_lines, event_lines, mark_line, done_line, counts_of, is_answer, is_proved, is_vacuous, is_refuted, is_undecided, is_failed, is_refusal, transcript_lines}
-use Rattle.gl_book.specs.Phases.{JobSeen, AreAnswered, CanBeAnswered, IsFollowed, ends_phase, is_job, new_job}
+use Rattle.gl_book.specs.Phases.{JobSeen, AreAnswered, CanBeAnswered, IsFollowed, ends_phase, new_job}
+use Rattle.book_state.specs.States.{is_job}
 use Rattle.gl_book.specs.Stops.{counts_with, refusal_of, closing_lines, closing_status, told_before, WritesLines, WritesLinesFront, WritesWalk, WritesWalkFront}
 use Rattle.gl_book.specs.Transcript.{told}
-use Rattle.gl_book.specs.Walk.{CanGoOn, Walk, marked, refused, without_value, event, event_in, refusal_at, refused_cause, state_after}
+use Rattle.gl_book.specs.Walk.{Walk, marked, refused, without_value, event, refusal_at, refused_cause, state_after}
+use Rattle.book_state.specs.States.{CanGoOn, event_in}
 use Rattle.gl_book.specs.declared.answer.Answer.{Answer}
 use Rattle.gl_book.specs.declared.answer.Answer.TheVariants as answer
 use Rattle.gl_book.specs.declared.answer.Cause.{Cause}

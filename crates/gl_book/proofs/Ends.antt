@@ -24,11 +24,13 @@ use Rattle.book_shelf.specs.Flat.{IsFlat, most_bytes}
 use Rattle.book_shelf.specs.NumberedItems.{IsNumberedItem}
 use Rattle.book_shelf.proofs.Later.{longer, numbered_later}
 use Rattle.event_world.specs.NextState.{BookState}
-use Rattle.gl_book.specs.Walk.{IsFirstState, Walk}
-use Rattle.gl_book.proofs.FirstStates.{some_table}
+use Rattle.gl_book.specs.Walk.{Walk}
+use Rattle.book_state.specs.States.{IsFirstState}
+use Rattle.book_state.proofs.FirstStates.{some_table}
 use Rattle.gl_book.specs.Entry.{Entry, Refused, stalls_in}
 use Rattle.gl_book.specs.Lines.{transcript_lines, status_of, counts_of, is_refusal}
-use Rattle.gl_book.specs.Transcript.{long_refusal, IsReadBy, long, short, Telling, IsTranscript, IsListTranscript, IsBookTranscript, WritesAll, WritesSome, Ends, EndsOrNothing, WritesFront, EndsWith, EndsWithList, WritesBook}
+use Rattle.gl_book.specs.Transcript.{long_refusal, long, short, Telling, IsTranscript, IsListTranscript, IsBookTranscript, WritesAll, WritesSome, Ends, EndsOrNothing, WritesFront, EndsWith, EndsWithList, WritesBook}
+use Rattle.book_state.specs.Reading.{IsReadBy}
 use Rattle.gl_book.specs.Stops.{IsCounted, IsReported, EndsBy, status_from, closing_lines, WritesLines, WritesLinesFront, WritesWalk, WritesWalkFront}
 use Rattle.gl_book.specs.declared.counts.Counts.{Counts}
 use Rattle.gl_book.specs.declared.stop.Stop.{Stop}

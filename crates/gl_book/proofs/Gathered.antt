@@ -14,9 +14,10 @@ use Rattle.gl_cases.specs.Parts.{ParamSeen}
 use Rattle.gl_decide.specs.Bounds.{Bounds}
 use Rattle.gl_decide.specs.Verdicts.{IsProperVerdict}
 use Rattle.gl_decide.specs.declared.verdict.Verdict.{Verdict}
-use Rattle.gl_book.specs.Answers.{IsAnswerable, IsReadyTheorem}
+use Rattle.book_state.specs.Answerable.{IsAnswerable, IsReadyTheorem}
 use Rattle.gl_book.specs.Cases.{AreProperVerdicts, IsDecidedByCases, decided_theorem, settled_of, verdict_from}
-use Rattle.gl_book.specs.Phases.{JobSeen, new_job, is_job, CanBeAnswered, IsAnsweredBy, AreAnswered}
+use Rattle.gl_book.specs.Phases.{JobSeen, new_job, CanBeAnswered, IsAnsweredBy, AreAnswered}
+use Rattle.book_state.specs.States.{is_job}
 use Rattle.gl_book.specs.Tasks.{parts_of, tasks_of, theorem_tasks, HasFewParts, TakesAnswer, TakesVerdict, TakesVerdicts}
 use Rattle.gl_book.specs.declared.answer.Answer.{Answer}
 use Rattle.gl_book.specs.declared.answer.Answer.TheVariants as answer

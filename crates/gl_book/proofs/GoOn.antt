@@ -19,7 +19,8 @@ use Rattle.event_world.specs.NextState.{BookState, with_members}
 use Rattle.event_world.specs.Suits.{Suits, HasAllGround, IsClosedTerm, IsNewDefinition}
 use Rattle.event_world.proofs.SuitedEvents.{event_suits}
 use Rattle.gl_book.specs.Answers.{IsProperAnswer}
-use Rattle.gl_book.specs.Walk.{CanGoOn, event_in, refused_cause, state_after}
+use Rattle.gl_book.specs.Walk.{refused_cause, state_after}
+use Rattle.book_state.specs.States.{CanGoOn, event_in}
 use Rattle.gl_book.specs.declared.answer.Answer.{Answer}
 use Rattle.gl_book.specs.declared.answer.Answer.TheVariants as answer
 use Rattle.gl_book.specs.declared.answer.Cause.{Cause}

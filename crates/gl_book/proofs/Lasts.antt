@@ -26,13 +26,15 @@ use Rattle.event_world.specs.NextState.{BookState}
 use Rattle.event_world.specs.Seen.{theorem_seen}
 use Rattle.event_world.proofs.Fronts.{IsFront, IsFrontList, whole, front_next}
 use Rattle.gl_decide.specs.Bounds.{Bounds}
-use Rattle.gl_book.specs.Answers.{IsReadyTheorem}
+use Rattle.book_state.specs.Answerable.{IsReadyTheorem}
 use Rattle.gl_book.specs.Entry.{Entry, Answered, Refused}
 use Rattle.gl_book.specs.Lines.{is_refusal}
 use Rattle.gl_book.specs.Lasts.{HasNone, IsLastOf, is_refused, is_theorem, is_theorem_event, state_behind, state_by}
 use Rattle.gl_book.specs.LastSteps.{IsExtentOf, IsKeptAt, IsRefusedForm, IsTaken, IsWalkedTo, Takes}
-use Rattle.gl_book.specs.Transcript.{IsReadBy, long, long_refusal, short}
-use Rattle.gl_book.specs.Walk.{CanGoOn, IsFirstState, Walk, ended, bad, marked, refused, without_value, event, state_after, value_in}
+use Rattle.gl_book.specs.Transcript.{long, long_refusal, short}
+use Rattle.book_state.specs.Reading.{IsReadBy}
+use Rattle.gl_book.specs.Walk.{Walk, ended, bad, marked, refused, without_value, event, state_after, value_in}
+use Rattle.book_state.specs.States.{CanGoOn, IsFirstState}
 use Rattle.gl_book.specs.declared.answer.Answer.{Answer}
 use Rattle.gl_book.specs.declared.last_step.Kept.{Kept}
 use Rattle.gl_book.specs.declared.last_step.Step.TheVariants as step

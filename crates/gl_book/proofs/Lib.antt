@@ -1,15 +1,10 @@
 pub mod Inputs
-pub mod Places
 pub mod Refusals
 pub mod ManyLines
 pub mod Joined
 pub mod Told
 pub mod Wideness
 pub mod GoOn
-pub mod Noting
-pub mod Kept
-pub mod TextTables
-pub mod FirstStates
 pub mod Closing
 pub mod Stalled
 pub mod Onward

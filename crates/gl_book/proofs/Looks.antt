@@ -1,4 +1,4 @@
--- What a proper answer looks at: the definitions and the constants of its world, and the limits but for the workers.
+-- What a proper answer looks at: the definitions and the constants of its world, and the limits.
 use Rattle.std.proofs.Common.{ℕ, List, [], ◌∷◌}
 use Rattle.gl_logic.specs.Object.{Object}
 use Rattle.gl_logic.specs.Exp.{Exp}
@@ -15,17 +15,14 @@ use Rattle.gl_decide.specs.declared.verdict.Verdict.TheVariants as verdict
 use Rattle.gl_cases.specs.Parts.{ParamSeen}
 use Rattle.gl_book.specs.Cases.{AreProperVerdicts, IsDecidedByCases, decided_theorem}
 use Rattle.gl_book.specs.Answers.{IsValue, HasCause, IsProperValue, IsProperTruth, IsDecided, IsSettled, IsFunctionNamed, IsProperAnswer}
-use Rattle.gl_book.specs.Phases.{JobSeen, AreAnswered, with_one_worker}
+use Rattle.gl_book.specs.Phases.{JobSeen, AreAnswered}
 use Rattle.gl_book.specs.declared.answer.Cause.{Cause}
 use Rattle.gl_book.specs.declared.answer.Cause.TheVariants as cause
 use Rattle.gl_book.specs.declared.answer.Answer.{Answer}
 use Rattle.gl_book.specs.declared.answer.Answer.TheVariants as answer
 
--- the same limits with other workers, and the same definitions and constants with other events
-module _ (bounds : Bounds) (workers : ℕ) (w : WorldSeen) (cliques : List ℕ) (events : List (ℕ × Object)) where
-  abbrev others : Bounds
-  others = record bounds { workers = workers }
-
+-- the same definitions and constants with other events
+module _ (bounds : Bounds) (w : WorldSeen) (cliques : List ℕ) (events : List (ℕ × Object)) where
   abbrev later : WorldSeen
   later = record w { cliques = cliques; events = events }
 
@@ -38,7 +35,7 @@ module _ (bounds : Bounds) (workers : ℕ) (w : WorldSeen) (cliques : List ℕ) 
   cells_look : (env : List (ℕ × Object)) (t : Exp) → IsOutOfCells w bounds.cells env t → IsOutOfCells later bounds.cells env t
   cells_look env t h = record { depth = h.depth; value = h.value; has = h.has; more = h.more }
 
-  cause_looks : (memoized : List ℕ) (t : Exp) (c : Cause) → HasCause bounds w memoized t c → HasCause others later memoized t c
+  cause_looks : (memoized : List ℕ) (t : Exp) (c : Cause) → HasCause bounds w memoized t c → HasCause bounds later memoized t c
   cause_looks memoized t cause.Width h = h
   cause_looks memoized t cause.Steps h = steps_look memoized [] t h
   cause_looks memoized t cause.Cells h = cells_look [] t h
@@ -46,7 +43,7 @@ module _ (bounds : Bounds) (workers : ℕ) (w : WorldSeen) (cliques : List ℕ) 
   cause_looks memoized t cause.Memory h = tt
 
   -- ---- values and truths
-  value_answer_looks : (memoized : List ℕ) (t : Exp) (a : Answer) → IsProperValue bounds w memoized t a → IsProperValue others later memoized t a
+  value_answer_looks : (memoized : List ℕ) (t : Exp) (a : Answer) → IsProperValue bounds w memoized t a → IsProperValue bounds later memoized t a
   value_answer_looks memoized t (answer.Value x) h = record { is = value_looks t x h.is; small = h.small }
   value_answer_looks memoized t (answer.Undecided c) h = cause_looks memoized t c h
   value_answer_looks memoized t answer.Done h = absurd h
@@ -55,7 +52,7 @@ module _ (bounds : Bounds) (workers : ℕ) (w : WorldSeen) (cliques : List ℕ) 
   value_answer_looks memoized t (answer.Decided v) h = absurd h
   value_answer_looks memoized t (answer.ByCases v) h = absurd h
 
-  truth_answer_looks : (memoized : List ℕ) (t : Exp) (a : Answer) → IsProperTruth bounds w memoized t a → IsProperTruth others later memoized t a
+  truth_answer_looks : (memoized : List ℕ) (t : Exp) (a : Answer) → IsProperTruth bounds w memoized t a → IsProperTruth bounds later memoized t a
   truth_answer_looks memoized t (answer.Truth b) h = (h.0, value_looks t h.0 h.1, h.2)
   truth_answer_looks memoized t (answer.Undecided c) h = record { has = cause_looks memoized t c h.has; no_size = h.no_size }
   truth_answer_looks memoized t answer.Done h = absurd h
@@ -68,7 +65,7 @@ module _ (bounds : Bounds) (workers : ℕ) (w : WorldSeen) (cliques : List ℕ) 
   stall_looks : (thm : decide.Theorem) (c : StallCause) (s : StallSeen) → IsStallOf w thm c s → IsStallOf later thm c s
   stall_looks thm c s h = record { cause = h.cause; theorem = h.theorem; definitions = h.definitions; constants = h.constants }
 
-  verdict_looks : (thm : decide.Theorem) (v : Verdict) → IsProperVerdict w bounds thm v → IsProperVerdict later others thm v
+  verdict_looks : (thm : decide.Theorem) (v : Verdict) → IsProperVerdict w bounds thm v → IsProperVerdict later bounds thm v
   verdict_looks thm verdict.Proved h = h
   verdict_looks thm verdict.Vacuous h = h
   verdict_looks thm (verdict.Refuted env) h = h
@@ -81,7 +78,7 @@ module _ (bounds : Bounds) (workers : ℕ) (w : WorldSeen) (cliques : List ℕ) 
   verdict_looks thm (verdict.Clauses s) h = (h.0, h.1, h.2, stall_looks thm _ s h.3)
   verdict_looks thm verdict.Memory h = tt
 
-  decided_looks : (thm : TheoremSeen) (a : Answer) → IsDecided bounds w thm a → IsDecided others later thm a
+  decided_looks : (thm : TheoremSeen) (a : Answer) → IsDecided bounds w thm a → IsDecided bounds later thm a
   decided_looks thm (answer.Decided v) h = verdict_looks (decided_theorem thm) v h
   decided_looks thm answer.Done h = absurd h
   decided_looks thm (answer.Function f) h = absurd h
@@ -90,13 +87,13 @@ module _ (bounds : Bounds) (workers : ℕ) (w : WorldSeen) (cliques : List ℕ) 
   decided_looks thm (answer.Undecided c) h = absurd h
   decided_looks thm (answer.ByCases v) h = absurd h
 
-  verdicts_look : (thms : List TheoremSeen) (vs : List Verdict) → AreProperVerdicts bounds w thms vs → AreProperVerdicts others later thms vs
+  verdicts_look : (thms : List TheoremSeen) (vs : List Verdict) → AreProperVerdicts bounds w thms vs → AreProperVerdicts bounds later thms vs
   verdicts_look [] [] h = tt
   verdicts_look (thm ∷ thms) (v ∷ vs) h = (verdict_looks (decided_theorem thm) v h.0, verdicts_look thms vs h.1)
   verdicts_look [] (v ∷ vs) h = absurd h
   verdicts_look (thm ∷ thms) [] h = absurd h
 
-  settled_looks : (thm : ParamSeen) (a : Answer) → IsSettled bounds w thm a → IsSettled others later thm a
+  settled_looks : (thm : ParamSeen) (a : Answer) → IsSettled bounds w thm a → IsSettled bounds later thm a
   settled_looks thm (answer.ByCases v) h = record {
     cover = h.cover;
     cases = h.cases;
@@ -122,7 +119,7 @@ module _ (bounds : Bounds) (workers : ℕ) (w : WorldSeen) (cliques : List ℕ) 
   named_looks f (answer.Decided v) h = absurd h
   named_looks f (answer.ByCases v) h = absurd h
 
-  answer_looks : (memoized : List ℕ) (e : EventSeen) (a : Answer) → IsProperAnswer bounds w memoized e a → IsProperAnswer others later memoized e a
+  answer_looks : (memoized : List ℕ) (e : EventSeen) (a : Answer) → IsProperAnswer bounds w memoized e a → IsProperAnswer bounds later memoized e a
   answer_looks memoized (Value t) a h = value_answer_looks memoized t a h
   answer_looks memoized (Defconst name t) a h = value_answer_looks memoized t a h
   answer_looks memoized (Assert t) a h = truth_answer_looks memoized t a h
@@ -137,16 +134,12 @@ module _ (bounds : Bounds) (workers : ℕ) (w : WorldSeen) (cliques : List ℕ) 
   answer_looks memoized (Clique ds) a h = h
   answer_looks memoized (RedundantClique names) a h = h
 
-  pub answers_look : (jobs : List JobSeen) (given : List Answer) → AreAnswered bounds w jobs given → AreAnswered others later jobs given
+  pub answers_look : (jobs : List JobSeen) (given : List Answer) → AreAnswered bounds w jobs given → AreAnswered bounds later jobs given
   answers_look [] [] h = tt
   answers_look (j ∷ js) (a ∷ given) h = (answer_looks j.memoized j.event a h.0, answers_look js given h.1)
   answers_look [] (a ∷ given) h = absurd h
   answers_look (j ∷ js) [] h = absurd h
 
--- the answers of jobs that have one worker each are proper for any number
-pub with_all_workers : (bounds : Bounds) (w : WorldSeen) (jobs : List JobSeen) (given : List Answer) → AreAnswered (with_one_worker bounds) w jobs given → AreAnswered bounds w jobs given
-with_all_workers bounds w jobs given h = answers_look (with_one_worker bounds) bounds.workers w w.cliques w.events jobs given h
-
 -- an answer that is proper for the world behind a noted event is proper for the world before it
 pub before_event : (bounds : Bounds) (w : WorldSeen) (events : List (ℕ × Object)) (jobs : List JobSeen) (given : List Answer) → AreAnswered bounds (record w { events = events }) jobs given → AreAnswered bounds w jobs given
-before_event bounds w events jobs given h = answers_look bounds bounds.workers (record w { events = events }) w.cliques w.events jobs given h
+before_event bounds w events jobs given h = answers_look bounds (record w { events = events }) w.cliques w.events jobs given h

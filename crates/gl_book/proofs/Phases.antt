@@ -16,11 +16,6 @@ use Rattle.gl_book.specs.declared.piece.Piece.{Piece}
 pub all_at : {A : Type 0} (P : A → Type 0) (xs : List A) (i : ℕ) (x : A) → All P xs → slice_get xs i ≡ Some x → P x
 all_at P xs i x h at = subst P (get_or_from_slice_get xs i x x at) (All-get_or P xs i x (slice_get_within xs i x at) h)
 
-pub every_at : {A : Type 0} (P : A → Type 0) (xs : List A) (i : ℕ) (x : A) → Every P xs → slice_get xs i ≡ Some x → P x
-every_at P [] i x h e = absurd cc
-every_at P (y ∷ ys) zero x h e = let z : y ≡ x = cc in subst P z h.0
-every_at P (y ∷ ys) (suc i) x h e = every_at P ys i x h.1 e
-
 -- the last element of a list is one
 last_unique : {A : Type 0} (xs ys : List A) (x y : A) → xs ++ x ∷ [] ≡ ys ++ y ∷ [] → (xs ≡ ys) × (x ≡ y)
 last_unique [] [] x y e = (refl, cc)

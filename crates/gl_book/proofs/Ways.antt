@@ -12,13 +12,16 @@ use Rattle.event_world.specs.EventSeen.{EventSeen, Nothing, Redundant, Defun, De
 use Rattle.event_world.specs.NextState.{BookState, next_state}
 use Rattle.gl_decide.specs.Bounds.{Bounds}
 use Rattle.gl_decide.specs.Stalls.{StallSeen}
-use Rattle.gl_book.specs.Answers.{IsAnswerable, IsProperAnswer}
+use Rattle.gl_book.specs.Answers.{IsProperAnswer}
+use Rattle.book_state.specs.Answerable.{IsAnswerable}
 use Rattle.gl_book.specs.Courses.{EndsPhase, EndsPhaseByFront, Follows, HasRoomFor, Leads, LeadsPast, LeadsPastToFront, LeadsToFront, Place, Stands, place_at, counts_after}
 use Rattle.gl_book.specs.Lines.{event_lines, mark_line}
 use Rattle.gl_book.specs.Entry.{stalls_of}
-use Rattle.gl_book.specs.Phases.{JobSeen, AreAnswered, IsFollowed, ends_phase, is_job, jobs_of, new_job, state_noted}
+use Rattle.gl_book.specs.Phases.{JobSeen, AreAnswered, IsFollowed, ends_phase, jobs_of, new_job}
+use Rattle.book_state.specs.States.{is_job, state_noted}
 use Rattle.gl_book.specs.Stops.{counts_with, told_before}
-use Rattle.gl_book.specs.Walk.{event_in, refusal_at, refused_cause, state_after}
+use Rattle.gl_book.specs.Walk.{refusal_at, refused_cause, state_after}
+use Rattle.book_state.specs.States.{event_in}
 use Rattle.gl_book.specs.declared.answer.Answer.{Answer}
 use Rattle.gl_book.specs.declared.answer.Cause.{Cause}
 use Rattle.gl_book.specs.declared.answer.Cause.TheVariants as cause

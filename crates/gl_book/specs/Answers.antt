@@ -97,34 +97,3 @@ IsProperAnswer bounds w memoized (Unmemoize f) a = IsFunctionNamed w f a
 IsProperAnswer bounds w memoized (Theorem thm) a = IsDecided bounds w thm a
 IsProperAnswer bounds w memoized (Cases thm) a = IsSettled bounds w thm a
 IsProperAnswer bounds w memoized _ a = IsDone a
-
--- ---- events that can be answered
--- its terms and its functions are the world's, and the bindings have all variables of its terms
-pub record IsReadyTheorem (definitions : List Definition) (thm : TheoremSeen) : Type 0 where
-  pub hyp : IsTermOf definitions thm.hyp
-  pub concl : IsTermOf definitions thm.concl
-  pub functions : All (λ f. f < length definitions) thm.memoized
-  pub bound : AllAreBound thm.hyp thm.concl thm.bindings
-
--- each part is ready, and the parts belong together
-pub record IsReadyParam (definitions : List Definition) (thm : ParamSeen) : Type 0 where
-  pub cover : IsReadyTheorem definitions thm.cover
-  pub cases : Every (IsReadyTheorem definitions) thm.cases
-  pub parts : IsByCases thm
-  pub few : length thm.cases ≤ 64
-
--- the terms and the functions of an event are those of these definitions
-abbrev pub IsOfDefinitions : List Definition → EventSeen → Type 0
-IsOfDefinitions definitions (Value t) = IsTermOf definitions t
-IsOfDefinitions definitions (Defconst name t) = IsTermOf definitions t
-IsOfDefinitions definitions (Assert t) = IsTermOf definitions t
-IsOfDefinitions definitions (Memoize f) = f < length definitions
-IsOfDefinitions definitions (Unmemoize f) = f < length definitions
-IsOfDefinitions definitions (Theorem thm) = IsReadyTheorem definitions thm
-IsOfDefinitions definitions (Cases thm) = IsReadyParam definitions thm
-IsOfDefinitions definitions _ = Unit {0}
-
--- and so are the functions whose calls are kept at its place
-pub record IsAnswerable (definitions : List Definition) (memoized : List ℕ) (e : EventSeen) : Type 0 where
-  pub functions : All (λ f. f < length definitions) memoized
-  pub event : IsOfDefinitions definitions e

@@ -16,7 +16,8 @@ use Rattle.gl_book.specs.Entry.{Entry, Answered, Marked, Refused, stalls_of, sta
 use Rattle.gl_book.specs.Lines.{entry_lines, event_lines, counts_of, is_refusal}
 use Rattle.gl_book.specs.Phases.{JobSeen, IsFollowed, CanBeAnswered, AreAnswered, jobs_of}
 use Rattle.gl_book.specs.Stops.{Keeps, KeepsFront, told_before, counts_with, WritesWalkFront}
-use Rattle.gl_book.specs.Walk.{CanGoOn, Walk}
+use Rattle.gl_book.specs.Walk.{Walk}
+use Rattle.book_state.specs.States.{CanGoOn}
 use Rattle.gl_book.specs.declared.answer.Answer.{Answer}
 use Rattle.gl_book.specs.declared.answer.Answer.TheVariants as answer
 use Rattle.gl_book.specs.declared.counts.Counts.{Counts}

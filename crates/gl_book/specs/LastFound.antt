@@ -2,7 +2,7 @@
 use Rattle.std.specs.Prelude.{ℕ, List}
 use Rattle.event_world.specs.Seen.{theorem_seen}
 use Rattle.gl_decide.specs.Bounds.{Bounds}
-use Rattle.gl_book.specs.Answers.{IsReadyTheorem}
+use Rattle.book_state.specs.Answerable.{IsReadyTheorem}
 use Rattle.gl_book.specs.Lasts.{HasNone, IsLastOf}
 use Rattle.gl_book.specs.declared.last.Last.{Last}
 use Rattle.gl_book.specs.declared.last.Last.TheVariants as last

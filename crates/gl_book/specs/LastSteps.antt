@@ -13,10 +13,12 @@ use Rattle.event_world.specs.EventSeen.{EventSeen, Theorem}
 use Rattle.event_world.specs.NextState.{BookState}
 use Rattle.event_world.specs.Seen.{theorem_seen}
 use Rattle.gl_decide.specs.Bounds.{Bounds}
-use Rattle.gl_book.specs.Answers.{IsProperAnswer, IsReadyTheorem}
+use Rattle.gl_book.specs.Answers.{IsProperAnswer}
+use Rattle.book_state.specs.Answerable.{IsReadyTheorem}
 use Rattle.gl_book.specs.Entry.{Entry, Answered, Refused}
 use Rattle.gl_book.specs.Lasts.{is_refused, is_theorem, is_theorem_event, state_behind}
-use Rattle.gl_book.specs.Walk.{Walk, event_in, refused_cause, state_after}
+use Rattle.gl_book.specs.Walk.{Walk, refused_cause, state_after}
+use Rattle.book_state.specs.States.{event_in}
 use Rattle.gl_book.specs.declared.answer.Answer.{Answer}
 use Rattle.gl_book.specs.declared.last_step.Kept.{Kept}
 use Rattle.gl_book.specs.declared.last_step.Step.{Step}

@@ -12,8 +12,10 @@ use Rattle.event_world.specs.NextState.{BookState}
 use Rattle.gl_decide.specs.Bounds.{Bounds}
 use Rattle.gl_book.specs.Entry.{Entry, Answered}
 use Rattle.gl_book.specs.Lines.{is_refusal}
-use Rattle.gl_book.specs.Transcript.{ComesOf, IsReadBy}
-use Rattle.gl_book.specs.Walk.{IsFirstState, Walk, state_after}
+use Rattle.gl_book.specs.Transcript.{ComesOf}
+use Rattle.book_state.specs.Reading.{IsReadBy}
+use Rattle.gl_book.specs.Walk.{Walk, state_after}
+use Rattle.book_state.specs.States.{IsFirstState}
 use Rattle.gl_book.specs.declared.answer.Answer.{Answer}
 
 -- ---- entries

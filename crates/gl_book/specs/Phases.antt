@@ -8,7 +8,9 @@ use Rattle.event_world.specs.EventSeen.{EventSeen, Defun, Defconst, Value, Asser
 use Rattle.event_world.specs.NextState.{BookState, next_state}
 use Rattle.event_world.specs.Seen.{event_seen}
 use Rattle.gl_decide.specs.Bounds.{Bounds}
-use Rattle.gl_book.specs.Answers.{IsAnswerable, IsProperAnswer}
+use Rattle.book_state.specs.States.{is_job}
+use Rattle.gl_book.specs.Answers.{IsProperAnswer}
+use Rattle.book_state.specs.Answerable.{IsAnswerable}
 use Rattle.gl_book.specs.declared.answer.Answer.{Answer}
 use Rattle.gl_book.specs.declared.job.Job.{Job}
 use Rattle.gl_book.specs.declared.piece.Piece.{Piece}
@@ -17,24 +19,12 @@ use Rattle.gl_book.specs.Pieces.{run_of}
 use Rattle.gl_logic.specs.declared.ids.NoMemory.{NoMemory}
 
 -- ---- kinds of events
--- its answer changes no state, so it may come later
-abbrev pub is_job : EventSeen → Bool
-is_job (Value t) = true
-is_job (Assert t) = true
-is_job (Theorem thm) = true
-is_job (Cases thm) = true
-is_job _ = false
-
 -- it changes the definitions or the constants that later answers rest on
 abbrev pub ends_phase : EventSeen → Bool
 ends_phase (Defun d) = true
 ends_phase (Clique ds) = true
 ends_phase (Defconst name t) = true
 ends_phase _ = false
-
--- the state behind a job, whatever its answer
-abbrev pub state_noted : BookState → Object → EventSeen → BookState
-state_noted s form e = next_state s form e nil
 
 -- ---- jobs
 -- an event, the functions whose calls are kept at its place, and the lines of the events behind it, up to the next job
@@ -85,7 +75,3 @@ abbrev pub Joins : List (Result (Vec Answer Global) NoMemory) → List Answer �
 Joins [] given = given ≡ []
 Joins (Ok v ∷ rs) given = (rest : List Answer) × (given ≡ v.items ++ rest) × Joins rs rest
 Joins (Err e ∷ rs) given = ⊥
-
--- the limits of a job that shares its phase
-abbrev pub with_one_worker : Bounds → Bounds
-with_one_worker bounds = record bounds { workers = 1 }

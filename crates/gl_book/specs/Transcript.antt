@@ -19,23 +19,18 @@ use Rattle.book_shelf.specs.declared.item.Item.TheVariants as item
 use Rattle.book_shelf.specs.Listed.{Listing, finish_of}
 use Rattle.book_shelf.specs.Flat.{Lists, Book, most_bytes}
 use Rattle.book_shelf.specs.NumberedItems.{IsNumberedItem}
+use Rattle.book_state.specs.Reading.{IsReadBy}
 use Rattle.event_world.specs.NextState.{BookState}
 use Rattle.gl_book.specs.Entry.{Entry, Refused, stalls_in}
 use Rattle.gl_book.specs.Lines.{transcript_lines, status_of}
-use Rattle.gl_book.specs.Walk.{IsFirstState, Walk}
+use Rattle.gl_book.specs.Walk.{Walk}
+use Rattle.book_state.specs.States.{IsFirstState}
 use Rattle.gl_book.specs.declared.refusal.Refusal.{Refusal}
 use Rattle.gl_book.specs.declared.refusal.RefusalCode.TheVariants as code
 
 -- ---- texts
 abbrev pub long_refusal : ℕ → ℕ → Refusal
 long_refusal line column = record { line = line; column = column; code = code.TooLong }
-
--- the forms of a text and its end, whose symbols and strings a table of texts numbers. The table has the empty text
-pub record IsReadBy (names : List (List ℕ)) (bytes : List ℕ) (forms : List Form) (end : End) : Type 0 where
-  pub table : IsTable names
-  pub empty : with_name names [] ≡ names
-  pub reads : Reads names bytes forms end
-  pub numbered : All (λ form. IsNumbered (length names) form.tree) forms
 
 -- what comes of a text: it is too long, or its forms are walked
 pub data ComesOf (names : List (List ℕ)) (bounds : Bounds) (bytes : List ℕ) : List Entry → Type 0 where

@@ -22,6 +22,7 @@ use Rattle.event_world.specs.Outcomes.{Outcome}
 use Rattle.event_world.specs.Prelude.{IsPrelude}
 use Rattle.event_world.specs.Suits.{HasAllGround}
 use Rattle.gl_decide.specs.Bounds.{Bounds}
+use Rattle.book_state.specs.States.{event_in}
 use Rattle.gl_book.specs.Answers.{IsProperAnswer}
 use Rattle.gl_book.specs.Entry.{Entry, Answered, Marked, Refused}
 use Rattle.gl_book.specs.declared.refusal.Refusal.{Refusal}
@@ -33,16 +34,6 @@ use Rattle.gl_book.specs.declared.answer.Cause.{Cause}
 use Rattle.gl_book.specs.declared.answer.Cause.TheVariants as cause
 
 -- ---- states
--- a book's first form stands behind the ground definitions alone, in BDD mode, with nothing memoized
-pub record IsFirstState (names : List (List ℕ)) (s : BookState) : Type 0 where
-  pub world : IsPrelude names s.world
-  pub mode : s.mode ≡ mode.Bdd
-  pub memoized : s.memoized ≡ []
-
--- the event that a form means in a state, or the code of its refusal
-abbrev pub event_in : List (List ℕ) → BookState → Object → Outcome EventSeen
-event_in names s form = event_meant names s.world s.mode s.memoized form
-
 -- the value that an answer gives
 abbrev pub value_in : Answer → Object
 value_in (answer.Value x) = x
@@ -50,11 +41,6 @@ value_in _ = nil
 
 abbrev pub state_after : BookState → Object → EventSeen → Answer → BookState
 state_after s form e a = next_state s form e (value_in a)
-
--- a state whose world has all ground definitions, and whose definitions are cliques of admissible ones, so that each term has a value
-pub record CanGoOn (s : BookState) : Type 0 where
-  pub ground : HasAllGround s.world
-  pub total : IsWorld s.world.definitions s.world.cliques
 
 -- ---- refusals
 -- a refusal at a form's place
@@ -100,23 +86,3 @@ pub data Walk (names : List (List ℕ)) (bounds : Bounds) : BookState → List I
   event : (s : BookState) (form : Form) (items : List Item) (end : Finish) (entries : List Entry) (e : EventSeen) (a : Answer) → event_in names s form.tree ≡ Ok e
       → IsProperAnswer bounds s.world s.memoized e a → refused_cause e a ≡ None → Walk names bounds (state_after s form.tree e a) items end entries
       → Walk names bounds s (item.Form form ∷ items) end (Answered e a ∷ entries)
-
--- ---- how a ghost value keeps a state
-abbrev pub mode_code : Mode → ℕ
-mode_code mode.Bdd = 0
-mode_code mode.Sat = 1
-mode_code mode.Param = 2
-
-abbrev pub mode_from : ℕ → Mode
-mode_from zero = mode.Bdd
-mode_from (suc zero) = mode.Sat
-mode_from _ = mode.Param
-
-abbrev pub mode_back : (m : Mode) → mode_from (mode_code m) ≡ m
-mode_back mode.Bdd = refl
-mode_back mode.Sat = refl
-mode_back mode.Param = refl
-
-abbrev pub coded_state : Coded BookState
-coded_state =
-    code_by (WorldSeen × (ℕ × List ℕ)) (coded× coded_world (coded× coded_ℕ (coded_list coded_ℕ))) (λ s. (s.world, (mode_code s.mode, s.memoized))) (λ p. record { world = p.0; mode = mode_from p.1.0; memoized = p.1.1 }) (λ s. λ i. record { world = s.world; mode = mode_back s.mode i; memoized = s.memoized })

@@ -7,7 +7,8 @@ ghost use Rattle.lisp_eval.specs.Machines.{AreFunctionsOf};
 ghost use Rattle.event_world.specs.Seen.{event_seen, theorem_seen};
 ghost use Rattle.gl_cases.specs.ParamMade.{param_seen};
 ghost use Rattle.gl_decide.specs.Bounds.{bounds_of};
-ghost use Rattle.gl_book.specs.Answers.{IsProperValue, IsProperTruth, IsFunctionNamed, IsDecided, IsSettled, IsProperAnswer, IsReadyParam, IsReadyTheorem, IsAnswerable};
+ghost use Rattle.gl_book.specs.Answers.{IsProperValue, IsProperTruth, IsFunctionNamed, IsDecided, IsSettled, IsProperAnswer};
+ghost use Rattle.book_state.specs.Answerable.{IsReadyParam, IsReadyTheorem, IsAnswerable};
 
 use super::cases::CasesVerdict;
 use super::decided::{decided, decided_by_cases};

@@ -4,7 +4,7 @@ ghost use Rattle.gl_cases.specs.ParamMade.{param_seen};
 ghost use Rattle.gl_cases.specs.TheoremSeen.{theorem_seen};
 ghost use Rattle.gl_decide.specs.Bounds.{bounds_of};
 ghost use Rattle.gl_decide.specs.Verdicts.{IsProperVerdict};
-ghost use Rattle.gl_book.specs.Answers.{IsReadyParam, IsReadyTheorem};
+ghost use Rattle.book_state.specs.Answerable.{IsReadyParam, IsReadyTheorem};
 ghost use Rattle.gl_book.specs.Cases.{IsDecidedByCases, decided_theorem};
 ghost use Rattle.std.specs.Prelude.{IfOk};
 

@@ -16,7 +16,8 @@ ghost use Rattle.gl_decide.specs.Stalls.{StallSeen};
 ghost use Rattle.gl_book.specs.Answers.{IsProperTruth, IsProperValue, IsTooLarge};
 ghost use Rattle.gl_book.specs.Completeness.{AgreeBut, IsFound, StaysWithin, refusal_in};
 ghost use Rattle.gl_book.specs.Entry.{Entry};
-ghost use Rattle.gl_book.specs.Transcript.{IsReadBy, IsTranscript, IsBookTranscript};
+ghost use Rattle.gl_book.specs.Transcript.{IsTranscript, IsBookTranscript};
+ghost use Rattle.book_state.specs.Reading.{IsReadBy};
 ghost use Rattle.gl_book.specs.Walk.{Walk};
 ghost use Rattle.gl_book.specs.declared.answer.Answer.{Answer as AnswerSeen};
 

@@ -1,7 +1,5 @@
 //! A book's events, from its bytes, or from the list of it and of the books that it includes, to its transcript.
 //!
-//! - forms to events: `state`, what stands behind the events so far, and what the next form means there, by `members` and
-//!   `functions`;
 //! - events to answers: `answer`, `evaluated`, `decided`, and `cases`, what the parts of a theorem by cases come to;
 //! - a large book made from a number: `generator`;
 //! - jobs, whose answers may come later: `waiting`, a list of `job`; their answers by any number of workers, `phase`, by
@@ -22,7 +20,6 @@ mod counts;
 mod decided;
 mod ending;
 mod evaluated;
-mod functions;
 mod gather;
 mod generator;
 mod job;
@@ -33,7 +30,6 @@ mod line_list;
 mod lines;
 mod marks;
 mod measure_words;
-mod members;
 mod phase;
 mod piece;
 mod pieces;
@@ -43,7 +39,6 @@ mod put_lines;
 mod refusal;
 mod run;
 mod settle;
-mod state;
 mod stop;
 mod task;
 mod untried;

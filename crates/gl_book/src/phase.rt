@@ -2,7 +2,7 @@
 
 ghost use Rattle.std.specs.Prelude.{◌≡◌, ◌<◌, ◌≤◌, ℕ, All, IfOk, length, vec_len, slice_index_or};
 ghost use Rattle.gl_decide.specs.Bounds.{bounds_of};
-ghost use Rattle.gl_book.specs.Phases.{AreAnswered, CanBeAnswered, IsAnsweredBy, IsPieceAnswered, IsWithin, Joins, jobs_of, with_one_worker};
+ghost use Rattle.gl_book.specs.Phases.{AreAnswered, CanBeAnswered, IsAnsweredBy, IsPieceAnswered, IsWithin, Joins, jobs_of};
 ghost use Rattle.gl_book.specs.Tasks.{task_seen, tasks_in};
 ghost use Rattle.gl_book.specs.declared.piece.Piece.{Piece as PieceSeen};
 
@@ -26,7 +26,7 @@ use std::thread::{self, Threads};
 ///
 /// # Errors
 ///
-/// `NoMemory` where memory was refused outside a task, and for more than 4,294,967,295 tasks, which no book has.
+/// `NoMemory` where memory was refused outside a task.
 pub(crate) fn phase_answers<R: Threads + Sync, G: Gate>(
     rt: &R,
     alloc: Global,
@@ -109,17 +109,15 @@ fn many_answers<R: Threads + Sync, G: Gate>(
     requires answerable { All (CanBeAnswered world.now.definitions) (tasks_in tasks.now) }
     ensures { IfOk result (λ v. AreAnswered (bounds_of limits.now) world.now (tasks_in tasks.now) v.items) }
 {
-    let Ok(count) = u32::try_from(tasks.len()) else {
-        return Err(NoMemory);
-    };
-    let pieces = pieces_of(alloc, count, u32::from(limits.workers))?;
+    let pieces = pieces_of(alloc, tasks.len(), u64::from(limits.workers))?;
     let parts = answers_by_piece(rt, alloc, world, tasks, &alone(limits), gate, pieces)?;
     joined(alloc, parts)
 }
 
 /// Limits with one worker.
 fn alone(limits: &Limits) -> Limits
-    ensures { bounds_of result ≡ with_one_worker (bounds_of limits.now) }
+    ensures same { bounds_of result ≡ bounds_of limits.now }
+    ensures one { result.workers ≡ 1 }
 {
     Limits {
         steps: limits.steps,
@@ -170,7 +168,7 @@ fn piece_answers<R: Threads + Sync, G: Gate>(
     let mut answers = Vec::new(alloc);
     for number in piece.first..piece.end {
         gate.enter(number);
-        let answer = task_answer(rt, alloc, world, tasks.at(u64::from(number)), limits);
+        let answer = task_answer(rt, alloc, world, tasks.at(number), limits);
         answers.push(answer)?;
     }
     Ok(answers)

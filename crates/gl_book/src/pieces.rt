@@ -9,7 +9,7 @@ use std::alloc::Global;
 
 /// The pieces of a phase of so many jobs for so many workers: as many as there are workers, or jobs where they are
 /// fewer. Each has as many jobs as the next, or one more or less, and begins where the one before it ends.
-pub(crate) fn pieces_of(alloc: Global, count: u32, workers: u32) -> Result<Vec<Piece>, NoMemory>
+pub(crate) fn pieces_of(alloc: Global, count: u64, workers: u64) -> Result<Vec<Piece>, NoMemory>
     requires some { 1 ≤ count }
     requires one { 1 ≤ workers }
     requires eight { workers ≤ 8 }
@@ -28,10 +28,10 @@ pub(crate) fn pieces_of(alloc: Global, count: u32, workers: u32) -> Result<Vec<P
 }
 
 /// How many of so many jobs the first k of so many parts have.
-fn share(count: u32, parts: u32, k: u32) -> u32
+fn share(count: u64, parts: u64, k: u64) -> u64
     requires some { 1 ≤ parts }
     requires within { k ≤ parts }
     ensures { result ≡ k * count / parts }
 {
-    (u64::from(k) * u64::from(count) / u64::from(parts)) as u32
+    (u128::from(k) * u128::from(count) / u128::from(parts)) as u64
 }

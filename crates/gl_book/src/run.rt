@@ -15,10 +15,10 @@ ghost use Rattle.gl_book.specs.Stops.{EndsBy, status_from, IsCounted, IsReported
 
 use super::counts::Counts;
 use super::refusal::{Refusal, RefusalCode};
-use super::state::State;
 use super::stop::Stop;
 use super::walk::{close, walk};
 use book_shelf::{Library, LoadEnd, load};
+use book_state::State;
 use gl_base::limits::Limits;
 use gl_base::shelf::Shelf;
 use gl_base::sink::Sink;

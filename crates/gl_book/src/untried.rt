@@ -3,7 +3,8 @@
 ghost use Rattle.std.specs.Prelude.{◌≡◌};
 ghost use Rattle.event_world.specs.Seen.{event_seen};
 ghost use Rattle.gl_decide.specs.Bounds.{bounds_of};
-ghost use Rattle.gl_book.specs.Answers.{IsAnswerable, IsProperAnswer};
+ghost use Rattle.gl_book.specs.Answers.{IsProperAnswer};
+ghost use Rattle.book_state.specs.Answerable.{IsAnswerable};
 ghost use Rattle.gl_book.specs.Walk.{value_in};
 
 use super::answer::{Answer, Cause, name_answer, value_answer};

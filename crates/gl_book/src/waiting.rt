@@ -6,12 +6,12 @@ ghost use Rattle.gl_book.specs.Lines.{event_lines, mark_line};
 ghost use Rattle.gl_book.specs.Phases.{job_seen, jobs_of, new_job, IsFollowed};
 
 use super::answer::Answer;
-use super::functions::copy_of;
 use super::job::Job;
 use super::line_list::Lines;
 use super::lines::add_event_lines;
 use super::marks::add_mark;
 use book_shelf::Mark;
+use book_state::copy_of;
 use event_world::Event;
 use gl_logic::{NoMemory, Texts};
 use shape_spec::FnSet;

@@ -7,11 +7,11 @@ use Rattle.sexp_reader.specs.declared.ends.End.{End}
 use Rattle.book_shelf.specs.declared.finish.Finish.TheVariants.{Clean}
 use Rattle.event_world.specs.Seen.{theorem_seen}
 use Rattle.gl_decide.specs.Bounds.{bounds_of}
-use Rattle.gl_book.specs.Transcript.{IsReadBy}
+use Rattle.book_state.specs.Reading.{IsReadBy}
 use Rattle.gl_book.specs.Lasts.{IsLastOf}
 use Rattle.gl_book.specs.LastSteps.{IsWalkedTo}
 use Rattle.gl_book.specs.declared.last_step.Kept.{Kept}
-use Rattle.gl_book.proofs.FirstStates.{later_first, still_empty}
+use Rattle.book_state.proofs.FirstStates.{later_first, still_empty}
 use Rattle.gl_book.proofs.Lasts.{last_there, none_bad, none_there, ready_there, total_there}
 use Rattle.gl_book.proofs.last.last_of.Goals as goal
 

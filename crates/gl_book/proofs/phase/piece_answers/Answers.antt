@@ -1,5 +1,4 @@
-use Rattle.std.proofs.Common.{◌≡◌, ◌≤◌, ◌-◌, ◌+◌, ◌∙◌, ap, sym, subst, take, drop, List, ℕ, arith, Some}
-use Rattle.std.specs.Prelude.{slice_get}
+use Rattle.std.proofs.Common.{◌≡◌, ◌≤◌, ◌-◌, ◌+◌, ◌∙◌, ap, sym, subst, take, drop, List, ℕ, arith}
 use Rattle.gl_decide.specs.Bounds.{bounds_of}
 use Rattle.gl_book.specs.Phases.{AreAnswered, CanBeAnswered}
 use Rattle.gl_book.specs.Tasks.{task_seen, tasks_in}
@@ -13,7 +12,7 @@ loop-number-init g c =
     (answered_none (bounds_of c.args.limits.now) c.args.world.now (drop c.args.piece.first (tasks_in c.args.tasks.now)) c.args.piece.first)
 
 pub task_answer-answer-requires-after_bounds : goal.task_answer-answer-requires-after_bounds
-task_answer-answer-requires-after_bounds g c κs within = (all_at (CanBeAnswered c.args.world.now.definitions) (tasks_in c.args.tasks.now) c.loop-number.number (task_seen c.at.result.now) c.requires.answerable (subst (λ (n : ℕ). slice_get (tasks_in c.args.tasks.now) n ≡ Some (task_seen c.at.result.now)) c.from.ensures c.at.ensures))
+task_answer-answer-requires-after_bounds g c κs within = (all_at (CanBeAnswered c.args.world.now.definitions) (tasks_in c.args.tasks.now) c.loop-number.number (task_seen c.at.result.now) c.requires.answerable c.at.ensures)
 
 pub loop-number-preserved : goal.loop-number-preserved
 loop-number-preserved g c =
@@ -21,9 +20,8 @@ loop-number-preserved g c =
     let first = c.args.piece.first in
     let n = c.loop-number.number in
     let after : first ≤ n = omega (arith, c.loop-number.auto.number) in
-    let at : slice_get jobs n ≡ Some (task_seen c.at.result.now) = subst (λ (m : ℕ). slice_get jobs m ≡ Some (task_seen c.at.result.now)) c.from.ensures c.at.ensures in
     subst (λ (answers : List Answer). AreAnswered (bounds_of c.args.limits.now) c.args.world.now (take (n + 1 - first) (drop first jobs)) answers) (sym c.in_ok-push.ensures.items)
-    (answered_next (bounds_of c.args.limits.now) c.args.world.now jobs first n (task_seen c.at.result.now) c.loop-number.answers.items c.task_answer-answer.result after at c.loop-number.invariant c.task_answer-answer.ensures)
+    (answered_next (bounds_of c.args.limits.now) c.args.world.now jobs first n (task_seen c.at.result.now) c.loop-number.answers.items c.task_answer-answer.result after c.at.ensures c.loop-number.invariant c.task_answer-answer.ensures)
 
 pub returns : goal.returns
 returns g c =

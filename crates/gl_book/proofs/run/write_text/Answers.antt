@@ -1,9 +1,10 @@
 use Rattle.std.proofs.Common.{sym, refl, [], append-nil}
 use Rattle.gl_decide.specs.Bounds.{bounds_of}
-use Rattle.gl_book.specs.Transcript.{IsReadBy, IsTranscript}
-use Rattle.gl_book.specs.Walk.{IsFirstState}
+use Rattle.gl_book.specs.Transcript.{IsTranscript}
+use Rattle.book_state.specs.Reading.{IsReadBy}
+use Rattle.book_state.specs.States.{IsFirstState}
 use Rattle.gl_book.proofs.Ends.{walked, walk_reported, text_told, nothing_written}
-use Rattle.gl_book.proofs.FirstStates.{later_first, still_empty}
+use Rattle.book_state.proofs.FirstStates.{later_first, still_empty}
 use Rattle.gl_book.proofs.run.write_text.Goals as goal
 
 pub walk-requires-clause-empty : goal.walk-requires-clause-empty

@@ -4,7 +4,8 @@ use Rattle.event_world.specs.declared.event.Event.{Event}
 use Rattle.gl_cases.specs.ParamMade.{param_seen}
 use Rattle.gl_decide.specs.Bounds.{bounds_of}
 use Rattle.gl_decide.specs.declared.verdict.Verdict.TheVariants as verdict
-use Rattle.gl_book.specs.Answers.{IsOfDefinitions, IsProperAnswer}
+use Rattle.gl_book.specs.Answers.{IsProperAnswer}
+use Rattle.book_state.specs.Answerable.{IsOfDefinitions}
 use Rattle.gl_book.specs.declared.answer.Answer.TheVariants as answer
 use Rattle.gl_book.specs.declared.cases.CasesVerdict.TheVariants as whole
 use Rattle.gl_book.proofs.PartsDecided.{memory_decides}

@@ -4,7 +4,8 @@ use Rattle.book_shelf.specs.declared.item.Item.TheVariants as item
 use Rattle.gl_decide.specs.Bounds.{bounds_of}
 use Rattle.event_world.specs.Seen.{event_seen}
 use Rattle.gl_book.specs.Courses.{place_at}
-use Rattle.gl_book.specs.Phases.{ends_phase, is_job, jobs_of}
+use Rattle.gl_book.specs.Phases.{ends_phase, jobs_of}
+use Rattle.book_state.specs.States.{is_job}
 use Rattle.gl_book.proofs.Joined.{on_err}
 use Rattle.gl_book.proofs.Puts.{err_then}
 use Rattle.gl_book.proofs.Ways.{follows_past, front_past, phase_leads, phase_leads_front, phase_room, stays_front, then_front, then_past, waits_past}

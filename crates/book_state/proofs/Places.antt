@@ -42,7 +42,7 @@ use Rattle.gl_logic.specs.FreeVariables.{is_free_in}
 use Rattle.admission.proofs.Arguments.{eqb_turned}
 use Rattle.shape_spec.specs.Indices.{variables_of}
 use Rattle.coverage.specs.Sound.{AllAreBound}
-use Rattle.gl_book.specs.Answers.{IsOfDefinitions, IsReadyTheorem, IsAnswerable}
+use Rattle.book_state.specs.Answerable.{IsOfDefinitions, IsReadyTheorem, IsAnswerable}
 
 abbrev IsKeptBy : List ℕ → TheoremSeen → Type 0
 IsKeptBy memoized thm = thm.memoized ≡ memoized

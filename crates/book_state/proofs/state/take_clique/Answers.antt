@@ -1,6 +1,6 @@
 use Rattle.gl_logic.specs.WorldSeen.{definition_names}
-use Rattle.gl_book.proofs.Noting.{members_free, names_free, more_definitions}
-use Rattle.gl_book.proofs.state.take_clique.Goals as goal
+use Rattle.book_state.proofs.Noting.{members_free, names_free, more_definitions}
+use Rattle.book_state.proofs.state.take_clique.Goals as goal
 
 pub push_clique-requires-clause-free : goal.push_clique-requires-clause-free
 push_clique-requires-clause-free c = names_free c.args.world.now (definition_names c.args.defs) c.requires.suits.names

@@ -11,9 +11,9 @@ ghost use Rattle.event_world.specs.Seen.{event_seen, theorem_seen};
 ghost use Rattle.event_world.specs.EventWords.{behind_head};
 ghost use Rattle.event_world.specs.NextState.{next_state, next_world, with_members};
 ghost use Rattle.event_world.specs.Suits.{Suits, HasAllGround, IsNewClique, IsNewDefinition, IsNewName, IsNewTheorem};
-ghost use Rattle.gl_book.specs.Answers.{IsAnswerable};
-ghost use Rattle.gl_book.specs.Phases.{is_job, state_noted};
-ghost use Rattle.gl_book.specs.Walk.{IsFirstState, CanGoOn, event_in};
+ghost use Rattle.book_state.specs.Answerable.{IsAnswerable};
+ghost use Rattle.book_state.specs.States.{is_job, state_noted};
+ghost use Rattle.book_state.specs.States.{IsFirstState, CanGoOn, event_in};
 
 use super::functions::{add, remove};
 use super::members::note_members;
@@ -35,7 +35,7 @@ impl Model for State {
     ghost use Rattle.event_world.specs.NextState.{BookState};
     ghost use Rattle.event_world.specs.Suits.{HasAllGround};
     ghost use Rattle.lisp_eval.specs.Machines.{AreFunctionsOf};
-    ghost use Rattle.gl_book.specs.Walk.{coded_state};
+    ghost use Rattle.book_state.specs.States.{coded_state};
 
     ghost Value = { BookState };
 

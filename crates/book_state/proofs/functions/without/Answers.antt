@@ -1,7 +1,7 @@
 use Rattle.std.proofs.Common.{rules, ◌∙◌, ap, ◌++◌, ◌∷◌, [], not, eqb, ℕ}
-use Rattle.gl_book.proofs.Kept.{kept_more, left_more}
-use Rattle.gl_book.proofs.functions.without.Goals as goal
-use Rattle.gl_book.proofs.functions.without.Goals.{then-f-g+in_ok-push, else-f-g}
+use Rattle.book_state.proofs.Kept.{kept_more, left_more}
+use Rattle.book_state.proofs.functions.without.Goals as goal
+use Rattle.book_state.proofs.functions.without.Goals.{then-f-g+in_ok-push, else-f-g}
 
 pub loop-i-preserved : goal.loop-i-preserved
 loop-i-preserved c =

@@ -37,9 +37,9 @@ use Rattle.event_world.proofs.PreludeTables.{same_text, extends_same, extends_tw
 use Rattle.event_world.proofs.PreludeRows.{row, how_many_texts}
 use Rattle.event_world.proofs.PreludeParts.{Parts, parts_of, symbols_spelled}
 use Rattle.event_world.proofs.PreludeWorlds.{later_holds, is_prelude, none_held, apart_formals, all_apart, next_means, is_the_ground_one, is_admitted, its_title, its_variables, holds_more}
-use Rattle.gl_book.specs.Walk.{IsFirstState, CanGoOn}
-use Rattle.gl_book.specs.Transcript.{IsReadBy}
-use Rattle.gl_book.proofs.TextTables.{has_it, table, is_table, extends_table, still_there, table_numbers}
+use Rattle.book_state.specs.States.{IsFirstState, CanGoOn}
+use Rattle.book_state.specs.Reading.{IsReadBy}
+use Rattle.book_state.proofs.TextTables.{has_it, table, is_table, extends_table, still_there, table_numbers}
 
 -- ---- later tables
 holds_all : (names : List (List ℕ)) (w : WorldSeen) → IsPrelude names w → HoldsFirst 43 names w

@@ -1,7 +1,7 @@
 use Rattle.std.proofs.Common.{refl, []}
 use Rattle.event_world.proofs.PreludeTables.{extends_name}
-use Rattle.gl_book.proofs.FirstStates.{later_prelude}
-use Rattle.gl_book.proofs.state.State.new.Goals as goal
+use Rattle.book_state.proofs.FirstStates.{later_prelude}
+use Rattle.book_state.proofs.state.State.new.Goals as goal
 
 pub returns-clause-first : goal.returns-clause-first
 returns-clause-first c = record {

@@ -6,8 +6,8 @@ use Rattle.gl_logic.specs.DefinitionOf.{definition_of}
 use Rattle.gl_logic.specs.WorldSeen.{WorldSeen, with_event}
 use Rattle.event_world.specs.EventWords.{behind_head}
 use Rattle.event_world.specs.NextState.{with_members}
-use Rattle.gl_book.proofs.Noting.{Going, begin_noting, nothing_left, one_noted, tail_atom}
-use Rattle.gl_book.proofs.members.note_members.Goals as goal
+use Rattle.book_state.proofs.Noting.{Going, begin_noting, nothing_left, one_noted, tail_atom}
+use Rattle.book_state.proofs.members.note_members.Goals as goal
 
 pub loop-number-init : goal.loop-number-init
 loop-number-init c =

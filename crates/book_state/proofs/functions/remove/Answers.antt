@@ -1,6 +1,6 @@
 use Rattle.std.proofs.Common.{◌<◌, ℕ, List, All, not, eqb, sym, subst}
 use Rattle.std.proofs.lemmas.List.Elements.{All-filter}
-use Rattle.gl_book.proofs.functions.remove.Goals as goal
+use Rattle.book_state.proofs.functions.remove.Goals as goal
 
 pub returns-clause-among : goal.returns-clause-among
 returns-clause-among c n h =

@@ -1,5 +1,5 @@
 use Rattle.std.proofs.Common.{◌≡◌, take}
-use Rattle.gl_book.proofs.functions.copy_of.Given as goal
+use Rattle.book_state.proofs.functions.copy_of.Given as goal
 
 abbrev pub invariant-loop-i : goal.invariant-loop-i
 invariant-loop-i l = l.copy ≡ take l.i l.functions

@@ -3,9 +3,9 @@ use Rattle.std.specs.Prelude.{IfOk}
 use Rattle.event_world.specs.NextState.{BookState}
 use Rattle.event_world.specs.Seen.{event_seen}
 use Rattle.event_world.proofs.SuitedEvents.{given_has}
-use Rattle.gl_book.specs.Answers.{IsAnswerable}
-use Rattle.gl_book.proofs.Places.{answerable}
-use Rattle.gl_book.proofs.state.State.event.Goals as goal
+use Rattle.book_state.specs.Answerable.{IsAnswerable}
+use Rattle.book_state.proofs.Places.{answerable}
+use Rattle.book_state.proofs.state.State.event.Goals as goal
 
 pub returns-clause-answerable : goal.returns-clause-answerable
 returns-clause-answerable c =

@@ -17,7 +17,12 @@ use Rattle.sexp_print.proofs.Steps.{element_out}
 use Rattle.event_world.specs.EventWords.{behind_head}
 use Rattle.event_world.specs.NextState.{with_members}
 use Rattle.event_world.specs.Suits.{IsNewName}
-use Rattle.gl_book.proofs.Phases.{every_at}
+
+-- ---- lists
+pub every_at : {A : Type 0} (P : A → Type 0) (xs : List A) (i : ℕ) (x : A) → Every P xs → slice_get xs i ≡ Some x → P x
+every_at P [] i x h e = absurd cc
+every_at P (y ∷ ys) zero x h e = let z : y ≡ x = cc in subst P z h.0
+every_at P (y ∷ ys) (suc i) x h e = every_at P ys i x h.1 e
 
 -- ---- forms
 pub none_left : (w : WorldSeen) (ds : List Definition) (t : Object) → IsAtom t → with_members w ds t ≡ w

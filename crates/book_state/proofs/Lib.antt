@@ -1,0 +1,5 @@
+pub mod Kept
+pub mod Places
+pub mod Noting
+pub mod TextTables
+pub mod FirstStates
