@@ -5,15 +5,17 @@ use Rattle.std.specs.Str.Parse.{digits_value}
 use Rattle.clap.specs.Words.{App, Rule, Row, Text, new_app, new_rule, with_rule, first_of, matches_of, fault_of}
 use Rattle.clap.specs.declared.builder.ArgAction.TheVariants.{Set}
 use Rattle.gl_decide.specs.Bounds.{Bounds}
+use Rattle.gl.specs.declared.proof_part.ProofPart.{ProofPart}
+use Rattle.gl.specs.declared.proof_part.ProofPart.TheVariants.{Cnf, Log}
 
 -- ---- the words that are taken
 -- an option that takes one value
 abbrev pub option_rule : Text → Rule
 option_rule name = record (new_rule name) { long = Some name; action = Some Set }
 
--- seven such options, and the name of a book
+-- eight such options, and the name of a book
 unfoldable pub plain_app : App
-plain_app = with_rule (with_rule (with_rule (with_rule (with_rule (with_rule (with_rule (with_rule (new_app (codes "gl")) (option_rule (codes "workers"))) (option_rule (codes "steps"))) (option_rule (codes "cells"))) (option_rule (codes "nodes"))) (option_rule (codes "clauses"))) (option_rule (codes "enum-bits"))) (option_rule (codes "generate"))) (new_rule (codes "BOOK"))
+plain_app = with_rule (with_rule (with_rule (with_rule (with_rule (with_rule (with_rule (with_rule (with_rule (new_app (codes "gl")) (option_rule (codes "workers"))) (option_rule (codes "steps"))) (option_rule (codes "cells"))) (option_rule (codes "nodes"))) (option_rule (codes "clauses"))) (option_rule (codes "enum-bits"))) (option_rule (codes "generate"))) (option_rule (codes "proof"))) (new_rule (codes "BOOK"))
 
 -- the words are those behind the program's name, and there are no flags for help and version
 unfoldable pub gl_app : App
@@ -53,7 +55,13 @@ pub data Source : Type 0 where
   -- so many theorems of the generator
   Generated : ℕ → Source
 
+-- the number of workers, and the limits on which answers depend
+pub record Settings : Type 0 where
+  pub workers : ℕ
+  pub bounds : Bounds
+
 pub record Command : Type 0 where
+  pub workers : ℕ
   pub bounds : Bounds
   pub source : Source
 
@@ -76,10 +84,10 @@ clauses_from rows = option_number 100000 1 1000000 (first_of (codes "clauses") r
 abbrev pub enum_bits_from : List Row → Option ℕ
 enum_bits_from rows = option_number 12 0 16 (first_of (codes "enum-bits") rows)
 
-abbrev pub bounds_from : List Row → Option Bounds
-bounds_from rows =
+abbrev pub settings_from : List Row → Option Settings
+settings_from rows =
     option_and_then (λ workers. option_and_then (λ steps. option_and_then (λ cells. option_and_then (λ nodes. option_and_then (λ clauses. option_map (λ enum_bits.
-    record { workers = workers; steps = steps; cells = cells; nodes = nodes; clauses = clauses; enum_bits = enum_bits })
+    record { workers = workers; bounds = record { steps = steps; cells = cells; nodes = nodes; clauses = clauses; enum_bits = enum_bits } })
     (enum_bits_from rows)) (clauses_from rows)) (nodes_from rows)) (cells_from rows)) (steps_from rows)) (workers_from rows)
 
 -- exactly one of a book and a number of theorems is there
@@ -89,19 +97,38 @@ source_from None (Some text) = option_map Generated (number_within 0 10000 text)
 source_from _ _ = None
 
 abbrev pub command_from : List Row → Option Command
-command_from rows = option_and_then (λ bounds. option_map (λ source. record { bounds = bounds; source = source })
-    (source_from (first_of (codes "BOOK") rows) (first_of (codes "generate") rows))) (bounds_from rows)
-
--- the command that words make, where they make one
-abbrev pub command_of : List Text → Option Command
-command_of words = if is_empty (fault_of gl_app words) then command_from (matches_of gl_app words) else None
+command_from rows = option_and_then (λ settings. option_map (λ source. record { workers = settings.workers; bounds = settings.bounds; source = source })
+    (source_from (first_of (codes "BOOK") rows) (first_of (codes "generate") rows))) (settings_from rows)
 
 -- ---- what words ask for
 pub data Order : Type 0 where
   -- the transcript of a command
   Transcript : Command → Order
+  -- by these limits, this part of a proof of the last theorem of the book of this name
+  Proof : Bounds → Text → ProofPart → Order
   -- the judgement, by so many workers, on the texts of these names: a formula, and a log
   Judge : ℕ → Text → Text → Order
+
+-- the part of a proof that a text names
+abbrev pub part_named : Text → Option ProofPart
+part_named text = if bytes_eq text (codes "cnf") then Some Cnf else (if bytes_eq text (codes "log") then Some Log else None)
+
+-- a proof is one of a book
+abbrev pub proof_from : Source → Bounds → ProofPart → Option Order
+proof_from (Book name) bounds part = Some (Proof bounds name part)
+proof_from (Generated n) bounds part = None
+
+-- a command without a word for a part asks for a transcript
+abbrev pub order_by : Option Text → Command → Option Order
+order_by None command = Some (Transcript command)
+order_by (Some text) command = option_and_then (proof_from command.source command.bounds) (part_named text)
+
+abbrev pub order_from : List Row → Option Order
+order_from rows = option_and_then (order_by (first_of (codes "proof") rows)) (command_from rows)
+
+-- what words without `lrat` ask for
+abbrev pub command_of : List Text → Option Order
+command_of words = if is_empty (fault_of gl_app words) then order_from (matches_of gl_app words) else None
 
 -- both names are there
 abbrev pub judge_from : List Row → Option Order
@@ -118,4 +145,4 @@ is_lrat (w ∷ ws) = bytes_eq w (codes "lrat")
 
 -- what words ask for, where they ask for something
 abbrev pub order_of : List Text → Option Order
-order_of words = if is_lrat words then judge_of (drop 1 words) else option_map Transcript (command_of words)
+order_of words = if is_lrat words then judge_of (drop 1 words) else command_of words

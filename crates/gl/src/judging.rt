@@ -1,13 +1,13 @@
 //! The judgement on a formula and a log of a shelf, as a line.
 
-ghost use Rattle.std.specs.Prelude.{◌≡◌, ◌≢◌, ◌⊎◌, ◌≤◌, ℕ, take, string_bytes, IfOk, IfErr, IsErrOf, OnOk, OnErr};
-ghost use Rattle.gl_base.specs.Outside.{HasCause, Rose, Grows, GrowsByFront};
+ghost use Rattle.std.specs.Prelude.{◌≡◌, ◌≢◌, ◌⊎◌, ◌≤◌, ℕ, take, string_bytes, IfOk, IfErr, IsErrOf};
+ghost use Rattle.gl_base.specs.Outside.{Rose, Grows};
 ghost use Rattle.gl.specs.Judging.{IsSaid, WritesLine, judged_line, line_status};
 
 use crate::orders::Pair;
-use gl_base::failed::Failed;
+use crate::putting::put_text;
 use gl_base::shelf::Shelf;
-use gl_base::sink::{Sink, put_all};
+use gl_base::sink::Sink;
 use gl_base::status::Status;
 use lrat_tool::{Judgement, TextEnd, judge, read_text};
 use std::alloc::{AllocError, Global};
@@ -71,16 +71,6 @@ fn said_of<R: Threads + Sync, S: Shelf>(
     }
 }
 
-/// Hands over a line, and flushes.
-fn put_line<K: Sink>(line: &[u8], out: &mut K) -> Result<(), Failed>
-    ensures ok { OnOk result (Grows (K.written out.old) (K.written out.new) line.now) }
-    ensures front { OnErr result ((n : ℕ) × Grows (K.written out.old) (K.written out.new) (take n line.now)) }
-    ensures cause { HasCause (K.faults out.old) (K.faults out.new) result }
-{
-    put_all(out, line)?;
-    out.flush()
-}
-
 /// Writes the line of a judgement.
 fn put_judgement<K: Sink>(alloc: Global, judgement: Judgement, out: &mut K) -> Status
     ensures answer { (result ≡ line_status judgement) ⊎ (result ≡ Status.WriteFault) ⊎ (result ≡ Status.NoMemory) }
@@ -93,7 +83,7 @@ fn put_judgement<K: Sink>(alloc: Global, judgement: Judgement, out: &mut K) -> S
     let Ok(line) = line_of(alloc, judgement) else {
         return Status::NoMemory;
     };
-    match put_line(line.as_bytes(), out) {
+    match put_text(line.as_bytes(), out) {
         Ok(()) => status_of(judgement),
         Err(_) => Status::WriteFault,
     }

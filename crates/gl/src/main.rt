@@ -1,10 +1,14 @@
 //! `gl [options] BOOK`: a book's transcript on standard output. `gl [options] --generate N`: the last line of that of a
-//! generated book. `gl lrat [options] CNF LOG`: the judgement on a formula and a log.
+//! generated book. `gl [options] --proof cnf BOOK`, or `log`: a text of the proof of the book's last theorem.
+//! `gl lrat [options] CNF LOG`: the judgement on a formula and a log.
 #![tactic(auto)]
 
 mod adapters;
 mod judging;
 mod orders;
+mod proof_part;
+mod proving;
+mod putting;
 mod run;
 #[cfg(test)]
 mod tests;

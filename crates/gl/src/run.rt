@@ -8,10 +8,12 @@ ghost use Rattle.gl_book.specs.Generated.{generated};
 ghost use Rattle.gl.specs.Usage.{usage_line};
 ghost use Rattle.gl.specs.Words.{order_of};
 ghost use Rattle.gl.specs.CommandOf.{order_seen, source_seen, IsFew, IsWithin};
-ghost use Rattle.gl.specs.Runs.{Writes, WritesFrom, WritesJudgement, WritesOrder, IfTranscript, IfJudge};
+ghost use Rattle.gl.specs.Runs.{Writes, WritesFrom, WritesJudgement, WritesOrder, IfTranscript, IfProof, IfJudge};
+ghost use Rattle.gl.specs.Proving.{WritesProof};
 
 use crate::judging::run_judgement;
 use crate::orders::{Order, order_named};
+use crate::proving::run_proof;
 use crate::usage::refuse_words;
 use crate::words::{Command, Source};
 use gl_base::limits::Limits;
@@ -25,8 +27,8 @@ use std::thread::Threads;
 
 /// Does what the words ask for: reads the book and the books that it includes from the shelf, and then writes its transcript
 /// to the sink, each event's lines before the next form is looked at. With `--generate` the book is the generator's text, and
-/// the last line alone of its transcript is written. Behind `lrat` it reads a formula and a log from the shelf, and writes the
-/// line of the judgement on them.
+/// the last line alone of its transcript is written. With `--proof` it reads the book alone, and writes a text of the proof of
+/// its last theorem. Behind `lrat` it reads a formula and a log from the shelf, and writes the line of the judgement on them.
 ///
 /// Each line of the causes nodes and clauses adds its stall to `stalls`: what only a decision that ran out hands out.
 ///
@@ -53,6 +55,11 @@ pub fn run<R: Threads + Sync, S: Shelf, K: Sink>(
     // added, one for each line of the causes nodes and clauses, in order. Where the shelf does not tell a text's bytes, it
     // is so for some bytes.
     ensures transcript { IfTranscript (order_of (map string_bytes words.now)) (λ command. result ≢ Status.ReadFault → Writes command (S.holds shelf.old) (K.written out.old) (K.written out.new) stalls.old stalls.new result) }
+
+    // The words ask for a text of a proof: what was written is what is told of the last theorem of the book of this name, by
+    // one walk over its bytes, with this status and its stalls; a front of it where a write failed, and a front or nothing where
+    // memory was refused. Where the shelf does not tell the book's bytes, it is so for some bytes.
+    ensures proof { IfProof (order_of (map string_bytes words.now)) (λ bounds name part. result ≢ Status.ReadFault → WritesProof bounds part (S.holds shelf.old) name (K.written out.old) (K.written out.new) stalls.old stalls.new result) }
 
     // The words ask for a judgement on two texts: what was written is its line, with this status; a front of the line where a
     // write failed, and nothing where memory was refused. No stall was added.
@@ -94,6 +101,7 @@ fn run_order<R: Threads + Sync, S: Shelf, K: Sink>(
 {
     match order {
         Order::Transcript(command) => run_command(rt, alloc, command, shelf, stalls, out),
+        Order::Proof(proof) => run_proof(alloc, proof, shelf, stalls, out),
         Order::Judge(pair) => run_judgement(rt, alloc, pair, shelf, out),
     }
 }

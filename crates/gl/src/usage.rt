@@ -10,7 +10,7 @@ use gl_base::status::Status;
 
 /// How a command is written.
 const USAGE: &[u8] =
-    b"USAGE gl [--workers N] [--steps N] [--cells N] [--nodes N] [--clauses N] [--enum-bits N] (BOOK | --generate N) | gl lrat [--workers N] CNF LOG\n";
+    b"USAGE gl [--workers N] [--steps N] [--cells N] [--nodes N] [--clauses N] [--enum-bits N] [--proof cnf|log] (BOOK | --generate N) | gl lrat [--workers N] CNF LOG\n";
 
 /// Writes the usage line, and nothing else. No flush follows.
 pub fn refuse_words<K: Sink>(out: &mut K) -> Status

@@ -4,13 +4,11 @@ ghost use Rattle.std.specs.Prelude.{◌≡◌, ◌↔◌, ◌≢◌, ◌≤◌, 
 ghost use Rattle.std.specs.List.{list_all};
 ghost use Rattle.std.specs.Str.Parse.{digits_value};
 ghost use Rattle.clap.specs.Words.{app_of, with_rule, rule_of, fault_of, is_simple, is_simple_and_free, found_of, rows_of, matches_of, first_of};
-ghost use Rattle.gl_decide.specs.Bounds.{bounds_of};
-ghost use Rattle.gl.specs.Words.{gl_app, plain_app, option_rule, is_number as says_number, bounds_from, command_from, command_of, source_from, number_within, option_number};
-ghost use Rattle.gl.specs.CommandOf.{command_seen, source_seen, IsFew};
+ghost use Rattle.gl.specs.Words.{gl_app, plain_app, option_rule, is_number as says_number, settings_from, command_from, source_from, number_within, option_number};
+ghost use Rattle.gl.specs.CommandOf.{command_seen, settings_seen, source_seen, IsFew};
 
 use clap::error::ErrorKind as ClapKind;
 use clap::{Arg, ArgAction, ArgMatches};
-use gl_base::failed::NoMemory;
 use gl_base::limits::Limits;
 use std::alloc::{AllocError, Global};
 use std::env;
@@ -93,6 +91,7 @@ fn plain_command<'a>(alloc: Global) -> Result<clap::Command<'a>, AllocError>
     let command = with_option(alloc, command, "clauses")?;
     let command = with_option(alloc, command, "enum-bits")?;
     let command = with_option(alloc, command, "generate")?;
+    let command = with_option(alloc, command, "proof")?;
     command.arg(Arg::new(alloc, "BOOK"))
 }
 
@@ -117,7 +116,9 @@ fn is_known()
 {}
 
 /// What the words give to each option.
-fn matched<'a>(alloc: Global, words: &'a [String]) -> Result<ArgMatches<'a>, WordsEnd>
+///
+/// What words mean is `clap`'s meaning of eight options that each take one value, and one optional positional.
+pub(crate) fn matched<'a>(alloc: Global, words: &'a [String]) -> Result<ArgMatches<'a>, WordsEnd>
     ensures usage { IsErrOf result WordsEnd.Usage → fault_of gl_app (map string_bytes words.entry.now) ≢ [] }
     ensures exact { IfOk result (λ m. fault_of gl_app (map string_bytes words.entry.now) ≡ []) }
     ensures rows { IfOk result (λ m. rows_of (found_of m) ≡ matches_of gl_app (map string_bytes words.entry.now)) }
@@ -222,7 +223,7 @@ pub(crate) fn number_of(
 
 /// The limits of a run, where each option is in its range.
 fn limits_of(matches: &ArgMatches) -> Option<Limits>
-    ensures { option_map bounds_of result ≡ bounds_from (rows_of (found_of matches.now)) }
+    ensures { option_map settings_seen result ≡ settings_from (rows_of (found_of matches.now)) }
 {
     let workers = number_of(matches, "workers", 1, 1, 8)?;
     let steps = number_of(matches, "steps", 10_000_000, 1, 99_999_999)?;
@@ -252,29 +253,13 @@ fn source_of<'a>(matches: &ArgMatches<'a>) -> Option<Source<'a>>
     }
 }
 
-fn command_in<'a>(matches: &ArgMatches<'a>) -> Option<Command<'a>>
+/// The command that matches make: exactly one of the positional and `--generate` has to be there, and each number is one to
+/// eight decimal digits in its range.
+pub(crate) fn command_in<'a>(matches: &ArgMatches<'a>) -> Option<Command<'a>>
     ensures command { option_map command_seen result ≡ command_from (rows_of (found_of matches.now)) }
     ensures few { IfSome result (λ c. IsFew c.source) }
 {
     let limits = limits_of(matches)?;
     let source = source_of(matches)?;
     Some(Command { limits, source })
-}
-
-/// The command that words make, where they make one.
-///
-/// What words mean is `clap`'s meaning of seven options that each take one value, and one optional positional. Exactly
-/// one of the positional and `--generate` has to be there, and each number is one to eight decimal digits in its range.
-pub fn command_named<'a>(
-    alloc: Global,
-    words: &'a [String],
-) -> Result<Option<Command<'a>>, NoMemory>
-    ensures command { IfOk result (λ r. option_map command_seen r ≡ command_of (map string_bytes words.entry.now)) }
-    ensures few { IfOk result (λ r. IfSome r (λ c. IsFew c.source)) }
-{
-    match matched(alloc, words) {
-        Ok(matches) => Ok(command_in(&matches)),
-        Err(WordsEnd::Usage) => Ok(None),
-        Err(_) => Err(NoMemory),
-    }
 }

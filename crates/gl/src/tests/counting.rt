@@ -13,7 +13,7 @@ pub struct Counting {
 }
 
 impl Gate for Counting {
-    fn enter(&self, piece: u32) {
+    fn enter(&self, piece: u64) {
         if piece < 4 {
             self.begun[piece as usize].fetch_add(1, Ordering::SeqCst);
         } else {

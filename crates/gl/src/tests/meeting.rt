@@ -11,7 +11,7 @@ pub struct Meeting {
 }
 
 impl Gate for Meeting {
-    fn enter(&self, piece: u32) {
+    fn enter(&self, piece: u64) {
         if piece < 2 {
             let own = piece as usize;
             self.begun[own].store(1, Ordering::SeqCst);

@@ -12,7 +12,7 @@ use std::thread::Threads;
 
 /// The usage line.
 pub const USAGE: &str =
-    "USAGE gl [--workers N] [--steps N] [--cells N] [--nodes N] [--clauses N] [--enum-bits N] (BOOK | --generate N) | gl lrat [--workers N] CNF LOG\n";
+    "USAGE gl [--workers N] [--steps N] [--cells N] [--nodes N] [--clauses N] [--enum-bits N] [--proof cnf|log] (BOOK | --generate N) | gl lrat [--workers N] CNF LOG\n";
 
 /// What a run over memory gave.
 #[derive(Drop)]
@@ -230,46 +230,46 @@ pub fn words_in(alloc: Global, line: &str) -> Result<Vec<String>, AllocError> {
 const COMMANDS: &str = r#"
 ==
 => 64
-USAGE gl [--workers N] [--steps N] [--cells N] [--nodes N] [--clauses N] [--enum-bits N] (BOOK | --generate N) | gl lrat [--workers N] CNF LOG
+USAGE gl [--workers N] [--steps N] [--cells N] [--nodes N] [--clauses N] [--enum-bits N] [--proof cnf|log] (BOOK | --generate N) | gl lrat [--workers N] CNF LOG
 == a b
 => 64
-USAGE gl [--workers N] [--steps N] [--cells N] [--nodes N] [--clauses N] [--enum-bits N] (BOOK | --generate N) | gl lrat [--workers N] CNF LOG
+USAGE gl [--workers N] [--steps N] [--cells N] [--nodes N] [--clauses N] [--enum-bits N] [--proof cnf|log] (BOOK | --generate N) | gl lrat [--workers N] CNF LOG
 == -x
 => 64
-USAGE gl [--workers N] [--steps N] [--cells N] [--nodes N] [--clauses N] [--enum-bits N] (BOOK | --generate N) | gl lrat [--workers N] CNF LOG
+USAGE gl [--workers N] [--steps N] [--cells N] [--nodes N] [--clauses N] [--enum-bits N] [--proof cnf|log] (BOOK | --generate N) | gl lrat [--workers N] CNF LOG
 == --workers 9 b
 => 64
-USAGE gl [--workers N] [--steps N] [--cells N] [--nodes N] [--clauses N] [--enum-bits N] (BOOK | --generate N) | gl lrat [--workers N] CNF LOG
+USAGE gl [--workers N] [--steps N] [--cells N] [--nodes N] [--clauses N] [--enum-bits N] [--proof cnf|log] (BOOK | --generate N) | gl lrat [--workers N] CNF LOG
 == --workers 0 b
 => 64
-USAGE gl [--workers N] [--steps N] [--cells N] [--nodes N] [--clauses N] [--enum-bits N] (BOOK | --generate N) | gl lrat [--workers N] CNF LOG
+USAGE gl [--workers N] [--steps N] [--cells N] [--nodes N] [--clauses N] [--enum-bits N] [--proof cnf|log] (BOOK | --generate N) | gl lrat [--workers N] CNF LOG
 == --steps x b
 => 64
-USAGE gl [--workers N] [--steps N] [--cells N] [--nodes N] [--clauses N] [--enum-bits N] (BOOK | --generate N) | gl lrat [--workers N] CNF LOG
+USAGE gl [--workers N] [--steps N] [--cells N] [--nodes N] [--clauses N] [--enum-bits N] [--proof cnf|log] (BOOK | --generate N) | gl lrat [--workers N] CNF LOG
 == --steps 100000000 b
 => 64
-USAGE gl [--workers N] [--steps N] [--cells N] [--nodes N] [--clauses N] [--enum-bits N] (BOOK | --generate N) | gl lrat [--workers N] CNF LOG
+USAGE gl [--workers N] [--steps N] [--cells N] [--nodes N] [--clauses N] [--enum-bits N] [--proof cnf|log] (BOOK | --generate N) | gl lrat [--workers N] CNF LOG
 == --cells 999 b
 => 64
-USAGE gl [--workers N] [--steps N] [--cells N] [--nodes N] [--clauses N] [--enum-bits N] (BOOK | --generate N) | gl lrat [--workers N] CNF LOG
+USAGE gl [--workers N] [--steps N] [--cells N] [--nodes N] [--clauses N] [--enum-bits N] [--proof cnf|log] (BOOK | --generate N) | gl lrat [--workers N] CNF LOG
 == --enum-bits 17 b
 => 64
-USAGE gl [--workers N] [--steps N] [--cells N] [--nodes N] [--clauses N] [--enum-bits N] (BOOK | --generate N) | gl lrat [--workers N] CNF LOG
+USAGE gl [--workers N] [--steps N] [--cells N] [--nodes N] [--clauses N] [--enum-bits N] [--proof cnf|log] (BOOK | --generate N) | gl lrat [--workers N] CNF LOG
 == --generate 10001
 => 64
-USAGE gl [--workers N] [--steps N] [--cells N] [--nodes N] [--clauses N] [--enum-bits N] (BOOK | --generate N) | gl lrat [--workers N] CNF LOG
+USAGE gl [--workers N] [--steps N] [--cells N] [--nodes N] [--clauses N] [--enum-bits N] [--proof cnf|log] (BOOK | --generate N) | gl lrat [--workers N] CNF LOG
 == --generate
 => 64
-USAGE gl [--workers N] [--steps N] [--cells N] [--nodes N] [--clauses N] [--enum-bits N] (BOOK | --generate N) | gl lrat [--workers N] CNF LOG
+USAGE gl [--workers N] [--steps N] [--cells N] [--nodes N] [--clauses N] [--enum-bits N] [--proof cnf|log] (BOOK | --generate N) | gl lrat [--workers N] CNF LOG
 == b --generate 3
 => 64
-USAGE gl [--workers N] [--steps N] [--cells N] [--nodes N] [--clauses N] [--enum-bits N] (BOOK | --generate N) | gl lrat [--workers N] CNF LOG
+USAGE gl [--workers N] [--steps N] [--cells N] [--nodes N] [--clauses N] [--enum-bits N] [--proof cnf|log] (BOOK | --generate N) | gl lrat [--workers N] CNF LOG
 == --enum-bits 3
 => 64
-USAGE gl [--workers N] [--steps N] [--cells N] [--nodes N] [--clauses N] [--enum-bits N] (BOOK | --generate N) | gl lrat [--workers N] CNF LOG
+USAGE gl [--workers N] [--steps N] [--cells N] [--nodes N] [--clauses N] [--enum-bits N] [--proof cnf|log] (BOOK | --generate N) | gl lrat [--workers N] CNF LOG
 == --help
 => 64
-USAGE gl [--workers N] [--steps N] [--cells N] [--nodes N] [--clauses N] [--enum-bits N] (BOOK | --generate N) | gl lrat [--workers N] CNF LOG
+USAGE gl [--workers N] [--steps N] [--cells N] [--nodes N] [--clauses N] [--enum-bits N] [--proof cnf|log] (BOOK | --generate N) | gl lrat [--workers N] CNF LOG
 == --workers 8 --steps 007 --cells 4000000 b
 => 0
 DONE proved=0 vacuous=0 refuted=0 undecided=0

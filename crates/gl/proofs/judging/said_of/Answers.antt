@@ -1,21 +1,14 @@
-use Rattle.std.proofs.Common.{◌≡◌, ◌<◌, ◌∙◌, ap, subst, refl, arith, ℕ, List, [], length, Option, Some, None, true}
-use Rattle.std.specs.Prelude.{IfSome, nat_lt}
+use Rattle.std.proofs.Common.{◌≡◌, ◌<◌, ◌∙◌, ap, subst, refl, arith, ℕ, List, length, Option, true}
+use Rattle.std.specs.Prelude.{nat_lt}
 use Rattle.std.proofs.lemmas.Bool.Decides.{nat_tests}
 use Rattle.lrat_tool.specs.Long.{IsLongText}
 use Rattle.lrat_tool.specs.declared.judgement.Judgement.TheVariants.{BadCnf}
 use Rattle.lrat_tool.specs.declared.read.TextEnd.TheVariants.{TooLong}
 use Rattle.gl.specs.Judging.{IsSaid, most_text, line_behind, said_of}
+use Rattle.gl.proofs.TextsTold.{some_text, told_so}
 use Rattle.gl.proofs.judging.said_of.Goals as goal
 
--- a formula that is too long is said to be so, whatever the log is. A text that may be told
-abbrev some_text : Option (List ℕ) → List ℕ
-some_text None = []
-some_text (Some bytes) = bytes
-
-told_so : (told : Option (List ℕ)) → IfSome told (λ bytes. some_text told ≡ bytes)
-told_so None = tt
-told_so (Some bytes) = refl
-
+-- a formula that is too long is said to be so, whatever the log is
 long_cnf : (cnf log : List ℕ) → most_text < length cnf → BadCnf (line_behind cnf) ≡ said_of cnf log
 long_cnf cnf log h = let e : nat_lt most_text (length cnf) ≡ true = grind (arith, nat_tests) in rw e refl
 

@@ -17,5 +17,6 @@ returns c =
     let e4 = one_more _ _ _ _ (codes "clauses") c.in_ok-command-5.ensures e3 (search rules) in
     let e5 = one_more _ _ _ _ (codes "enum-bits") c.in_ok-command-6.ensures e4 (search rules) in
     let e6 = one_more _ _ _ _ (codes "generate") c.in_ok-command-7.ensures e5 (search rules) in
+    let e7 = one_more _ _ _ _ (codes "proof") c.in_ok-command-8.ensures e6 (search rules) in
     let book : rule_of c.new.result ≡ new_rule (codes "BOOK") = search rules in
-    IfOk-weaker c.arg.result _ _ (λ x h. h.shape (search rules) ∙ ap₂ with_rule e6 book) c.arg.ensures
+    IfOk-weaker c.arg.result _ _ (λ x h. h.shape (search rules) ∙ ap₂ with_rule e7 book) c.arg.ensures
