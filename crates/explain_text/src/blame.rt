@@ -1,0 +1,274 @@
+//! The part of a refused form that is at fault, by asking anew what the form means with parts of it replaced by NIL.
+//!
+//! From the outside in: where the form keeps its fault with all terms of a part replaced, the part itself is at fault.
+//! Else it is the first of these terms such that the form keeps its fault with those behind that one replaced. So it is
+//! the translator that judges, and nothing here knows what a fault is.
+
+use crate::elements::{elements, form_alone};
+use crate::span::{Span, cut, is_word};
+use crate::terms::{head_of, terms_of_event, terms_of_term};
+use event_world::{EventFault, event_of};
+use gl_logic::{NoMemory, Texts, World};
+use sexp_reader::forms;
+use shape_spec::{FnSet, Mode};
+use std::alloc::Global;
+
+/// How deep terms are looked into.
+const MOST_DEEP: usize = 1000;
+
+/// How many options of an event are tried.
+const MOST_OPTIONS: usize = 64;
+
+/// What is asked of each text of a form, in a world and for functions whose calls are kept: whether it means no event for the
+/// same reason.
+#[derive(Clone, Copy)]
+pub(crate) struct Judge<'a> {
+    pub world: &'a World,
+    pub memoized: &'a FnSet,
+    pub fault: EventFault,
+}
+
+/// Whether two faults have one code.
+fn is_same(fault: EventFault, other: EventFault) -> bool {
+    match (fault, other) {
+        (EventFault::NotAdmitted(_), EventFault::NotAdmitted(_)) => true,
+        _ => fault == other,
+    }
+}
+
+/// The fault of a text's first form, where it is one.
+fn fault_of(
+    alloc: Global,
+    judge: &Judge,
+    texts: &mut Texts,
+    text: &[u8],
+) -> Result<Option<EventFault>, NoMemory> {
+    if text.len() >= 4_294_967_295 {
+        return Ok(None);
+    }
+    let read = forms(alloc, text, texts)?;
+    if read.list.len() == 0 {
+        return Ok(None);
+    }
+    let form = read.list.at(0);
+    match event_of(
+        alloc,
+        &form.tree,
+        judge.world,
+        Mode::Bdd,
+        judge.memoized,
+        texts,
+    ) {
+        Ok(event) => {
+            drop(event);
+            Ok(None)
+        }
+        Err(EventFault::Memory) => Err(NoMemory),
+        Err(fault) => Ok(Some(fault)),
+    }
+}
+
+impl<'a> Judge<'a> {
+    /// Whether a text's first form has the fault.
+    pub(crate) fn refuses(
+        &self,
+        alloc: Global,
+        texts: &mut Texts,
+        text: &[u8],
+    ) -> Result<bool, NoMemory> {
+        match fault_of(alloc, self, texts, text)? {
+            Some(fault) => Ok(is_same(fault, self.fault)),
+            None => Ok(false),
+        }
+    }
+}
+
+/// A text with the parts from a number on replaced by NIL.
+fn without(alloc: Global, text: &[u8], parts: &[Span], first: usize) -> Result<Vec<u8>, NoMemory> {
+    let mut out = Vec::new(alloc);
+    let mut start = 0;
+    for (i, part) in parts.iter().enumerate() {
+        if first <= i {
+            out.extend_from_slice(cut(
+                text,
+                Span {
+                    start,
+                    end: part.start,
+                },
+            ))?;
+            out.extend_from_slice(b"nil ")?;
+            start = part.end;
+        }
+    }
+    out.extend_from_slice(cut(
+        text,
+        Span {
+            start,
+            end: text.len(),
+        },
+    ))?;
+    Ok(out)
+}
+
+/// The first of some terms such that the text keeps its fault with those behind it replaced, by halving. With none replaced
+/// it has the fault.
+fn first_faulty(
+    alloc: Global,
+    judge: &Judge,
+    texts: &mut Texts,
+    text: &[u8],
+    parts: &[Span],
+) -> Result<usize, NoMemory> {
+    let mut low = 0;
+    let mut high = parts.len().saturating_sub(1);
+    for _ in 0..64 {
+        if high <= low {
+            return Ok(low);
+        }
+        let middle = low + (high - low) / 2;
+        let tried = without(alloc, text, parts, middle.saturating_add(1))?;
+        if judge.refuses(alloc, texts, &tried)? {
+            high = middle;
+        } else {
+            low = middle.saturating_add(1);
+        }
+    }
+    Ok(low)
+}
+
+/// The part that is at fault, and the text in which all terms behind it are replaced.
+#[derive(Drop)]
+pub(crate) struct Blamed {
+    pub span: Span,
+    pub text: Vec<u8>,
+}
+
+/// One step further in: the term of these that is at fault, where it is not the whole of them.
+fn further(
+    alloc: Global,
+    judge: &Judge,
+    texts: &mut Texts,
+    text: &[u8],
+    parts: &[Span],
+) -> Result<Option<Blamed>, NoMemory> {
+    if parts.is_empty() {
+        return Ok(None);
+    }
+    let bare = without(alloc, text, parts, 0)?;
+    if judge.refuses(alloc, texts, &bare)? {
+        return Ok(None);
+    }
+    let number = first_faulty(alloc, judge, texts, text, parts)?;
+    let text = without(alloc, text, parts, number.saturating_add(1))?;
+    match parts.get(number) {
+        Some(span) => Ok(Some(Blamed { span: *span, text })),
+        None => Ok(None),
+    }
+}
+
+/// The part of an event's text that is at fault: a term of it, or the whole.
+pub(crate) fn blame(
+    alloc: Global,
+    judge: &Judge,
+    texts: &mut Texts,
+    event: &[u8],
+) -> Result<Blamed, NoMemory> {
+    let mut blamed = Blamed {
+        span: Span {
+            start: 0,
+            end: event.len(),
+        },
+        text: event.to_vec(alloc)?,
+    };
+    let mut parts = terms_of_event(alloc, event, blamed.span)?;
+    for _ in 0..MOST_DEEP {
+        match further(alloc, judge, texts, &blamed.text, &parts)? {
+            Some(next) => blamed = next,
+            None => return Ok(blamed),
+        }
+        parts = terms_of_term(alloc, &blamed.text, blamed.span)?;
+    }
+    Ok(blamed)
+}
+
+/// A text without a part of it.
+fn taken_out(alloc: Global, text: &[u8], part: Span) -> Result<Vec<u8>, NoMemory> {
+    let mut out = cut(
+        text,
+        Span {
+            start: 0,
+            end: part.start,
+        },
+    )
+    .to_vec(alloc)?;
+    out.extend_from_slice(cut(
+        text,
+        Span {
+            start: part.end,
+            end: text.len(),
+        },
+    ))?;
+    Ok(out)
+}
+
+/// The options of an event, each with its value: the declarations of a definition, and the keywords of a theorem.
+fn options_of(alloc: Global, event: &[u8]) -> Result<Vec<Span>, NoMemory> {
+    let parts = elements(
+        alloc,
+        event,
+        Span {
+            start: 0,
+            end: event.len(),
+        },
+    )?;
+    let is_theorem = begins_theorem(head_of(event, &parts));
+    let mut options = Vec::new(alloc);
+    let mut start = None;
+    for (i, part) in parts.iter().enumerate() {
+        match start {
+            Some(first) => {
+                options.push(Span {
+                    start: first,
+                    end: part.end,
+                })?;
+                start = None;
+            }
+            None if is_theorem && 2 <= i => start = Some(part.start),
+            None => {
+                if 3 <= i && !is_theorem {
+                    options.push(*part)?;
+                }
+            }
+        }
+    }
+    Ok(options)
+}
+
+fn begins_theorem(head: &[u8]) -> bool {
+    is_word(head, b"def-gl-thm") || is_word(head, b"def-gl-param-thm")
+}
+
+/// The first option of an event without which it is not refused as before; the event where there is none. Without a required
+/// one it lacks a part.
+pub(crate) fn odd_option(
+    alloc: Global,
+    judge: &Judge,
+    texts: &mut Texts,
+    event: &[u8],
+) -> Result<Span, NoMemory> {
+    let whole = Span {
+        start: 0,
+        end: event.len(),
+    };
+    let options = options_of(alloc, event)?;
+    for (i, option) in options.iter().enumerate() {
+        if i < MOST_OPTIONS {
+            let tried = taken_out(alloc, event, *option)?;
+            let fault = fault_of(alloc, judge, texts, &tried)?;
+            if fault != Some(judge.fault) && fault != Some(EventFault::BadEvent) {
+                return form_alone(alloc, event, *option);
+            }
+        }
+    }
+    Ok(whole)
+}

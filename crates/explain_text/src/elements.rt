@@ -1,0 +1,208 @@
+//! The places of a list's elements, by the reader of books: what stands behind an open parenthesis is read as a text of its
+//! own, which ends at the parenthesis that closes the list.
+
+use crate::span::{Span, byte_at, cut, token};
+use gl_logic::{NoMemory, Texts};
+use sexp_reader::{End, FormList, Forms, forms};
+use std::alloc::Global;
+
+/// A line and a column, each from 1.
+#[derive(Clone, Copy, Debug, PartialEq, Eq)]
+struct Place {
+    line: u32,
+    column: u32,
+}
+
+/// Reads a text's forms, none of one that is too long.
+fn forms_of(alloc: Global, text: &[u8]) -> Result<Option<Forms>, NoMemory> {
+    if text.len() >= 4_294_967_295 {
+        return Ok(None);
+    }
+    let mut texts = Texts::new(alloc)?;
+    Ok(Some(forms(alloc, text, &mut texts)?))
+}
+
+fn places_of(alloc: Global, list: &FormList) -> Result<Vec<Place>, NoMemory> {
+    let mut places = Vec::new(alloc);
+    for i in 0..list.len() {
+        let form = list.at(i);
+        places.push(Place {
+            line: form.line,
+            column: form.column,
+        })?;
+    }
+    Ok(places)
+}
+
+fn is_at(places: &[Place], number: usize, place: Place) -> bool {
+    match places.get(number) {
+        Some(other) => *other == place,
+        None => false,
+    }
+}
+
+fn behind(place: Place, byte: u8) -> Place {
+    if byte == b'\n' {
+        Place {
+            line: place.line.saturating_add(1),
+            column: 1,
+        }
+    } else {
+        Place {
+            line: place.line,
+            column: place.column.saturating_add(1),
+        }
+    }
+}
+
+/// The offsets of places that stand in order in a text, by one walk over it.
+fn offsets_of(alloc: Global, text: &[u8], places: &[Place]) -> Result<Vec<usize>, NoMemory> {
+    let mut offsets: Vec<usize> = Vec::new(alloc);
+    let mut place = Place { line: 1, column: 1 };
+    for (i, byte) in text.iter().enumerate() {
+        if is_at(places, offsets.len(), place) {
+            offsets.push(i)?;
+        }
+        place = behind(place, *byte);
+    }
+    if is_at(places, offsets.len(), place) {
+        offsets.push(text.len())?;
+    }
+    Ok(offsets)
+}
+
+/// The offset of a line and a column.
+pub(crate) fn offset_of(
+    alloc: Global,
+    text: &[u8],
+    line: u32,
+    column: u32,
+) -> Result<Option<usize>, NoMemory> {
+    let mut places = Vec::new(alloc);
+    places.push(Place { line, column })?;
+    let offsets = offsets_of(alloc, text, &places)?;
+    Ok(offsets.first().copied())
+}
+
+/// Each part from one offset to the next.
+fn spans_between(alloc: Global, base: usize, offsets: &[usize]) -> Result<Vec<Span>, NoMemory> {
+    let mut spans = Vec::new(alloc);
+    let mut start = None;
+    for offset in offsets {
+        let end = base.saturating_add(*offset);
+        if let Some(start) = start {
+            spans.push(Span { start, end })?;
+        }
+        start = Some(end);
+    }
+    Ok(spans)
+}
+
+/// The elements of the list that a part of a text is, each from its first byte to the next element or the list's end, and
+/// none where the part is no list.
+pub(crate) fn elements(alloc: Global, text: &[u8], span: Span) -> Result<Vec<Span>, NoMemory> {
+    if byte_at(text, span.start) != b'(' {
+        return Ok(Vec::new(alloc));
+    }
+    let base = span.start.saturating_add(1);
+    let inside = cut(
+        text,
+        Span {
+            start: base,
+            end: span.end,
+        },
+    );
+    let Some(read) = forms_of(alloc, inside)? else {
+        return Ok(Vec::new(alloc));
+    };
+    let mut places = places_of(alloc, &read.list)?;
+    if let End::Bad(line, column, _) = read.end {
+        places.push(Place { line, column })?;
+    }
+    let offsets = offsets_of(alloc, inside, &places)?;
+    spans_between(alloc, base, &offsets)
+}
+
+/// Without the blanks at its end.
+fn without_blanks(text: &[u8], span: Span) -> Span {
+    let mut end = span.start;
+    for (i, byte) in cut(text, span).iter().enumerate() {
+        if *byte > 32 {
+            end = span.start.saturating_add(i).saturating_add(1);
+        }
+    }
+    Span {
+        start: span.start,
+        end,
+    }
+}
+
+/// The form with which a part begins, without what stands behind it.
+pub(crate) fn form_alone(alloc: Global, text: &[u8], span: Span) -> Result<Span, NoMemory> {
+    let start = span.start;
+    if byte_at(text, start) == b'(' {
+        let parts = elements(alloc, text, span)?;
+        let last = match parts.last() {
+            Some(part) => part.end,
+            None => start.saturating_add(1),
+        };
+        return Ok(Span {
+            start,
+            end: last.saturating_add(1),
+        });
+    }
+    let count = token(text, span).len();
+    if count == 0 {
+        return Ok(without_blanks(text, span));
+    }
+    Ok(Span {
+        start,
+        end: start.saturating_add(count),
+    })
+}
+
+/// The offset of the first byte from one on that is neither a blank nor of a comment to the end of its line.
+fn behind_gaps(text: &[u8], start: usize) -> usize {
+    let mut is_comment = false;
+    for (i, byte) in cut(
+        text,
+        Span {
+            start,
+            end: text.len(),
+        },
+    )
+    .iter()
+    .enumerate()
+    {
+        if *byte == b'\n' {
+            is_comment = false;
+        } else if *byte == b';' {
+            is_comment = true;
+        } else if *byte > 32 && !is_comment {
+            return start.saturating_add(i);
+        }
+    }
+    text.len()
+}
+
+/// Where what stands behind the whole forms of a text begins.
+pub(crate) fn behind_forms(alloc: Global, text: &[u8]) -> Result<usize, NoMemory> {
+    let Some(read) = forms_of(alloc, text)? else {
+        return Ok(0);
+    };
+    let places = places_of(alloc, &read.list)?;
+    match offsets_of(alloc, text, &places)?.last() {
+        Some(start) => {
+            let last = form_alone(
+                alloc,
+                text,
+                Span {
+                    start: *start,
+                    end: text.len(),
+                },
+            )?;
+            Ok(behind_gaps(text, last.end))
+        }
+        None => Ok(behind_gaps(text, 0)),
+    }
+}

@@ -1,0 +1,147 @@
+//! A line of a text, with marks under a part of it.
+
+use crate::report::Report;
+use crate::span::{Span, column_of, cut, line_end, line_of, line_start};
+use gl_logic::NoMemory;
+use std::alloc::Global;
+
+/// How many bytes of a line are shown, and how many in front of a part that stands further to the right.
+const MOST_SHOWN: usize = 160;
+
+const MOST_BEFORE: usize = 60;
+
+/// What is shown of a line: from which byte, up to which one, and the part that is marked.
+#[derive(Clone, Copy)]
+struct Window {
+    from: usize,
+    to: usize,
+    marked: Span,
+}
+
+fn window_of(text: &[u8], span: Span) -> Window {
+    let start = line_start(text, span.start);
+    let end = line_end(text, span.start);
+    let before = span.start.saturating_sub(start);
+    let from = if before < MOST_SHOWN - MOST_BEFORE {
+        start
+    } else {
+        span.start.saturating_sub(MOST_BEFORE)
+    };
+    let to = end.min(from.saturating_add(MOST_SHOWN));
+    let last = span.end.min(to);
+    Window {
+        from,
+        to,
+        marked: Span {
+            start: span.start,
+            end: last.max(span.start.saturating_add(1)),
+        },
+    }
+}
+
+/// A byte as it is shown: the end of a line as a blank, another control byte but for the tab as a question mark.
+fn shown_byte(byte: u8) -> u8 {
+    if byte == b'\n' {
+        b' '
+    } else if byte < 32 && byte != 9 || byte == 127 {
+        b'?'
+    } else {
+        byte
+    }
+}
+
+fn put_shown(report: &mut Report, bytes: &[u8]) -> Result<(), NoMemory> {
+    for byte in bytes {
+        report.times(1, shown_byte(*byte))?;
+    }
+    Ok(())
+}
+
+/// As wide as the bytes, with nothing to be seen.
+fn put_blanks(report: &mut Report, bytes: &[u8]) -> Result<(), NoMemory> {
+    for byte in bytes {
+        report.times(1, if *byte == 9 { 9 } else { b' ' })?;
+    }
+    Ok(())
+}
+
+fn digits_of(alloc: Global, number: u64) -> Result<usize, NoMemory> {
+    let mut digits = Report::new(alloc);
+    digits.number(number)?;
+    Ok(digits.as_slice().len())
+}
+
+/// Puts the line in which a part begins, and marks under the part as far as that line goes.
+pub(crate) fn put_excerpt(
+    alloc: Global,
+    report: &mut Report,
+    text: &[u8],
+    span: Span,
+) -> Result<(), NoMemory> {
+    let window = window_of(text, span);
+    let line = line_of(text, span.start);
+    let width = digits_of(alloc, line)?;
+    report.times(width.saturating_add(1), b' ')?;
+    report.say(" |\n ")?;
+    report.number(line)?;
+    report.say(" | ")?;
+    put_shown(
+        report,
+        cut(
+            text,
+            Span {
+                start: window.from,
+                end: window.to,
+            },
+        ),
+    )?;
+    report.say("\n")?;
+    report.times(width.saturating_add(1), b' ')?;
+    report.say(" | ")?;
+    put_blanks(
+        report,
+        cut(
+            text,
+            Span {
+                start: window.from,
+                end: window.marked.start,
+            },
+        ),
+    )?;
+    report.times(window.marked.end.saturating_sub(window.marked.start), b'^')?;
+    report.say("\n")
+}
+
+/// Puts a part of a text, up to so many bytes.
+pub(crate) fn put_part(
+    report: &mut Report,
+    text: &[u8],
+    span: Span,
+    most: usize,
+) -> Result<(), NoMemory> {
+    let part = cut(text, span);
+    if part.len() <= most {
+        return put_shown(report, part);
+    }
+    put_shown(
+        report,
+        cut(
+            part,
+            Span {
+                start: 0,
+                end: most,
+            },
+        ),
+    )?;
+    report.say("..")
+}
+
+/// Puts a place of a text.
+pub(crate) fn put_place(
+    report: &mut Report,
+    file: &[u8],
+    text: &[u8],
+    offset: usize,
+) -> Result<(), NoMemory> {
+    report.place(file, line_of(text, offset), column_of(text, offset))
+}

@@ -1,0 +1,30 @@
+//! A book run, with each line of its transcript at its event's place, and what is refused explained in words.
+//!
+//! The verdicts are those of the run. What is said beside them is found by asking the same library once more: the events in
+//! front of a refused form are taken in again (`replay`), and the part of the form that is at fault is the one without which
+//! it is not refused for the same reason (`blame`). Places inside a form are told by the reader of books (`elements`).
+//!
+//! - what is shown: `shown`, a sink that puts places in front of lines, by `spots`; `explain`, a run with its explanation;
+//! - what is said: `refusal`, by `codes`, `known` and `excerpt`, into a `report`;
+//! - where it stands: `span`, `elements`, `terms`, `blame`.
+//!
+//! Tests: .ci/explain, through the built program.
+#![tactic(auto)]
+
+mod advice;
+mod blame;
+mod codes;
+mod elements;
+mod excerpt;
+mod explain;
+mod known;
+mod refusal;
+mod replay;
+mod report;
+mod shown;
+mod span;
+mod spots;
+mod terms;
+
+pub use explain::explain_book;
+pub use shown::put_line;

@@ -1,0 +1,362 @@
+//! A refusal in words: its place, what is wrong there, the line with marks under the part at fault, and help.
+
+use crate::blame::{Blamed, Judge, blame, odd_option};
+use crate::codes::{Fault, words_of};
+use crate::elements::{behind_forms, elements, form_alone, offset_of};
+use crate::excerpt::{put_excerpt, put_part, put_place};
+use crate::known::{instead_of_event, instead_of_term, nearest_function};
+use crate::report::Report;
+use crate::span::{Span, cut, is_word, token, without_package};
+use crate::terms::head_of;
+use book_shelf::ShelfCode;
+use event_world::EventFault;
+use gl_logic::{FnId, NoMemory, Texts, World};
+use gl_translate::TermFault;
+use sexp_reader::ReadCode;
+use std::alloc::Global;
+
+/// How many bytes of a form are named in words.
+const MOST_NAMED: usize = 60;
+
+/// The text that a refusal is of, and where.
+#[derive(Clone, Copy)]
+pub(crate) struct Refusal<'a> {
+    pub file: &'a [u8],
+    pub text: &'a [u8],
+    pub line: u32,
+    pub column: u32,
+    pub fault: Fault,
+}
+
+/// What a message says: the part of the text that is marked, and whether it is named in front of the words.
+#[derive(Clone, Copy)]
+struct Marked {
+    span: Span,
+    is_named: bool,
+}
+
+fn put_help(report: &mut Report, help: &str) -> Result<(), NoMemory> {
+    if help.is_empty() {
+        return Ok(());
+    }
+    report.say("   = help: ")?;
+    report.say(help)?;
+    report.say("\n")
+}
+
+/// Puts the first lines of a message: place, code and words, and the excerpt.
+fn put_message(
+    alloc: Global,
+    report: &mut Report,
+    refusal: &Refusal,
+    marked: Marked,
+) -> Result<(), NoMemory> {
+    let words = words_of(refusal.fault);
+    put_place(report, refusal.file, refusal.text, marked.span.start)?;
+    report.say("error[")?;
+    report.say(words.code)?;
+    report.say("]: ")?;
+    if marked.is_named {
+        report.say("`")?;
+        put_part(report, refusal.text, marked.span, MOST_NAMED)?;
+        report.say("` ")?;
+    }
+    report.say(words.title)?;
+    report.say("\n")?;
+    put_excerpt(alloc, report, refusal.text, marked.span)
+}
+
+/// Where the form of a refusal begins: at the end where the text has no such place.
+fn start_of(alloc: Global, refusal: &Refusal) -> Result<usize, NoMemory> {
+    match offset_of(alloc, refusal.text, refusal.line, refusal.column)? {
+        Some(offset) => Ok(offset),
+        None => Ok(refusal.text.len()),
+    }
+}
+
+/// The form of a refusal.
+fn form_of(alloc: Global, refusal: &Refusal) -> Result<Span, NoMemory> {
+    let start = start_of(alloc, refusal)?;
+    form_alone(
+        alloc,
+        refusal.text,
+        Span {
+            start,
+            end: refusal.text.len(),
+        },
+    )
+}
+
+/// Explains a fault of a text, or of the list of texts: the byte, or the form that includes a text.
+pub(crate) fn explain_text_fault(
+    alloc: Global,
+    report: &mut Report,
+    refusal: &Refusal,
+    is_form: bool,
+) -> Result<(), NoMemory> {
+    let start = start_of(alloc, refusal)?;
+    let span = if is_form {
+        form_of(alloc, refusal)?
+    } else {
+        Span {
+            start,
+            end: start.saturating_add(1),
+        }
+    };
+    put_message(
+        alloc,
+        report,
+        refusal,
+        Marked {
+            span,
+            is_named: false,
+        },
+    )?;
+    if refusal.fault == Fault::Shelf(ShelfCode::Text(ReadCode::EndInside)) {
+        put_open_form(alloc, report, refusal)?;
+    }
+    put_help(report, words_of(refusal.fault).help)
+}
+
+/// Puts where the form begins that is not closed.
+fn put_open_form(alloc: Global, report: &mut Report, refusal: &Refusal) -> Result<(), NoMemory> {
+    let start = behind_forms(alloc, refusal.text)?;
+    put_place(report, refusal.file, refusal.text, start)?;
+    report.say("what is open begins here\n")?;
+    put_excerpt(
+        alloc,
+        report,
+        refusal.text,
+        Span {
+            start,
+            end: start.saturating_add(1),
+        },
+    )
+}
+
+/// Puts the words of a fault whose text is not at hand.
+pub(crate) fn put_words(report: &mut Report, fault: Fault) -> Result<(), NoMemory> {
+    let words = words_of(fault);
+    report.say("error[")?;
+    report.say(words.code)?;
+    report.say("]: ")?;
+    report.say(words.title)?;
+    report.say("\n")?;
+    put_help(report, words.help)
+}
+
+/// A part moved by an offset.
+fn moved(span: Span, by: usize) -> Span {
+    Span {
+        start: span.start.saturating_add(by),
+        end: span.end.saturating_add(by),
+    }
+}
+
+/// The element of a list of this number, alone; the list where there is none.
+fn element_of(alloc: Global, text: &[u8], list: Span, number: usize) -> Result<Span, NoMemory> {
+    match elements(alloc, text, list)?.get(number) {
+        Some(part) => form_alone(alloc, text, *part),
+        None => Ok(list),
+    }
+}
+
+/// The part at fault of an event, by its code.
+fn part_at_fault(
+    alloc: Global,
+    judge: &Judge,
+    texts: &mut Texts,
+    event: &[u8],
+) -> Result<Span, NoMemory> {
+    let whole = Span {
+        start: 0,
+        end: event.len(),
+    };
+    match judge.fault {
+        EventFault::UnknownEvent => element_of(alloc, event, whole, 0),
+        EventFault::Redefined => element_of(alloc, event, whole, 1),
+        EventFault::BadOption => odd_option(alloc, judge, texts, event),
+        EventFault::Term(TermFault::UnknownFunction) => {
+            let Blamed { span, text } = blame(alloc, judge, texts, event)?;
+            element_of(alloc, &text, span, 0)
+        }
+        EventFault::Term(TermFault::TooDeep) | EventFault::BadEvent => Ok(whole),
+        EventFault::Term(_) | EventFault::NotAdmitted(_) => {
+            let Blamed { span, text } = blame(alloc, judge, texts, event)?;
+            form_alone(alloc, &text, span)
+        }
+        EventFault::BadBindings => bindings_of(alloc, event, b":g-bindings"),
+        EventFault::BadCases => bindings_of(alloc, event, b":param-bindings"),
+        EventFault::Memory => Ok(whole),
+    }
+}
+
+/// The value behind a keyword of an event; the event where there is none.
+fn bindings_of(alloc: Global, event: &[u8], keyword: &[u8]) -> Result<Span, NoMemory> {
+    let parts = elements(
+        alloc,
+        event,
+        Span {
+            start: 0,
+            end: event.len(),
+        },
+    )?;
+    let mut is_next = false;
+    for part in &parts {
+        if is_next {
+            return form_alone(alloc, event, *part);
+        }
+        is_next = is_word(token(event, *part), keyword);
+    }
+    Ok(Span {
+        start: 0,
+        end: event.len(),
+    })
+}
+
+/// Puts what may be meant by a name that is no function.
+fn put_function_help(
+    alloc: Global,
+    report: &mut Report,
+    word: &[u8],
+    world: &World,
+    texts: &Texts,
+) -> Result<(), NoMemory> {
+    let word = without_package(word);
+    if let Some(instead) = instead_of_term(word) {
+        report.say("   = help: ACL2's word; here: ")?;
+        report.say(instead)?;
+        return report.say("\n");
+    }
+    let nearest = nearest_function(alloc, word, world, texts)?;
+    if nearest.name.is_empty() {
+        return Ok(());
+    }
+    report.say("   = help: a function of a near name is `")?;
+    report.text(&nearest.name)?;
+    report.say("`\n")
+}
+
+fn put_event_help(report: &mut Report, word: &[u8]) -> Result<(), NoMemory> {
+    if let Some(instead) = instead_of_event(without_package(word)) {
+        report.say("   = help: ACL2's event; here: ")?;
+        report.say(instead)?;
+        report.say("\n")?;
+    }
+    Ok(())
+}
+
+/// Puts the formals of a definition.
+fn put_formals(alloc: Global, report: &mut Report, event: &[u8]) -> Result<(), NoMemory> {
+    let whole = Span {
+        start: 0,
+        end: event.len(),
+    };
+    let parts = elements(alloc, event, whole)?;
+    if is_word(head_of(event, &parts), b"defun") {
+        if let Some(part) = parts.get(2) {
+            report.say("   = help: the formals are ")?;
+            put_part(report, event, form_alone(alloc, event, *part)?, MOST_NAMED)?;
+            report.say("\n")?;
+        }
+    }
+    Ok(())
+}
+
+/// Puts how many arguments stand in a call, and how many its head takes where it is a definition.
+fn put_counts(
+    alloc: Global,
+    report: &mut Report,
+    event: &[u8],
+    call: Span,
+    world: &World,
+    texts: &Texts,
+) -> Result<(), NoMemory> {
+    let parts = elements(alloc, event, call)?;
+    report.say("   = help: ")?;
+    report.number(parts.len().saturating_sub(1) as u64)?;
+    report.say(" stand here")?;
+    if let Some(count) = count_taken(head_of(event, &parts), world, texts) {
+        report.say(", and it takes ")?;
+        report.number(count)?;
+    }
+    report.say("\n")
+}
+
+/// How many arguments a definition takes.
+fn count_taken(head: &[u8], world: &World, texts: &Texts) -> Option<u64> {
+    for number in 0..world.count() {
+        let def = world.def(FnId { number });
+        if is_word(head, texts.text(def.name)) {
+            return Some(def.formals.len());
+        }
+    }
+    None
+}
+
+/// Puts the help that looks at the part at fault.
+fn put_help_of_part(
+    alloc: Global,
+    report: &mut Report,
+    judge: &Judge,
+    texts: &mut Texts,
+    event: &[u8],
+    part: Span,
+) -> Result<(), NoMemory> {
+    match judge.fault {
+        EventFault::UnknownEvent => put_event_help(report, token(event, part)),
+        EventFault::Term(TermFault::UnknownFunction) => {
+            put_function_help(alloc, report, token(event, part), judge.world, texts)
+        }
+        EventFault::Term(TermFault::UnboundVariable) => put_formals(alloc, report, event),
+        EventFault::Term(TermFault::WrongCount) => {
+            put_counts(alloc, report, event, part, judge.world, texts)
+        }
+        _ => Ok(()),
+    }
+}
+
+/// Explains a form that means no event, in the state in front of it.
+pub(crate) fn explain_event_fault(
+    alloc: Global,
+    report: &mut Report,
+    refusal: &Refusal,
+    judge: &Judge,
+    texts: &mut Texts,
+) -> Result<(), NoMemory> {
+    let form = form_of(alloc, refusal)?;
+    let event = cut(refusal.text, form);
+    let part = part_at_fault(alloc, judge, texts, event)?;
+    let span = moved(part, form.start);
+    put_message(
+        alloc,
+        report,
+        refusal,
+        Marked {
+            span,
+            is_named: true,
+        },
+    )?;
+    put_help_of_part(alloc, report, judge, texts, event, part)?;
+    put_help(report, words_of(refusal.fault).help)
+}
+
+/// Explains a constant without a value.
+pub(crate) fn explain_constant(
+    alloc: Global,
+    report: &mut Report,
+    refusal: &Refusal,
+) -> Result<(), NoMemory> {
+    let form = form_of(alloc, refusal)?;
+    let span = element_of(alloc, refusal.text, form, 2)?;
+    put_message(
+        alloc,
+        report,
+        refusal,
+        Marked {
+            span,
+            is_named: true,
+        },
+    )?;
+    put_help(report, words_of(refusal.fault).help)
+}

@@ -1,0 +1,142 @@
+//! Where each event of a book stands, and how many lines of its transcript are its own.
+
+use book_shelf::{Item, Library, Mark};
+use gl_logic::{NoMemory, TextId, Texts, Tree, TreeKind};
+use sexp_reader::Form;
+use std::alloc::Global;
+
+/// Where an item of a book stands: the number of its text, its line and its column, which are 0 for a mark; and how many
+/// lines without an input its transcript has for it.
+#[derive(Clone, Copy, Debug, PartialEq, Eq)]
+pub(crate) struct Spot {
+    pub file: usize,
+    pub line: u32,
+    pub column: u32,
+    pub lines: usize,
+}
+
+/// The names of the texts of a book, and the spot of each item. Behind them stands that of the list's end.
+#[derive(Drop)]
+pub(crate) struct Spots {
+    pub files: Vec<Vec<u8>>,
+    pub items: Vec<Spot>,
+    // the numbers of the texts that are open, the last of them last
+    open: Vec<usize>,
+}
+
+/// The word with which a form begins.
+fn head_of<'a>(texts: &'a Texts, form: &Tree) -> &'a [u8] {
+    match form.elements() {
+        [.., head] => match head.kind() {
+            TreeKind::Symbol(name) => texts.text(name),
+            _ => &[],
+        },
+        [] => &[],
+    }
+}
+
+/// How many lines without an input an accepted form has.
+fn lines_of(texts: &Texts, form: &Tree) -> usize {
+    let head = head_of(texts, form);
+    if head == b"IN-PACKAGE".as_slice() || head == b"INCLUDE-BOOK".as_slice() {
+        0
+    } else if head == b"MUTUAL-RECURSION".as_slice() {
+        form.elements().len().saturating_sub(1)
+    } else {
+        1
+    }
+}
+
+impl Spots {
+    fn new(alloc: Global, name: &[u8]) -> Result<Spots, NoMemory> {
+        let mut spots = Spots {
+            files: Vec::new(alloc),
+            items: Vec::new(alloc),
+            open: Vec::new(alloc),
+        };
+        spots.enter(name.to_vec(alloc)?)?;
+        Ok(spots)
+    }
+
+    fn enter(&mut self, name: Vec<u8>) -> Result<(), NoMemory> {
+        self.open.push(self.files.len())?;
+        self.files.push(name)?;
+        Ok(())
+    }
+
+    fn put(&mut self, line: u32, column: u32, lines: usize) -> Result<(), NoMemory> {
+        let file = match self.open.last() {
+            Some(number) => *number,
+            None => 0,
+        };
+        self.items.push(Spot {
+            file,
+            line,
+            column,
+            lines,
+        })?;
+        Ok(())
+    }
+
+    fn put_form(&mut self, texts: &Texts, form: &Form) -> Result<(), NoMemory> {
+        self.put(form.line, form.column, lines_of(texts, &form.tree))
+    }
+
+    fn put_mark(&mut self, alloc: Global, texts: &Texts, mark: Mark) -> Result<(), NoMemory> {
+        self.put(0, 0, 1)?;
+        match mark {
+            Mark::Book(name) => self.enter(path_of(alloc, texts, name)?),
+            Mark::End(_) => {
+                self.open.pop();
+                Ok(())
+            }
+            Mark::Same(_) => Ok(()),
+        }
+    }
+
+    /// The spot of the list's end.
+    pub(crate) fn end(&self) -> Spot {
+        match self.items.last() {
+            Some(spot) => *spot,
+            None => Spot {
+                file: 0,
+                line: 0,
+                column: 0,
+                lines: 0,
+            },
+        }
+    }
+
+    /// The name of the text of a spot.
+    pub(crate) fn file(&self, spot: Spot) -> &[u8] {
+        match self.files.get(spot.file) {
+            Some(name) => name.as_slice(),
+            None => &[],
+        }
+    }
+}
+
+/// The name of the text of an included book.
+fn path_of(alloc: Global, texts: &Texts, book: TextId) -> Result<Vec<u8>, NoMemory> {
+    let mut path = texts.text(book).to_vec(alloc)?;
+    path.extend_from_slice(b".lisp")?;
+    Ok(path)
+}
+
+/// The spots of a book's items, and behind them the one of a refusal at the end of the list.
+pub(crate) fn spots_of(
+    alloc: Global,
+    name: &[u8],
+    library: &Library,
+    texts: &Texts,
+) -> Result<Spots, NoMemory> {
+    let mut spots = Spots::new(alloc, name)?;
+    for i in 0..library.items.len() {
+        match library.items.at(i) {
+            Item::Form(form) => spots.put_form(texts, form)?,
+            Item::Mark(mark) => spots.put_mark(alloc, texts, *mark)?,
+        }
+    }
+    spots.put(0, 0, 0)?;
+    Ok(spots)
+}

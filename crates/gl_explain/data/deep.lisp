@@ -1,0 +1,3 @@
+(defun f (a)
+  (let ((b (+ a 1)))
+    (list a (logand BB b))))
