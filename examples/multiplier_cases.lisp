@@ -1,5 +1,6 @@
 ; A multiplier of 8 by 16 bits against shifts and adds, by the four low bits of the multiplicand. In one run it takes more than the
-; usual 1,000,000 nodes: `UNDECIDED MULTIPLIER nodes`. Each case has four bits fewer, and takes less than half of them.
+; usual 1,000,000 nodes, and a search more than its usual clauses: `UNDECIDED MULTIPLIER nodes`. Each case has four bits fewer, and
+; takes less than half of them.
 (defun shift-and-add (n x y)
   (if (zp n)
       0
