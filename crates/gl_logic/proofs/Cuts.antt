@@ -1,6 +1,5 @@
 -- A world as it was when it had less.
-use Rattle.std.proofs.Common.{◌≡◌, ◌∙◌, ap, sym, refl, subst, ℕ, zero, suc, List, [], ◌∷◌, map, take}
-use Rattle.gl_logic.specs.Definition.{Definition}
+use Rattle.std.proofs.Common.{◌≡◌, ap, sym, refl, subst, ℕ, zero, suc, List, [], ◌∷◌, map, take}
 use Rattle.gl_logic.specs.DefinitionOf.{definition_of}
 use Rattle.gl_logic.specs.NewNames.{numbers_of}
 use Rattle.gl_logic.specs.Named.{IsIndex}

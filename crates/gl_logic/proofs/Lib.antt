@@ -39,3 +39,4 @@ pub mod Calls
 pub mod Beside
 pub mod PartsOfWalks
 pub mod CallsAreParts
+pub mod CellCounts

@@ -27,6 +27,10 @@ abbrev mutual
 abbrev pub world_constants : WorldSeen → List Object
 world_constants w = map (λ c. c.1) w.constants ++ flat_map (λ d. constants_of d.body) w.definitions
 
+-- the integers, characters and conses that are parts of these, each as often as it occurs
+abbrev pub constant_cells : WorldSeen → List Object
+constant_cells w = flat_map cells_in (world_constants w)
+
 -- the integers, characters and conses that are parts of the objects of the environment, of these constants, of those in the term, and of the values of the visited subterms
 abbrev pub cells : WorldSeen → ℕ → List (ℕ × Object) → Exp → List Object
 cells w n env t = flat_map cells_in (map (λ p. p.1) env ++ (world_constants w ++ (constants_of t ++ seen w.definitions n env t)))

@@ -1,7 +1,11 @@
 //! Terms of the logic.
 
-ghost use Rattle.std.specs.Prelude.{◌≡◌, map, IfOk};
-ghost use Rattle.gl_logic.specs.TermOf.{term_of};
+ghost use Rattle.std.specs.Prelude.{◌≡◌, map, length, IfOk};
+ghost use Rattle.std.specs.Io.Iter.{u64_saturate};
+ghost use Rattle.std.specs.List.{flat_map};
+ghost use Rattle.gl_logic.specs.CellCounts.{constants_of, constants_of_all};
+ghost use Rattle.gl_logic.specs.Parts.{cells_in};
+ghost use Rattle.gl_logic.specs.TermOf.{term_of, terms_of};
 
 use super::ids::{FnId, NoMemory, TextId};
 use super::names::Names;
@@ -52,6 +56,27 @@ impl Term {
             }
         }
     }
+
+    /// How many integers, characters and conses are parts of the constants in the term, each as often as it occurs;
+    /// 2^64 - 1 where they are more.
+    #[cycle(cells)]
+    pub fn constant_cell_count(&self) -> u64
+        ensures { result ≡ u64_saturate (length (flat_map cells_in (constants_of (term_of self.now)))) }
+    {
+        match self {
+            Term::Var(_) => 0,
+            Term::Const(tree) => tree.cell_count(),
+            Term::If(test, then, otherwise) => test
+                .constant_cell_count()
+                .saturating_add(then.constant_cell_count())
+                .saturating_add(otherwise.constant_cell_count()),
+            Term::Prim(_, terms) => constant_cells_in(terms.as_slice()),
+            Term::Call(_, terms) => constant_cells_in(terms.as_slice()),
+            Term::Let(_, terms, body) => {
+                constant_cells_in(terms.as_slice()).saturating_add(body.constant_cell_count())
+            }
+        }
+    }
 }
 
 #[cycle(copy)]
@@ -63,4 +88,15 @@ fn copies(alloc: Global, terms: &[Term]) -> Result<Vec<Term>, NoMemory>
         all.push(term.copy(alloc)?)?;
     }
     Ok(all)
+}
+
+#[cycle(cells)]
+fn constant_cells_in(terms: &[Term]) -> u64
+    ensures { result ≡ u64_saturate (length (flat_map cells_in (constants_of_all (terms_of terms.now)))) }
+{
+    let mut count: u64 = 0;
+    for term in terms {
+        count = count.saturating_add(term.constant_cell_count());
+    }
+    count
 }

@@ -1,10 +1,12 @@
 //! Objects that own their parts.
 
-ghost use Rattle.std.specs.Prelude.{◌≡◌, ◌↔◌, IfOk, IsTrue};
+ghost use Rattle.std.specs.Prelude.{◌≡◌, ◌↔◌, IfOk, IsTrue, length};
+ghost use Rattle.std.specs.Io.Iter.{u64_saturate};
 ghost use Rattle.gl_logic.specs.Object.{Int, Character, Symbol, Text, Cons, nil};
 ghost use Rattle.gl_logic.specs.ObjectEq.{is_nil as nil_told};
 ghost use Rattle.gl_logic.specs.Lists.{elements_of, tail_of};
 ghost use Rattle.gl_logic.specs.Kind.{kind_of};
+ghost use Rattle.gl_logic.specs.Parts.{cells_in};
 
 use super::ids::{NoMemory, TextId};
 use std::alloc::Global;
@@ -167,6 +169,26 @@ impl Tree {
         match &self.node {
             Node::Symbol(text) => text.number == 0,
             _ => false,
+        }
+    }
+
+    /// How many integers, characters and conses are parts of the object, each as often as it occurs; 2^64 - 1 where they
+    /// are more.
+    pub fn cell_count(&self) -> u64
+        ensures { result ≡ u64_saturate (length (cells_in self.now)) }
+    {
+        match &self.node {
+            Node::Int(_) => 1,
+            Node::Character(_) => 1,
+            Node::Symbol(_) => 0,
+            Node::Text(_) => 0,
+            Node::List(elements, tail) => {
+                let mut count = tail.cell_count();
+                for element in elements {
+                    count = count.saturating_add(1).saturating_add(element.cell_count());
+                }
+                count
+            }
         }
     }
 

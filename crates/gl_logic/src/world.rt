@@ -1,13 +1,17 @@
 //! Worlds: definitions, constants and accepted events.
 
-ghost use Rattle.std.specs.Prelude.{◌≡◌, ◌↔◌, ◌<◌, ◌-◌, [], ◌∷◌, ◌++◌, take, length, map, slice_get, Some, IfOk, OnOk, OnErr};
+ghost use Rattle.std.specs.Prelude.{◌≡◌, ◌↔◌, ◌<◌, ◌≤◌, ◌-◌, [], ◌∷◌, ◌++◌, take, length, map, slice_get, Some, IfOk, OnOk, OnErr};
+ghost use Rattle.std.specs.Io.Iter.{u64_saturate};
+ghost use Rattle.std.specs.List.{flat_map};
 ghost use Rattle.std.specs.Option.{option_copied, option_map};
+ghost use Rattle.gl_logic.specs.CellCounts.{constant_cells, constants_of};
 ghost use Rattle.gl_logic.specs.DefinitionOf.{definition_of};
 ghost use Rattle.gl_logic.specs.IsTermOf.{IsTermOf};
 ghost use Rattle.gl_logic.specs.IsGround.{IsGround};
 ghost use Rattle.gl_logic.specs.Named.{AreDifferentNames, AreFreeNames, IsFree, IsIndex, names_of, object_named, place_of};
 ghost use Rattle.gl_logic.specs.IsAdmissible.{IsAdmissible};
 ghost use Rattle.gl_logic.specs.IsTotal.{IsTotal};
+ghost use Rattle.gl_logic.specs.Parts.{cells_in};
 ghost use Rattle.gl_logic.specs.Extents.{world_cut};
 ghost use Rattle.gl_logic.specs.NewNames.{numbers_of};
 ghost use Rattle.gl_logic.specs.WorldSeen.{IsWorld, IsClique, IsDefinitionOf, definition_names, with_clique, with_definition, with_constant, with_event};
@@ -31,10 +35,14 @@ pub struct World {
     cliques: Vec<u64>,
     constants: NamedTrees,
     events: NamedTrees,
+    // at least how many cells its constants and those in its bodies have
+    cell_bound: u64,
 }
 
 impl Model for World {
-    ghost use Rattle.std.specs.Prelude.{map};
+    ghost use Rattle.std.specs.Prelude.{◌≤◌, length, map};
+    ghost use Rattle.std.specs.Io.Iter.{u64_saturate};
+    ghost use Rattle.gl_logic.specs.CellCounts.{constant_cells};
     ghost use Rattle.gl_logic.specs.Named.{IsIndex};
     ghost use Rattle.gl_logic.specs.WorldSeen.{WorldSeen, coded_world, IsWorld, definition_names};
 
@@ -46,7 +54,11 @@ impl Model for World {
 
     ghost view = { λ w. record { definitions = map definition_of w.definitions.items; cliques = w.cliques.items; constants = w.constants; events = w.events } };
 
-    ghost invariant = { λ w. IsIndex w.definition_index (definition_names (map definition_of w.definitions.items)) × IsWorld (map definition_of w.definitions.items) w.cliques.items };
+    ghost invariant = { λ w. record {
+      index : IsIndex w.definition_index (definition_names (map definition_of w.definitions.items));
+      world : IsWorld (map definition_of w.definitions.items) w.cliques.items;
+      cells : u64_saturate (length (constant_cells (record { definitions = map definition_of w.definitions.items; cliques = w.cliques.items; constants = w.constants; events = w.events }))) ≤ w.cell_bound;
+    } };
 }
 
 /// How many definitions, cliques, constants and events a world has.
@@ -78,6 +90,17 @@ fn cut_definitions(definitions: &mut Vec<Def>, index: &mut NameIndex, len: u64)
     while len < definitions.len() as u64 {
         pop_definition(definitions, index);
     }
+}
+
+/// How many cells the constants of the bodies have, each as often as it occurs; 2^64 - 1 where they are more.
+fn cells_of_bodies(definitions: &[Def]) -> u64
+    ensures { result ≡ u64_saturate (length (flat_map cells_in (flat_map (λ d. constants_of d.body) (map definition_of definitions.now)))) }
+{
+    let mut count: u64 = 0;
+    for definition in definitions {
+        count = count.saturating_add(definition.body.constant_cell_count());
+    }
+    count
 }
 
 impl World {
@@ -121,6 +144,7 @@ impl World {
             cliques: Vec::new(alloc),
             constants: NamedTrees::new(alloc),
             events: NamedTrees::new(alloc),
+            cell_bound: 0,
         })
     }
 
@@ -137,10 +161,12 @@ impl World {
         ensures err { OnErr result (self.new ≡ self.old) }
     {
         let name = def.name;
+        let cells = def.body.constant_cell_count();
         self.definition_index.reserve(name)?;
         self.cliques.reserve(1)?;
         let number = self.definitions.len() as u64;
         self.definitions.push(def)?;
+        self.cell_bound = self.cell_bound.saturating_add(cells);
         self.definition_index.put(name, number);
         match self.cliques.push(1) {
             Ok(()) => Ok(FnId { number }),
@@ -160,11 +186,13 @@ impl World {
         ensures err { OnErr result (self.new ≡ self.old) }
     {
         let mut members = defs.into_items();
+        let cells = cells_of_bodies(members.as_slice());
         self.definition_index.reserve_all(members.as_slice())?;
         self.cliques.reserve(1)?;
         let first = self.definitions.len();
         let count = members.len() as u64;
         self.definitions.append(&mut members)?;
+        self.cell_bound = self.cell_bound.saturating_add(cells);
         self.definition_index
             .put_all(self.definitions.as_slice(), first);
         match self.cliques.push(count) {
@@ -220,13 +248,25 @@ impl World {
         self.constants.at(i)
     }
 
+    /// At least how many integers, characters and conses are parts of the constants and of those in the definitions'
+    /// bodies, each as often as it occurs; 2^64 - 1 where they may be more. After a [`World::cut`] it may be more than they
+    /// are.
+    pub fn constant_cells(&self) -> u64
+        ensures at_least { u64_saturate (length (constant_cells self.now)) ≤ result }
+    {
+        self.cell_bound
+    }
+
     /// Adds a constant. Its value is lost where memory runs out.
     pub fn set_constant(&mut self, name: TextId, value: Tree) -> Result<(), NoMemory>
         requires { IsFree (names_of self.old.constants) name.number }
         ensures ok { OnOk result (self.new ≡ with_constant self.old name.number value) }
         ensures err { OnErr result (self.new ≡ self.old) }
     {
-        self.constants.push(name, value)
+        let cells = value.cell_count();
+        self.constants.push(name, value)?;
+        self.cell_bound = self.cell_bound.saturating_add(cells);
+        Ok(())
     }
 
     /// The value of the constant of a name. Takes no memory.

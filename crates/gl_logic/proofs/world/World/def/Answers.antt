@@ -13,4 +13,4 @@ returns-clause-proper c =
     let asked = c.requires in
     let within : c.args.f.number < length items = omega (arith, view, asked) in
     subst (λ (w : WorldSeen). IsDefinitionOf w.definitions c.args.f.number (definition_of c.index.result.now)) c.self.view_is
-    (definition_of_world _ _ c.self.invariant.1 c.args.f.number (definition_of c.index.result.now) (read_map definition_of items c.args.f.number c.index.result.now within c.index.ensures))
+    (definition_of_world _ _ c.self.invariant.world c.args.f.number (definition_of c.index.result.now) (read_map definition_of items c.args.f.number c.index.result.now within c.index.ensures))
