@@ -16,13 +16,13 @@ mod facts;
 mod fault;
 mod ground;
 mod known;
-mod lone;
 mod member;
 mod part;
 mod rows;
 mod same;
+mod single_definition;
 mod variables;
 
 pub use clique::admit_clique;
 pub use fault::AdmitFault;
-pub use lone::admit;
+pub use single_definition::admit;

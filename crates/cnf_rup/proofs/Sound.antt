@@ -4,8 +4,8 @@ use Rattle.std.specs.List.{list_any, list_all, All}
 use Rattle.std.proofs.lemmas.Bool.{cases_Bool, or_cases, and_parts, not-true, not-false, both_ways}
 use Rattle.std.proofs.lemmas.List.Elements.{All-head, All-tail}
 use Rattle.std.proofs.lemmas.Option.{get_or_from_slice_get, slice_get_within}
-use Rattle.cnf_rup.specs.declared.turn.Turn.{Turn}
-use Rattle.cnf_rup.specs.declared.turn.Turn.TheVariants as turn
+use Rattle.cnf_rup.specs.declared.clause_status.ClauseStatus.{ClauseStatus}
+use Rattle.cnf_rup.specs.declared.clause_status.ClauseStatus.TheVariants as turn
 use Rattle.cnf_rup.specs.Literals.{holds, Satisfies, SatisfiesAll, Follows, IsLiteral, IsClause}
 use Rattle.cnf_rup.specs.Shown.{is_among, negated, is_tautology, left_of, turn_of_left, turn_of, turn_of_named, turn_at, by_turn, stop, IsShown}
 use Rattle.cnf_rup.proofs.Among.{same-literal, among-push, any-among, any-weaker, none-at, clause-at, holds-complement, among-negated}
@@ -79,7 +79,7 @@ module _ (a : ℕ → Bool) (known : List ℤ) (are : AreTrue a known) (c : List
       any-same (holds a) l u.rest u.same (ap (list_any (holds a)) (sym u.is) ∙ left-holds a known are c proper true_one)
 
 -- ---- hints
-pub data Named (clauses : List (List ℤ)) (known : List ℤ) (t : Turn) : Type 0 where
+pub data Named (clauses : List (List ℤ)) (known : List ℤ) (t : ClauseStatus) : Type 0 where
   none : t ≡ turn.Neither → Named clauses known t
   some : (k : ℕ) (c : List ℤ) → slice_get clauses k ≡ Some c → t ≡ turn_of known c → Named clauses known t
 
@@ -91,7 +91,7 @@ pub turn-named : (clauses : List (List ℤ)) (known : List ℤ) (h : ℕ) → Na
 turn-named clauses known zero = none refl
 turn-named clauses known (suc k) = named-at clauses known k (slice_get clauses k) refl
 
-by-turn : (t : Turn) (place : ℕ) (more : ℤ → Option ℕ) → by_turn t (Some place) more ≡ None → (t ≡ turn.Conflict → ⊥) → ((l : ℤ) → t ≡ turn.Unit l → more l ≡ None → ⊥) → ⊥
+by-turn : (t : ClauseStatus) (place : ℕ) (more : ℤ → Option ℕ) → by_turn t (Some place) more ≡ None → (t ≡ turn.Conflict → ⊥) → ((l : ℤ) → t ≡ turn.Unit l → more l ≡ None → ⊥) → ⊥
 by-turn turn.Conflict place more e f g = f refl
 by-turn (turn.Unit l) place more e f g = g l refl e
 by-turn turn.Neither place more e f g = absurd cc
@@ -106,11 +106,11 @@ module _ (clauses : List (List ℤ)) (a : ℕ → Bool) (sat : SatisfiesAll a cl
     | inr last ↦ ap (holds a) (same-literal m l last) ∙ h
   ]
 
-  named-conflict : (known : List ℤ) → AreTrue a known → (t : Turn) → Named clauses known t → t ≡ turn.Conflict → ⊥
+  named-conflict : (known : List ℤ) → AreTrue a known → (t : ClauseStatus) → Named clauses known t → t ≡ turn.Conflict → ⊥
   named-conflict known are t (none n) e = absurd cc
   named-conflict known are t (some k c at is) e = no-conflict a known are c (All-at IsClause clauses k c proper at) (All-at (Satisfies a) clauses k c sat at) (sym is ∙ e)
 
-  named-unit : (known : List ℤ) → AreTrue a known → (t : Turn) → Named clauses known t → (l : ℤ) → t ≡ turn.Unit l → holds a l ≡ true
+  named-unit : (known : List ℤ) → AreTrue a known → (t : ClauseStatus) → Named clauses known t → (l : ℤ) → t ≡ turn.Unit l → holds a l ≡ true
   named-unit known are t (none n) l e = absurd cc
   named-unit known are t (some k c at is) l e = unit-holds a known are c (All-at IsClause clauses k c proper at) (All-at (Satisfies a) clauses k c sat at) l (sym is ∙ e)
 

@@ -4,8 +4,8 @@ use Rattle.std.specs.List.{list_all}
 use Rattle.std.proofs.lemmas.List.{drop_more, drop_all}
 use Rattle.std.proofs.lemmas.List.Elements.{All-head, All-tail}
 use Rattle.std.proofs.lemmas.Bool.{both_ways}
-use Rattle.cnf_rup.specs.declared.turn.Turn.{Turn}
-use Rattle.cnf_rup.specs.declared.turn.Turn.TheVariants as turn
+use Rattle.cnf_rup.specs.declared.clause_status.ClauseStatus.{ClauseStatus}
+use Rattle.cnf_rup.specs.declared.clause_status.ClauseStatus.TheVariants as turn
 use Rattle.std.proofs.lemmas.Option.{slice_get-map}
 use Rattle.std.specs.Option.{option_map}
 use Rattle.cnf_rup.specs.declared.clause.Entry.{Entry}
@@ -16,12 +16,12 @@ use Rattle.cnf_rup.proofs.Among.{literal-same, literal-other}
 use Rattle.cnf_rup.proofs.Sound.{unit-left}
 
 -- what the clause is, where this literal is free and these are left
-abbrev pub ended : List ℤ → Option ℤ → List ℤ → Turn
+abbrev pub ended : List ℤ → Option ℤ → List ℤ → ClauseStatus
 ended known None left = turn_of_left known left
 ended known (Some l) left = cond (list_all (int_eq l) left) (turn.Unit l) turn.Neither
 
 -- the rest of the clause from this place on
-abbrev pub rest_turn : List ℤ → List ℤ → Option ℤ → ℕ → Turn
+abbrev pub rest_turn : List ℤ → List ℤ → Option ℤ → ℕ → ClauseStatus
 rest_turn known c free i = ended known free (left_of known (drop i c))
 
 abbrev pub IsOpen : List ℤ → Option ℤ → Type 0

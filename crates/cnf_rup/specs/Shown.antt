@@ -5,8 +5,8 @@ use Rattle.std.specs.Prelude.{ℕ, zero, suc, ℤ, Bool, not, ◌&&◌, cond, �
 use Rattle.std.specs.Prelude.{neg_ℤ}
 use Rattle.std.specs.Ordering.{int_eq}
 use Rattle.std.specs.List.{list_any, list_all}
-use Rattle.cnf_rup.specs.declared.turn.Turn.{Turn}
-use Rattle.cnf_rup.specs.declared.turn.Turn.TheVariants as turn
+use Rattle.cnf_rup.specs.declared.clause_status.ClauseStatus.{ClauseStatus}
+use Rattle.cnf_rup.specs.declared.clause_status.ClauseStatus.TheVariants as turn
 
 -- whether the literal is one of these
 abbrev pub is_among : List ℤ → ℤ → Bool
@@ -25,12 +25,12 @@ abbrev pub left_of : List ℤ → List ℤ → List ℤ
 left_of known c = filter (λ l. not (is_among known (neg_ℤ l))) c
 
 -- none is left, or one that has no value yet, however often it is written
-abbrev pub turn_of_left : List ℤ → List ℤ → Turn
+abbrev pub turn_of_left : List ℤ → List ℤ → ClauseStatus
 turn_of_left known [] = turn.Conflict
 turn_of_left known (l ∷ ls) = cond (not (is_among known l) && list_all (int_eq l) ls) (turn.Unit l) turn.Neither
 
 -- what a clause is, where these literals are true
-abbrev pub turn_of : List ℤ → List ℤ → Turn
+abbrev pub turn_of : List ℤ → List ℤ → ClauseStatus
 turn_of known c = turn_of_left known (left_of known c)
 
 -- clauses are numbered from 1
@@ -38,15 +38,15 @@ abbrev pub clause_at : List (List ℤ) → ℕ → Option (List ℤ)
 clause_at clauses zero = None
 clause_at clauses (suc k) = slice_get clauses k
 
-abbrev pub turn_of_named : List ℤ → Option (List ℤ) → Turn
+abbrev pub turn_of_named : List ℤ → Option (List ℤ) → ClauseStatus
 turn_of_named known None = turn.Neither
 turn_of_named known (Some c) = turn_of known c
 
 -- what the clause that a hint names is; `Neither` where it names none
-abbrev pub turn_at : List (List ℤ) → List ℤ → ℕ → Turn
+abbrev pub turn_at : List (List ℤ) → List ℤ → ℕ → ClauseStatus
 turn_at clauses known h = turn_of_named known (clause_at clauses h)
 
-abbrev pub by_turn : Turn → Option ℕ → (ℤ → Option ℕ) → Option ℕ
+abbrev pub by_turn : ClauseStatus → Option ℕ → (ℤ → Option ℕ) → Option ℕ
 by_turn turn.Conflict place more = None
 by_turn (turn.Unit l) place more = more l
 by_turn turn.Neither place more = place

@@ -7,8 +7,8 @@ ghost use Rattle.cnf_rup.specs.Marked.{AreWithin, IsOpenUnit};
 ghost use Rattle.cnf_rup.specs.Books.{clauses_of};
 
 use super::clause::Entry;
+use super::clause_status::ClauseStatus;
 use super::trail::Trail;
-use super::turn::Turn;
 use gl_logic::NoMemory;
 
 /// Takes the literals of a clause as false, in a trail without a literal.
@@ -41,11 +41,11 @@ pub fn is_one_true(trail: &Trail, clause: &[i32]) -> bool
 }
 
 /// What a clause is where the literals of the trail are true.
-pub fn turn(trail: &Trail, clause: &[i32]) -> Turn
+pub fn turn(trail: &Trail, clause: &[i32]) -> ClauseStatus
     requires within { AreWithin trail.now.room clause.now }
     requires small { trail.now.room < 2 ^ 32 }
     ensures turn { result ≡ turn_of trail.now.literals clause.now }
-    ensures unit { (l : ℤ) → result ≡ Turn.Unit l → IsOpenUnit trail.now.room trail.now.literals l }
+    ensures unit { (l : ℤ) → result ≡ ClauseStatus.Unit l → IsOpenUnit trail.now.room trail.now.literals l }
 {
     let mut free = None;
     for literal in clause {
@@ -53,29 +53,29 @@ pub fn turn(trail: &Trail, clause: &[i32]) -> Turn
             continue;
         }
         if trail.is_true(*literal) {
-            return Turn::Neither;
+            return ClauseStatus::Neither;
         }
         match free {
-            Some(other) if other != *literal => return Turn::Neither,
+            Some(other) if other != *literal => return ClauseStatus::Neither,
             _ => free = Some(*literal),
         }
     }
     match free {
-        Some(literal) => Turn::Unit(literal),
-        None => Turn::Conflict,
+        Some(literal) => ClauseStatus::Unit(literal),
+        None => ClauseStatus::Conflict,
     }
 }
 
 /// What the clause that a hint names is.
-fn turn_at_hint(trail: &Trail, entries: &[Entry], hint: u32) -> Turn
+fn turn_at_hint(trail: &Trail, entries: &[Entry], hint: u32) -> ClauseStatus
     requires some { 0 < hint }
     requires within { All (λ e. AreWithin trail.now.room e.clause) entries.now }
     requires small { trail.now.room < 2 ^ 32 }
     ensures turn { result ≡ turn_at (clauses_of entries.now) trail.now.literals hint }
-    ensures unit { (l : ℤ) → result ≡ Turn.Unit l → IsOpenUnit trail.now.room trail.now.literals l }
+    ensures unit { (l : ℤ) → result ≡ ClauseStatus.Unit l → IsOpenUnit trail.now.room trail.now.literals l }
 {
     match entries.get(hint as usize - 1) {
-        None => Turn::Neither,
+        None => ClauseStatus::Neither,
         Some(entry) => turn(trail, entry.clause.as_slice()),
     }
 }
@@ -92,9 +92,9 @@ fn follow(trail: &mut Trail, entries: &[Entry], hints: &[u32]) -> Result<Option<
     let mut place = 0;
     for hint in hints {
         match turn_at_hint(trail, entries, *hint) {
-            Turn::Conflict => return Ok(None),
-            Turn::Unit(literal) => trail.set(literal)?,
-            Turn::Neither => return Ok(Some(place)),
+            ClauseStatus::Conflict => return Ok(None),
+            ClauseStatus::Unit(literal) => trail.set(literal)?,
+            ClauseStatus::Neither => return Ok(Some(place)),
         }
         place += 1;
     }

@@ -11,11 +11,11 @@
 mod book;
 pub mod check;
 pub mod clause;
+pub mod clause_status;
 mod cnf;
 mod cone;
 pub mod laws;
 pub mod trail;
-pub mod turn;
 
 pub use book::{ClauseBook, Learn};
 pub use clause::{Clause, Entry, Hints};

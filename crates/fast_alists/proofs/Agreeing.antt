@@ -142,3 +142,7 @@ module _ (objects : List Object) (key alist : Id) (longer : Longer) (is : IsLong
 
     pub handed_over : TakesOver {E = NoMemory} old new alist (Ok longer.list)
     handed_over = taken_over old hands.between new objects alist longer.list (object_at objects longer.pair) hands.after is.list (no_table old hands.between alist hands.taken) hands.kept
+
+-- no list has a table
+pub none_agree : (objects : List Object) (tables : List (Id × List (Id × Id))) → tables ≡ [] → Agree objects tables
+none_agree objects tables none alist table e = none_some table (sym (ap (λ ts. table_in ts alist) none) ∙ e)

@@ -1,6 +1,6 @@
 //! The tables of lists.
 
-ghost use Rattle.std.specs.Prelude.{◌≡◌, List, None, IfOk, IfSome, IsSome};
+ghost use Rattle.std.specs.Prelude.{◌≡◌, List, [], None, IfOk, IfSome, IsSome};
 ghost use Rattle.std.specs.Option.{option_map};
 ghost use Rattle.gl_logic.specs.Object.{Object};
 ghost use Rattle.hons_arena.specs.Held.{IsWhole};
@@ -41,6 +41,7 @@ impl Model for FastAlists {
 impl FastAlists {
     /// No tables.
     pub fn new(alloc: Global) -> Result<FastAlists, NoMemory>
+        ensures none { IfOk result (λ f. f ≡ []) }
         ensures agree { IfOk result (λ f. (objects : List Object) → Agree objects f) }
     {
         Ok(FastAlists {
@@ -116,6 +117,7 @@ impl FastAlists {
 
     /// Drops all tables.
     pub fn clear(&mut self)
+        ensures none { self.new ≡ [] }
         ensures agree { (objects : List Object) → Agree objects self.new }
     {
         self.tables.clear();

@@ -8,7 +8,7 @@ ghost use Rattle.gl_translate.specs.Translation.{head_name};
 ghost use Rattle.gl_translate.specs.Setting.{first_byte as first_of, last_byte as last_of, is_starred as starred, is_mark as mark_is, has_mark as mark_in};
 
 use super::fault::TermFault;
-use super::owns::Owns;
+use super::own_definitions::Owns;
 use super::scope::Scope;
 use gl_logic::{FnId, TextId, Texts, Tree, TreeKind, World};
 use std::alloc::Global;

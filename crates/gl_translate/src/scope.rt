@@ -1,6 +1,6 @@
 //! What a form's symbols may mean.
 
-use super::owns::Owns;
+use super::own_definitions::Owns;
 use gl_logic::Names;
 
 /// What a form's symbols may mean beside the world's definitions and constants.

@@ -72,6 +72,13 @@ impl HonsArena {
         self.cells.len() as u32
     }
 
+    /// How many cells there may be.
+    pub fn limit(&self) -> u32
+        ensures { result ≡ self.now.limit }
+    {
+        self.limit
+    }
+
     /// Whether no cell is left.
     pub(crate) fn is_full(&self) -> bool
         ensures full { IsTrue result ↔ (length self.now.objects ≡ self.now.limit) }

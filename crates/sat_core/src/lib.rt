@@ -55,7 +55,6 @@ mod clauses;
 mod decide;
 mod eliminate;
 mod literal;
-mod names;
 mod order;
 mod propagate;
 mod propose;
@@ -63,6 +62,7 @@ mod restarts;
 mod search;
 mod store;
 mod trail;
+mod variable_map;
 mod watch;
 
 pub use store::AigSat;

@@ -132,7 +132,7 @@ impl Order {
     }
 
     /// Puts a variable back, where it is not there.
-    pub fn put_back(&mut self, variable: u32) -> Result<(), NoMemory> {
+    pub fn reinsert(&mut self, variable: u32) -> Result<(), NoMemory> {
         let index = variable as usize;
         if index >= self.places.len() || self.places[index].is_some() {
             return Ok(());

@@ -7,10 +7,10 @@ use super::analysis::Analysis;
 use super::clauses::Clauses;
 use super::eliminate::{Elimination, Pair};
 use super::literal::Literal;
-use super::names::Names;
 use super::order::Order;
 use super::restarts::Restarts;
 use super::trail::{Trail, Truth};
+use super::variable_map::VariableMap;
 use super::watch::{Watch, Watches};
 use cnf_rup::ClauseBook;
 use gl_logic::NoMemory;
@@ -40,7 +40,7 @@ enum Stage {
 #[derive(Drop)]
 pub struct Search {
     pub(crate) variables: u32,
-    pub(crate) names: Names,
+    pub(crate) names: VariableMap,
     pub(crate) clauses: Clauses,
     /// The clauses of two literals, by each.
     pub(crate) pairs: Watches,
@@ -76,7 +76,7 @@ const FEW: u32 = 500;
 impl Search {
     /// A search over the clauses of a book.
     pub fn new(alloc: Global, book: &ClauseBook) -> Result<Search, NoMemory> {
-        let mut names = Names::new(alloc);
+        let mut names = VariableMap::new(alloc);
         names.number_all(book)?;
         let variables = names.count();
         let mut search = Search {
@@ -192,7 +192,7 @@ impl Search {
     }
 
     /// Takes back all levels behind this one.
-    fn go_back(&mut self, level: u32) -> Result<(), NoMemory> {
+    fn backtrack(&mut self, level: u32) -> Result<(), NoMemory> {
         for _ in 0..self.trail.len() {
             let Some(literal) = self.trail.take_back(level) else {
                 break;
@@ -202,7 +202,7 @@ impl Search {
             if index < self.phases.len() {
                 self.phases[index] = !literal.is_complemented();
             }
-            self.order.put_back(variable)?;
+            self.order.reinsert(variable)?;
         }
         self.trail.end_levels(level);
         Ok(())
@@ -307,7 +307,7 @@ impl Search {
         let is_due = self.restarts.is_due(glue);
         let is_time = self.is_time();
         let back = if is_due || is_time { 0 } else { level };
-        self.go_back(back)?;
+        self.backtrack(back)?;
         if self.left == 0 {
             self.forget()?;
         }
@@ -323,7 +323,7 @@ impl Search {
     /// Takes in a clause that says nothing, and goes back to level 0.
     pub fn begin_again(&mut self) -> Result<(), NoMemory> {
         self.clauses.push(&[], 0)?;
-        self.go_back(0)
+        self.backtrack(0)
     }
 
     /// Forgets about half of the longer clauses that were learned. The book keeps them, and so does what they are a reason of.

@@ -17,7 +17,7 @@ use Rattle.sexp_reader.specs.Symbols.{named, colon_at, plain_piece, keyword_piec
 use Rattle.sexp_reader.specs.Tokens.{integer_piece, dots_piece, token_piece}
 use Rattle.sexp_reader.specs.Strings.{behind_text, string_rest}
 use Rattle.sexp_reader.specs.Comments.{comment_rest, comment_piece}
-use Rattle.sexp_reader.specs.Hashes.{character_code, coded_piece, character_piece, base_of, based_piece, hash_piece}
+use Rattle.sexp_reader.specs.Hashes.{character_code, coded_piece, character_piece, base_of, based_piece, sharp_piece}
 use Rattle.sexp_reader.specs.Pieces.{comma_piece, first_piece}
 
 -- an integer within 128 bits, a character of a code that is at most 127
@@ -156,7 +156,7 @@ based_fine : (base : Option ℕ) (token : List ℕ) → Fine (based_piece base t
 based_fine None token = tt
 based_fine (Some base) token = both (is_integer base token) _ _ (λ _. based_integer (2 + length token) base token) (λ _. tt)
 
-hash_fine : (bytes : List ℕ) → Fine (hash_piece bytes)
+hash_fine : (bytes : List ℕ) → Fine (sharp_piece bytes)
 hash_fine [] = tt
 hash_fine (b ∷ bs) = both (b == 124) _ _ (λ _. comment_fine (comment_rest bs 1)) (λ _. both (b == 92) _ _ (λ _. character_fine bs) (λ _. based_fine (base_of b) (front is_constituent bs)))
 

@@ -16,7 +16,7 @@ use Rattle.sexp_reader.specs.Symbols.{named, colon_at, plain_piece, keyword_piec
 use Rattle.sexp_reader.specs.Tokens.{integer_piece, dots_piece, token_piece}
 use Rattle.sexp_reader.specs.Strings.{behind_text, string_rest}
 use Rattle.sexp_reader.specs.Comments.{comment_rest, comment_piece, line_piece}
-use Rattle.sexp_reader.specs.Hashes.{coded_piece, spelled_piece, character_piece, base_of, based_piece, hash_piece}
+use Rattle.sexp_reader.specs.Hashes.{coded_piece, spelled_piece, character_piece, base_of, based_piece, sharp_piece}
 use Rattle.sexp_reader.specs.Pieces.{Spans, comma_piece, first_piece}
 
 either : (n : ℕ) (b : Bool) (p q : Piece) → (b ≡ true → Spans n p) → (b ≡ false → Spans n q) → Spans n (cond b p q)
@@ -147,7 +147,7 @@ comment_spans : (n : ℕ) (bytes : List ℕ) (o : Option ℕ) → comment_rest b
 comment_spans n bytes (Some k) e l = (omega arith, omega (arith, comment_within bytes 1 k e))
 comment_spans n bytes None e l = tt
 
-hash_spans : (n : ℕ) (bytes : List ℕ) → 1 + length bytes ≤ n → Spans n (hash_piece bytes)
+hash_spans : (n : ℕ) (bytes : List ℕ) → 1 + length bytes ≤ n → Spans n (sharp_piece bytes)
 hash_spans n [] k = tt
 hash_spans n (b ∷ bs) k =
     either n (b == 124) _ _ (λ _. comment_spans n bs (comment_rest bs 1) refl (omega arith))

@@ -38,7 +38,7 @@ based_piece None token = Faulty 0 BadHash
 based_piece (Some base) token = if is_integer base token then integer_piece (2 + length token) (integer_of base token) else Faulty 0 BadHash
 
 -- ---- all of them, from behind the number sign (35)
-abbrev pub hash_piece : List ℕ → Piece
-hash_piece [] = Torn
-hash_piece (byte ∷ bytes) =
+abbrev pub sharp_piece : List ℕ → Piece
+sharp_piece [] = Torn
+sharp_piece (byte ∷ bytes) =
     if byte == 124 then comment_piece (comment_rest bytes 1) else (if byte == 92 then character_piece bytes else based_piece (base_of byte) (front is_constituent bytes))

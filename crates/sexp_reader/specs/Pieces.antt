@@ -9,7 +9,7 @@ use Rattle.sexp_reader.specs.Bytes.{is_white, is_constituent, front}
 use Rattle.sexp_reader.specs.Tokens.{token_piece}
 use Rattle.sexp_reader.specs.Comments.{line_piece}
 use Rattle.sexp_reader.specs.Strings.{string_piece}
-use Rattle.sexp_reader.specs.Hashes.{hash_piece}
+use Rattle.sexp_reader.specs.Hashes.{sharp_piece}
 
 -- behind a comma: no `@` (64) may follow right after it
 abbrev pub comma_piece : List ℕ → Piece
@@ -21,7 +21,7 @@ comma_piece (byte ∷ bytes) = if byte == 64 then Part 1 lexeme.Splice else Part
 abbrev pub first_piece : List ℕ → Piece
 first_piece [] = Ended
 first_piece (byte ∷ bytes) =
-    if is_white byte then Gap 1 else (if byte == 59 then line_piece bytes else (if byte == 40 then Part 1 lexeme.Open else (if byte == 41 then Part 1 lexeme.Close else (if byte == 39 then Part 1 (lexeme.Prefix Quote) else (if byte == 96 then Part 1 (lexeme.Prefix Backquote) else (if byte == 44 then comma_piece bytes else (if byte == 34 then string_piece bytes else (if byte == 35 then hash_piece bytes else (if is_constituent byte then token_piece (front is_constituent (byte ∷ bytes)) else Faulty 0 BadByte)))))))))
+    if is_white byte then Gap 1 else (if byte == 59 then line_piece bytes else (if byte == 40 then Part 1 lexeme.Open else (if byte == 41 then Part 1 lexeme.Close else (if byte == 39 then Part 1 (lexeme.Prefix Quote) else (if byte == 96 then Part 1 (lexeme.Prefix Backquote) else (if byte == 44 then comma_piece bytes else (if byte == 34 then string_piece bytes else (if byte == 35 then sharp_piece bytes else (if is_constituent byte then token_piece (front is_constituent (byte ∷ bytes)) else Faulty 0 BadByte)))))))))
 
 -- a gap and a lexeme have one byte at least, and no piece has more than a text of so many bytes
 abbrev pub Spans : ℕ → Piece → Type 0

@@ -6,8 +6,8 @@ ghost use Rattle.sexp_reader.specs.Pieces.{comma_piece, first_piece, Spans};
 use crate::byte::{is_constituent, is_white, token_len};
 use crate::comment::line_comment;
 use crate::ends::ReadCode;
-use crate::hash::hash_piece;
 use crate::lexeme::{Lexeme, Mark, Piece};
+use crate::sharp_sign::sharp_piece;
 use crate::string::string_piece;
 use crate::token::token_piece;
 use gl_logic::NoMemory;
@@ -51,7 +51,7 @@ fn next_piece(alloc: Global, bytes: &[u8]) -> Result<Piece, NoMemory>
         b'`' => Ok(Piece::Part(1, Lexeme::Prefix(Mark::Backquote))),
         b',' => Ok(comma_piece(rest)),
         b'"' => string_piece(alloc, rest),
-        b'#' => hash_piece(alloc, rest),
+        b'#' => sharp_piece(alloc, rest),
         byte if is_constituent(byte) => token_piece(alloc, &bytes[..token_len(bytes)]),
         _ => Ok(Piece::Faulty(0, ReadCode::BadByte)),
     }

@@ -8,9 +8,8 @@ ghost use Rattle.gl_logic.specs.Width.{Fits};
 ghost use Rattle.sym_bits.specs.Integers.{AllLive, integer_under};
 
 use super::bitwise::xor_bits;
-use super::gates::{choose, differ, either};
 use super::lists::{above, bit};
-use bfr_store::{Bits, Bitvec, Edge, Full};
+use bfr_store::{Bits, Bitvec, Edge, Full, choose, differ, either};
 
 /// Whether an integer is not 0. `Full` as for `Bits::and`.
 pub fn is_nonzero<B: Bits>(store: &mut B, a: &Bitvec) -> Result<Edge, Full>

@@ -4,8 +4,7 @@ ghost use Rattle.std.specs.Prelude.{◌≡◌, ℕ, Bool};
 ghost use Rattle.bfr_store.specs.Keeps.{Makes};
 ghost use Rattle.sym_bits.specs.Gates.{GateLive, gate_bit};
 
-use super::gates::{both, choose, differ, either};
-use bfr_store::{Bits, Edge, Full};
+use bfr_store::{Bits, Edge, Full, both, choose, differ, either};
 
 /// What is done with each pair of bits.
 #[derive(Clone, Copy)]

@@ -6,10 +6,9 @@ ghost use Rattle.sym_bits.specs.Integers.{AllLive, integer_under};
 ghost use Rattle.sym_bits.specs.Calls.{MakesInteger};
 
 use super::bitwise::select;
-use super::gates::differ;
 use super::lists::{bit, constant_bit};
 use super::sums::sum;
-use bfr_store::{Bits, Bitvec, Full};
+use bfr_store::{Bits, Bitvec, Full, differ};
 
 /// How many bits an integer of at most 259 bits has beside its sign. `Full` as for `Bits::and`.
 pub fn int_length<B: Bits>(store: &mut B, a: &Bitvec) -> Result<Bitvec, Full>

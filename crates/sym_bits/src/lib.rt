@@ -12,7 +12,7 @@
 //!
 //! How the results are made, so that they take few nodes:
 //!
-//! - the gates work out constants, equal edges and complements, and call the store for the rest alone;
+//! - the gates of `bfr_store` work out constants, equal edges and complements, and call the store for the rest alone;
 //! - a sum is one full adder a bit; a comparison is one chain from the lowest bit;
 //! - a product adds a row for each bit of the second factor, at the width of the first: what is lower is done;
 //! - a quotient is made from the top, one difference and one choice of the divisor's width a turn, as many turns as the
@@ -42,8 +42,8 @@ mod bitwise;
 mod comparisons;
 mod digits;
 mod division;
+mod full_add;
 mod gate;
-mod gates;
 mod lengths;
 mod lists;
 mod places;
@@ -55,7 +55,6 @@ mod sums;
 
 pub use bitwise::{and_bits, complement, complement_if, or_bits, select, xor_bits};
 pub use comparisons::{fits, is_nonzero, less, same};
-pub use gates::{both, choose, differ, either, is_constant};
 pub use lengths::int_length;
 pub use lists::{above, bit, constant_bit, digit_of, mask, narrow};
 pub use places::bit_at;

@@ -10,9 +10,8 @@ ghost use Rattle.sym_bits.specs.Columns.{low_number};
 ghost use Rattle.sym_bits.specs.Integers.{AllLive, bits_under, integer_under};
 
 use super::comparisons::is_nonzero;
-use super::gates::choose;
 use super::lists::{above, bit};
-use bfr_store::{Bits, Bitvec, Edge, Full};
+use bfr_store::{Bits, Bitvec, Edge, Full, choose};
 
 /// The bit at `base` plus the number of the lowest `level` bits of the index; `span` is two to the power `level`.
 fn pick<B: Bits>(

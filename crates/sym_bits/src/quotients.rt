@@ -10,10 +10,9 @@ ghost use Rattle.sym_bits.specs.Integers.{AllLive, integer_under};
 use super::bitwise::{complement_if, select};
 use super::comparisons::is_nonzero;
 use super::division::divide;
-use super::gates::differ;
 use super::lists::{bit, constant_bit};
 use super::sums::{add, negate_if};
-use bfr_store::{Bits, Bitvec, Full};
+use bfr_store::{Bits, Bitvec, Full, differ};
 
 /// The quotient, rounded down, and the rest by a divisor above 0, of at most 129 bits each: the complement of a negative
 /// dividend is divided, and the answers are turned over again. `Full` as for `Bits::and`.

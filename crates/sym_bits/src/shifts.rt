@@ -12,10 +12,9 @@ ghost use Rattle.sym_bits.specs.Shifting.{MakesShifted};
 
 use super::bitwise::select;
 use super::comparisons::{fits, is_nonzero, same};
-use super::gates::{both, choose, is_constant};
 use super::lists::{above, bit, moved, narrow};
 use super::shifted::Shifted;
-use bfr_store::{Bits, Bitvec, Edge, Full};
+use bfr_store::{Bits, Bitvec, Edge, Full, both, choose, is_constant};
 
 /// An integer of at most 128 bits times two to the power of the number of the lowest `levels` bits of a count: one
 /// choice of a longer integer for each of these bits. `Full` as for `Bits::and`.

@@ -8,9 +8,9 @@ ghost use Rattle.sym_bits.specs.Calls.{MakesInteger, Stands, sum_from};
 
 use super::bitwise::{complement, complement_if};
 use super::digits::Digits;
-use super::gates::{differ, full_add};
+use super::full_add::full_add;
 use super::lists::{bit, constant_bit, digit_of};
-use bfr_store::{Bits, Bitvec, Edge, Full};
+use bfr_store::{Bits, Bitvec, Edge, Full, differ};
 
 /// The columns below the top one of a sum of two integers and a carry, and what they carry.
 fn low_columns<B: Bits>(

@@ -3,7 +3,7 @@
 
 use bdd_store::Bdd;
 use bdd_store::node::{FALSE, TRUE};
-use bfr_store::{Bits, Decision, Edge, exclusive_or, or};
+use bfr_store::{Bits, Decision, Edge, differ, either};
 use gl_logic::Assignment;
 use std::alloc::Global;
 use std::process::Abort;
@@ -25,12 +25,12 @@ fn complement(rt: &impl Abort, store: &Bdd, x: Edge) -> Edge {
 
 fn disjunction(rt: &impl Abort, store: &mut Bdd, x: Edge, y: Edge) -> Edge {
     assert!(rt; store.is_live(x) && store.is_live(y));
-    or(store, x, y).expect(rt, "no room for a disjunction")
+    either(store, x, y).expect(rt, "no room for a disjunction")
 }
 
 fn difference(rt: &impl Abort, store: &mut Bdd, x: Edge, y: Edge) -> Edge {
     assert!(rt; store.is_live(x) && store.is_live(y));
-    exclusive_or(store, x, y).expect(rt, "no room for an exclusive or")
+    differ(store, x, y).expect(rt, "no room for an exclusive or")
 }
 
 fn choice(rt: &impl Abort, store: &mut Bdd, t: Edge, x: Edge, y: Edge) -> Edge {
@@ -312,7 +312,7 @@ fn limit_reached(rt: HostRuntime) {
         let v = variable(&rt, &mut store, k);
         assert!(rt; store.is_live(whole));
         assert!(rt; store.is_live(v));
-        match exclusive_or(&mut store, whole, v) {
+        match differ(&mut store, whole, v) {
             Ok(next) => whole = next,
             Err(_) => refusals = refusals.saturating_add(1),
         }

@@ -5,7 +5,7 @@ ghost use Rattle.bdd_store.specs.Nodes.{IsLive};
 
 use bdd_param::{Edges, ParamFault, parametrise};
 use bdd_store::Bdd;
-use bfr_store::{Bits, Edge, or};
+use bfr_store::{Bits, Edge};
 use gl_logic::Assignment;
 use std::alloc::Global;
 use std::process::Abort;
@@ -21,7 +21,7 @@ fn either(rt: &impl Abort, store: &mut Bdd) -> Edge {
     let x = variable(rt, store, 0);
     let y = variable(rt, store, 1);
     assert!(rt; store.is_live(x) && store.is_live(y));
-    or(store, x, y).expect(rt, "no room for a disjunction")
+    bfr_store::either(store, x, y).expect(rt, "no room for a disjunction")
 }
 
 /// The parameters of a function of the store's variables.

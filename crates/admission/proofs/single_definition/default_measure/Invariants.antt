@@ -1,7 +1,7 @@
 use Rattle.std.proofs.Common.{◌≡◌, drop}
 use Rattle.gl_logic.specs.TermOf.{term_of}
 use Rattle.admission.specs.Admitted.{first_formal, number_for_first, refused_alone}
-use Rattle.admission.proofs.lone.default_measure.Given as goal
+use Rattle.admission.proofs.single_definition.default_measure.Given as goal
 
 abbrev pub invariant-loop-i : goal.invariant-loop-i
 invariant-loop-i l =

@@ -3,7 +3,7 @@ use Rattle.std.specs.Prelude.{unwrap_or}
 use Rattle.gl_logic.specs.TermOf.{term_of}
 use Rattle.admission.specs.Admitted.{refused_alone}
 use Rattle.admission.proofs.LoneDefinitions.{number_first}
-use Rattle.admission.proofs.lone.first_number.Goals as goal
+use Rattle.admission.proofs.single_definition.first_number.Goals as goal
 
 pub returns-in-Some : goal.returns-in-Some
 returns-in-Some c =

@@ -1,7 +1,7 @@
 use Rattle.std.proofs.Common.{◌≡◌, ◌∙◌, ap, eqb, List, ℕ}
 use Rattle.indexmap.specs.IndexMap.{insert_entry}
 use Rattle.gl_translate.proofs.Pushed.{insert_new}
-use Rattle.gl_translate.proofs.owns.Owns.push.Goals as goal
+use Rattle.gl_translate.proofs.own_definitions.Owns.push.Goals as goal
 
 pub returns-clause-ok : goal.returns-clause-ok
 returns-clause-ok c =

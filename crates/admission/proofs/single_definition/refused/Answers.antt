@@ -5,7 +5,7 @@ use Rattle.admission.specs.Numbers.{behind}
 use Rattle.admission.specs.declared.caller.Caller.{Caller}
 use Rattle.admission.proofs.Numbered.{numbered}
 use Rattle.admission.proofs.LoneDefinitions.{lone_number}
-use Rattle.admission.proofs.lone.refused.Goals as goal
+use Rattle.admission.proofs.single_definition.refused.Goals as goal
 
 pub returns-in-Ok : goal.returns-in-Ok
 returns-in-Ok c =

@@ -2,7 +2,7 @@
 
 /// What a clause is where some literals are true.
 #[derive(Clone, Copy, Debug, PartialEq, Eq)]
-pub enum Turn {
+pub enum ClauseStatus {
     /// All its literals are false.
     Conflict,
     /// All but this one are false, and this one has no value.

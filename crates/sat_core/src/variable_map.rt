@@ -7,17 +7,17 @@ use std::alloc::Global;
 
 /// The variables that the book's first clauses have, numbered from 0 as they come.
 #[derive(Drop)]
-pub struct Names {
+pub struct VariableMap {
     /// By variable of the book, that of the search.
     numbers: Vec<Option<u32>>,
     /// By variable of the search, that of the book.
     names: Vec<i32>,
 }
 
-impl Names {
+impl VariableMap {
     /// No variable.
-    pub fn new(alloc: Global) -> Names {
-        Names {
+    pub fn new(alloc: Global) -> VariableMap {
+        VariableMap {
             numbers: Vec::new(alloc),
             names: Vec::new(alloc),
         }

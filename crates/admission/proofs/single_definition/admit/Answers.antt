@@ -2,7 +2,7 @@ use Rattle.std.proofs.Common.{◌∙◌, sym, refl, None}
 use Rattle.gl_logic.specs.TermOf.{term_of}
 use Rattle.admission.specs.Admitted.{refused_alone}
 use Rattle.admission.proofs.LoneDefinitions.{no_calls, has_calls, none_refused, verdict_none, verdict_measured, measured_found}
-use Rattle.admission.proofs.lone.admit.Goals as goal
+use Rattle.admission.proofs.single_definition.admit.Goals as goal
 
 pub returns-in-None-clause-none : goal.returns-in-None-clause-none
 returns-in-None-clause-none c = (λ e. no_calls c.args.f.number c.args.formals.now (term_of c.args.body.now) (sym c.refused.ensures ∙ c.in-None.is), λ e. refl)

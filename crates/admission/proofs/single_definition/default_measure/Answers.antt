@@ -2,7 +2,7 @@ use Rattle.std.proofs.Common.{◌∙◌, sym}
 use Rattle.gl_logic.specs.TermOf.{term_of}
 use Rattle.admission.specs.Admitted.{refused_alone, number_for_first}
 use Rattle.admission.proofs.LoneDefinitions.{formal_hit, formal_miss}
-use Rattle.admission.proofs.lone.default_measure.Goals as goal
+use Rattle.admission.proofs.single_definition.default_measure.Goals as goal
 
 pub returns-in-None : goal.returns-in-None
 returns-in-None c =

@@ -1,7 +1,7 @@
 //! What begins with a number sign: block comments, characters, and integers in other bases.
 
 ghost use Rattle.std.specs.Prelude.{◌≡◌, IfOk, ◌<◌, ◌+◌, ◌^◌, length};
-ghost use Rattle.sexp_reader.specs.Hashes.{character_code, coded_piece, spelled_piece, character_piece, base_of, based_piece, hash_piece};
+ghost use Rattle.sexp_reader.specs.Hashes.{character_code, coded_piece, spelled_piece, character_piece, base_of, based_piece, sharp_piece};
 
 use crate::byte::{is_constituent, is_printable, token_len, upper, upper_case};
 use crate::comment::block_comment;
@@ -97,9 +97,9 @@ fn based_piece(base: Option<u8>, token: &[u8]) -> Piece
 }
 
 /// What begins with a number sign, from behind it.
-pub fn hash_piece(alloc: Global, bytes: &[u8]) -> Result<Piece, NoMemory>
+pub fn sharp_piece(alloc: Global, bytes: &[u8]) -> Result<Piece, NoMemory>
     requires { length bytes.now + 2 < 2 ^ 64 }
-    ensures { IfOk result (λ piece. piece ≡ hash_piece bytes.now) }
+    ensures { IfOk result (λ piece. piece ≡ sharp_piece bytes.now) }
 {
     match bytes {
         [] => Ok(Piece::Torn),
