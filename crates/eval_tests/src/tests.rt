@@ -232,6 +232,78 @@ fn width(rt: HostRuntime) {
     all_rows(&rt, rt.alloc(), &world, &term, &none, &rows);
 }
 
+// sets a constant to an integer, under a name that is free
+fn set(rt: &impl Abort, world: &mut World, number: u64, value: i128) {
+    let name = TextId { number };
+    let is_free = world.constant(name).is_none();
+    assert!(rt; is_free);
+    world
+        .set_constant(name, Tree::int(value))
+        .expect(rt, "no memory");
+}
+
+// a world whose constants have these values
+fn constants(rt: &impl Abort, alloc: Global, values: &[i128]) -> World {
+    let mut world = World::new(alloc).expect(rt, "no memory");
+    for i in 0..values.len() {
+        set(rt, &mut world, i as u64, values[i]);
+    }
+    world
+}
+
+// how many cells are held at the beginning, where there is room for so many
+fn held_at_first(
+    rt: &impl Abort,
+    alloc: Global,
+    values: &[i128],
+    cells: u32,
+) -> Result<u32, EvalFault> {
+    let world = constants(rt, alloc, values);
+    let mut machine = Machine::new(alloc, &limits_of(1)).expect(rt, "no memory");
+    *machine.arena_mut() = HonsArena::new(alloc, cells).expect(rt, "no memory");
+    match machine.begin(&world, &FnSet::new(alloc)) {
+        Ok(()) => Ok(machine.arena().count()),
+        Err(fault) => Err(fault),
+    }
+}
+
+#[test]
+fn constants_at_first(rt: HostRuntime) {
+    let different: [i128; 3] = [1, 2, 3];
+    let repeated: [i128; 5] = [1, 2, 1, 2, 1];
+    let rows: [(&[i128], u32, Result<u32, EvalFault>); 4] = [
+        (&different, 3, Ok(0)),
+        (&different, 2, Err(EvalFault::Cells)),
+        (&repeated, 5, Ok(0)),
+        (&repeated, 2, Ok(2)),
+    ];
+    for (values, cells, wanted) in &rows {
+        let held = held_at_first(&rt, rt.alloc(), values, *cells);
+        assert!(rt; held == *wanted, "{cells}");
+    }
+}
+
+// (cons '7 x)
+fn seven_first(rt: &impl Abort, alloc: Global) -> Term
+    ensures { term_of result ≡ exp.Prim prim.Cons (More (exp.Const (Int (pos 7))) (More (exp.Var 5) Last)) }
+{
+    let x = Term::Var(TextId { number: 5 });
+    of_two(rt, alloc, Prim::Cons, Term::Const(Tree::int(7)), x)
+}
+
+// the constant is placed when it is met: there is room for it, the value of x and their cons, or for one less
+#[test]
+fn constants_when_met(rt: HostRuntime) {
+    let world = constants(&rt, rt.alloc(), &[7]);
+    let term = seven_first(&rt, rt.alloc());
+    let rows = [
+        (3, 3, Some(41), Ok(Kind::Cons)),
+        (3, 2, Some(41), Err(EvalFault::Cells)),
+    ];
+    let none = FnSet::new(rt.alloc());
+    all_rows(&rt, rt.alloc(), &world, &term, &none, &rows);
+}
+
 #[test]
 fn back_to_a_mark(rt: HostRuntime) {
     let world = atoms(&rt, rt.alloc());

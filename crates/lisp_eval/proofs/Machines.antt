@@ -1,8 +1,6 @@
 -- Machines: what stays as their arenas grow.
 use Rattle.std.proofs.Common.{◌≡◌, ◌∙◌, ap, sym, refl, subst, ℕ, zero, suc, ◌<◌, arith, List, [], ◌∷◌, ◌++◌, length, append_assoc, Result, Ok, Err, OnOk, OnErr}
-use Rattle.std.specs.List.{All, Contains}
-use Rattle.std.proofs.lemmas.List.Elements.{Contains-append_left}
-use Rattle.gl_logic.specs.CellCounts.{world_constants}
+use Rattle.std.specs.List.{All}
 use Rattle.gl_logic.specs.Definition.{Definition}
 use Rattle.gl_logic.specs.Object.{Object}
 use Rattle.gl_logic.specs.Walk.{CallMade}
@@ -14,7 +12,7 @@ use Rattle.hons_arena.proofs.Placing.{id_kept}
 use Rattle.memo_tables.specs.Calls.{Call}
 use Rattle.lisp_eval.specs.Answers.{FitMemos, HasGrown}
 use Rattle.lisp_eval.specs.Kept.{entry_of, entries_of}
-use Rattle.lisp_eval.specs.Machines.{MachineSeen, Fits, ArePlaced, IsLiveEntry}
+use Rattle.lisp_eval.specs.Machines.{MachineSeen, Fits, IsLiveEntry}
 use Rattle.lisp_eval.specs.States.{values_of}
 use Rattle.lisp_eval.proofs.Standing.{stable_live}
 
@@ -68,30 +66,22 @@ fit_more definitions old new entries g f = record {
   right = f.right;
 }
 
-pub placed_more : (old new xs : List Object) → HasGrown old new → ArePlaced old xs → ArePlaced new xs
-placed_more old new xs g h x c y i = subst (λ (zs : List Object). Contains zs y) (sym g.1) (Contains-append_left old g.0 y (h x c y i))
-
 -- ---- a machine that fits a world
 pub fits_more : (w : WorldSeen) (old new : MachineSeen) → HasGrown old.arena.objects new.arena.objects → new.functions ≡ old.functions → new.memos ≡ old.memos → Fits w old → Fits w new
 fits_more w old new g f m h = record {
   functions = subst (λ (fs : List ℕ). All (λ f. f < length w.definitions) fs) (sym f) h.functions;
-  constants = placed_more old.arena.objects new.arena.objects (world_constants w) g h.constants;
   memos = subst (λ (es : List (Call × Id)). FitMemos w.definitions new.arena.objects es) (sym m) (fit_more w.definitions old.arena.objects new.arena.objects old.memos g h.memos);
 }
 
-pub fits_kept : (w : WorldSeen) (old new : MachineSeen) → ArePlaced new.arena.objects (world_constants w) → FitMemos w.definitions new.arena.objects new.memos → new.functions ≡ old.functions → Fits w old → Fits w new
-fits_kept w old new placed memos f h = record {
+pub fits_kept : (w : WorldSeen) (old new : MachineSeen) → FitMemos w.definitions new.arena.objects new.memos → new.functions ≡ old.functions → Fits w old → Fits w new
+fits_kept w old new memos f h = record {
   functions = subst (λ (fs : List ℕ). All (λ f. f < length w.definitions) fs) (sym f) h.functions;
-  constants = placed;
   memos = memos;
 }
 
 -- ---- after calls
 pub fits_input : (w : WorldSeen) (old new : MachineSeen) (a : Held) (x : Object) → a ≡ old.arena → AddsCellsOf x a.objects new.arena.objects → new.functions ≡ old.functions → new.memos ≡ old.memos → Fits w old → Fits w new
 fits_input w old new a x e adds f m h = fits_more w old new (subst (λ (b : Held). HasGrown b.objects new.arena.objects) e (grown_by x a.objects new.arena.objects adds)) f m h
-
-pub fits_after : (w : WorldSeen) (old new : MachineSeen) (a : Held) → a ≡ old.arena → HasGrown a.objects new.arena.objects → FitMemos w.definitions new.arena.objects new.memos → new.functions ≡ old.functions → Fits w old → Fits w new
-fits_after w old new a e g memos f h = fits_kept w old new (placed_more old.arena.objects new.arena.objects (world_constants w) (subst (λ (b : Held). HasGrown b.objects new.arena.objects) e g) h.constants) memos f h
 
 pub memos_fit : {E : Type 0} (definitions : List Definition) (objects : List Object) (entries : List (Call × Id)) (r : Result Id E) → OnOk r (FitMemos definitions objects entries) → OnErr r (entries ≡ []) → FitMemos definitions objects entries
 memos_fit definitions objects entries (Ok id) f e = f

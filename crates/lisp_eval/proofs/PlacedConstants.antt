@@ -1,19 +1,17 @@
 -- The constants of a world, listed and placed.
-use Rattle.std.proofs.Common.{◌≡◌, ◌∙◌, ap, sym, refl, subst, Bool, true, false, cond, ℕ, zero, suc, ◌+◌, ◌<◌, ◌≤◌, arith, List, [], ◌∷◌, ◌++◌, length, get_or, take, append_assoc, append-nil, Some, slice_get, inl, inr, Ok}
+use Rattle.std.proofs.Common.{◌≡◌, ◌∙◌, ap, sym, refl, subst, Bool, true, false, cond, ℕ, zero, suc, ◌+◌, ◌<◌, ◌≤◌, arith, List, [], ◌∷◌, ◌++◌, length, get_or, take, append_assoc, Some, slice_get, inl, inr, Ok}
 use Rattle.std.specs.Prelude.{map}
+use Rattle.std.specs.Io.Iter.{u64_saturate}
 use Rattle.std.specs.List.{All, Contains, flat_map, list_any}
 use Rattle.std.proofs.lemmas.Bool.{cases_lt}
 use Rattle.std.proofs.lemmas.List.{take_all}
 use Rattle.std.proofs.lemmas.List.Elements.{All-contains_itself, Contains-append_left}
-use Rattle.gl_logic.specs.CellCounts.{constants_of, constants_of_all}
 use Rattle.gl_logic.specs.Different.{different}
 use Rattle.gl_logic.specs.Object.{Object}
 use Rattle.gl_logic.specs.ObjectEq.{object_eq}
 use Rattle.gl_logic.specs.Parts.{cells_in}
-use Rattle.gl_logic.specs.TermOf.{term_of, terms_of}
-use Rattle.gl_logic.specs.declared.term.Term.{Term}
 use Rattle.gl_logic.proofs.DifferentObjects.{different_once, contains_different}
-use Rattle.gl_logic.proofs.Optional.{none_some, some_same}
+use Rattle.gl_logic.proofs.Optional.{some_same}
 use Rattle.hons_arena.specs.declared.id.Id.{Id}
 use Rattle.hons_arena.specs.Held.{Held, AddsCellsOf, IsWhole, LacksCell, Places}
 use Rattle.hons_arena.specs.Parts.{IsCellOf, AreHeld}
@@ -26,33 +24,6 @@ use Rattle.lisp_eval.proofs.Places.{place_of, below_at}
 use Rattle.lisp_eval.proofs.Within.{split, stays, full}
 
 -- ---- lists
-pub at_index : {A : Type 0} (ys : List A) (i : ℕ) (e : A) → i < length ys → e ≡ get_or ys i e → slice_get ys i ≡ Some e
-at_index [] i e l is = absurd (omega (arith, l))
-at_index (y ∷ ys) zero e l is = ap (λ z. Some z) (sym is)
-at_index (y ∷ ys) (suc i) e l is = at_index ys i e (omega (arith, l)) is
-
-take_at_suc : {A : Type 0} (ys : List A) (i : ℕ) (e : A) → slice_get ys i ≡ Some e → take (suc i) ys ≡ take i ys ++ e ∷ []
-take_at_suc [] i e h = none_some e h
-take_at_suc (y ∷ ys) zero e h = ap (λ z. z ∷ []) (some_same y e h)
-take_at_suc (y ∷ ys) (suc i) e h = ap (λ zs. y ∷ zs) (take_at_suc ys i e h)
-
-pub take_next : {A : Type 0} (ys : List A) (i : ℕ) (e : A) → slice_get ys i ≡ Some e → take (i + 1) ys ≡ take i ys ++ e ∷ []
-take_next ys i e h = let same : i + 1 ≡ suc i = omega arith in ap (λ k. take k ys) same ∙ take_at_suc ys i e h
-
-flat-push : {A B : Type 0} (f : A → List B) (ys : List A) (e : A) → flat_map f (ys ++ e ∷ []) ≡ flat_map f ys ++ f e
-flat-push f [] e = append-nil (f e)
-flat-push f (y ∷ ys) e = ap (λ zs. f y ++ zs) (flat-push f ys e) ∙ sym (append_assoc (f y) (flat_map f ys) (f e))
-
-pub flat_next : {A B : Type 0} (f : A → List B) (ys : List A) (i : ℕ) (e : A) → slice_get ys i ≡ Some e → flat_map f (take (i + 1) ys) ≡ flat_map f (take i ys) ++ f e
-flat_next f ys i e h = ap (flat_map f) (take_next ys i e h) ∙ flat-push f (take i ys) e
-
-constants-push : (ts : List Term) (t : Term) → constants_of_all (terms_of (ts ++ t ∷ [])) ≡ constants_of_all (terms_of ts) ++ constants_of (term_of t)
-constants-push [] t = append-nil (constants_of (term_of t))
-constants-push (u ∷ ts) t = ap (λ zs. constants_of (term_of u) ++ zs) (constants-push ts t) ∙ sym (append_assoc (constants_of (term_of u)) (constants_of_all (terms_of ts)) (constants_of (term_of t)))
-
-pub constants_next : (ts : List Term) (i : ℕ) (t : Term) → i < length ts → t ≡ get_or ts i t → constants_of_all (terms_of (take (i + 1) ts)) ≡ constants_of_all (terms_of (take i ts)) ++ constants_of (term_of t)
-constants_next ts i t l is = ap (λ us. constants_of_all (terms_of us)) (take_next ts i t (at_index ts i t l is)) ∙ constants-push (take i ts) t
-
 -- some were there, more come behind them, and then these
 pub behind_more : (start old new some more rest : List Object) → old ≡ start ++ some → new ≡ old ++ more → rest ≡ some ++ more → new ≡ start ++ rest
 behind_more start old new some more rest e f g = f ∙ (ap (λ zs. zs ++ more) e ∙ (append_assoc start some more ∙ ap (λ zs. start ++ zs) (sym g)))
@@ -72,6 +43,13 @@ short_added false x ys n l = omega (arith, l)
 different_short : (ys : List Object) → length (different object_eq ys) ≤ length ys
 different_short [] = omega arith
 different_short (y ∷ ys) = short_added (list_any (object_eq y) (different object_eq ys)) y (different object_eq ys) (length ys) (different_short ys)
+
+pub none_all : (P : Object → Type 0) (xs : List Object) → xs ≡ [] → All P xs
+none_all P xs e k d l = let z : length xs ≡ 0 = ap length e in absurd (omega (arith, z, l))
+
+-- a count of all cells that is within the limit tells that the different ones are
+pub fit_by_count : (xs : List Object) (bound limit : ℕ) → u64_saturate (length (flat_map cells_in xs)) ≤ bound → bound ≤ limit → limit ≤ 4294967295 → limit < length (different_cells xs) → ⊥
+fit_by_count xs bound limit counted within small many = omega (arith, different_short (flat_map cells_in xs), counted, within, small, many)
 
 flat_from : (xs : List Object) (y : Object) → Contains (flat_map cells_in xs) y → (x : Object) × (Contains xs x × IsCellOf y x)
 flat_from [] y c = absurd (omega (arith, c.1))

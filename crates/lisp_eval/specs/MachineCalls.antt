@@ -1,7 +1,7 @@
 -- What the calls of a machine do.
 use Rattle.std.specs.Prelude.{◌≡◌, ℕ, ◌<◌, List, [], length, All, Contains, Result, IsErr, IsErrOf, Some}
 use Rattle.std.specs.List.{flat_map}
-use Rattle.gl_logic.specs.CellCounts.{world_constants}
+use Rattle.gl_logic.specs.CellCounts.{constant_cells, world_constants}
 use Rattle.gl_logic.specs.Counts.{seen}
 use Rattle.gl_logic.specs.Different.{different}
 use Rattle.gl_logic.specs.Evaluate.{evaluate}
@@ -21,13 +21,14 @@ pub record KeepsSettings (old new : MachineSeen) : Type 0 where
   pub steps : new.steps ≡ old.steps
   pub functions : new.functions ≡ old.functions
 
--- nothing is held, kept or memoized, and the limits stay
+-- nothing is held, kept or memoized, no list has a table, and the limits stay
 pub record IsEmptied (old new : MachineSeen) : Type 0 where
   pub objects : new.arena.objects ≡ []
   pub limit : new.arena.limit ≡ old.arena.limit
   pub steps : new.steps ≡ old.steps
   pub functions : new.functions ≡ []
   pub memos : new.memos ≡ []
+  pub tables : new.tables ≡ []
 
 -- the different cells of these objects
 abbrev pub different_cells : List Object → List Object
@@ -37,15 +38,16 @@ different_cells xs = different object_eq (flat_map cells_in xs)
 abbrev pub HasTooManyConstants : WorldSeen → ℕ → Type 0
 HasTooManyConstants w limit = limit < length (different_cells (world_constants w))
 
--- the machine fits the world, with these functions memoized, nothing kept and nothing held but the cells of the world's
--- constants
+-- the machine fits the world, with these functions memoized, no call kept, no list with a table, and nothing held but cells
+-- of the world's constants
 pub record BeginsWith (w : WorldSeen) (memoized : List ℕ) (old new : MachineSeen) : Type 0 where
   pub fits : Fits w new
   pub functions : new.functions ≡ memoized
-  pub cells : All (λ y. Contains (flat_map cells_in (world_constants w)) y) new.arena.objects
+  pub cells : All (Contains (constant_cells w)) new.arena.objects
   pub limit : new.arena.limit ≡ old.arena.limit
   pub steps : new.steps ≡ old.steps
   pub memos : new.memos ≡ []
+  pub tables : new.tables ≡ []
 
 -- no refusal but for want of cells or of memory; for want of cells only where the constants' different cells exceed the
 -- limit, and where they do some refusal
@@ -63,7 +65,8 @@ pub record HoldsSeen (w : WorldSeen) (env : List (ℕ × Object)) (t : Exp) (old
   pub has : evaluate w.definitions depth env t ≡ Some value
   pub cells : AreWithin old (seen w.definitions depth env t) new
 
--- the arena stands as before, and no call is kept
+-- the arena stands as before, no call is kept, and no list has a table
 pub record IsRefused (old new : MachineSeen) : Type 0 where
   pub arena : new.arena ≡ old.arena
   pub memos : new.memos ≡ []
+  pub tables : new.tables ≡ []

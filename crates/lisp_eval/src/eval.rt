@@ -24,7 +24,7 @@ use std::rc::Rc;
 /// the environment does not name is NIL. A call of one of the functions is opened once for the same arguments: its value
 /// is kept beside those that earlier evaluations kept.
 ///
-/// After a refusal the arena stands as before, and nothing is kept. No depth of definitions opened inside one another is
+/// After a refusal the arena stands as before, no call is kept and no list has a table. No depth of definitions opened inside one another is
 /// too great: the evaluator has a stack of its own.
 pub fn evaluate(
     world: &World,
@@ -50,6 +50,7 @@ pub fn evaluate(
     ensures limit { arena.new.limit ≡ arena.old.limit }
     ensures refused { OnErr result (arena.new.objects ≡ arena.old.objects) }
     ensures emptied { OnErr result (memos.new ≡ []) }
+    ensures tables { OnErr result (alists.new ≡ []) }
 {
     let mark = arena.mark();
     match started(
@@ -107,6 +108,7 @@ fn refuse(arena: &mut HonsArena, alists: &mut FastAlists, memos: &mut MemoTables
     ensures objects { arena.new.objects ≡ take mark.count arena.old.objects }
     ensures limit { arena.new.limit ≡ arena.old.limit }
     ensures emptied { memos.new ≡ [] }
+    ensures tables { alists.new ≡ [] }
     ensures alists { Agree arena.new.objects alists.new }
 {
     arena.release(mark);

@@ -1,13 +1,9 @@
 //! The machine: an arena, tables beside it, and the evaluator over them.
 
-ghost use Rattle.std.specs.Prelude.{◌≡◌, ◌≤◌, ◌↔◌, List, [], All, Contains, IfOk, IsErr, IsErrOf, OnErr, OnOk, length, take};
+ghost use Rattle.std.specs.Prelude.{◌≡◌, ◌≤◌, ◌↔◌, [], All, Contains, IfOk, IsErr, IsErrOf, OnErr, OnOk, length, take};
 ghost use Rattle.std.specs.Borrow.{sem};
-ghost use Rattle.std.specs.List.{flat_map};
-ghost use Rattle.fast_alists.specs.Tables.{Agree};
-ghost use Rattle.gl_logic.specs.CellCounts.{world_constants};
+ghost use Rattle.gl_logic.specs.CellCounts.{constant_cells};
 ghost use Rattle.gl_logic.specs.IsTermOf.{IsTermOf};
-ghost use Rattle.gl_logic.specs.Object.{Object};
-ghost use Rattle.gl_logic.specs.Parts.{cells_in};
 ghost use Rattle.gl_logic.specs.TermOf.{term_of};
 ghost use Rattle.gl_logic.specs.WorldSeen.{WorldSeen};
 ghost use Rattle.hons_arena.specs.Held.{AddsCellsOf, HasNoRoomFor, IsWhole};
@@ -15,7 +11,7 @@ ghost use Rattle.hons_arena.specs.Ids.{IsIdOf};
 ghost use Rattle.lisp_eval.specs.Answers.{IsValueOf, IsLicensed, IsLiveBinding, HasGrown};
 ghost use Rattle.lisp_eval.specs.Lending.{LendsArena};
 ghost use Rattle.lisp_eval.specs.MachineCalls.{KeepsSettings, IsEmptied, BeginsWith, RefusesForCells, HoldsSeen, IsRefused};
-ghost use Rattle.lisp_eval.specs.Machines.{Fits, ArePlaced, AreFunctionsOf, IsLiveEntry};
+ghost use Rattle.lisp_eval.specs.Machines.{Fits, AreFunctionsOf, IsLiveEntry};
 ghost use Rattle.lisp_eval.specs.States.{env_of};
 ghost use Rattle.lisp_eval.specs.declared.fault.EvalFault.TheVariants as fault;
 
@@ -33,7 +29,8 @@ use std::alloc::Global;
 use std::marker::Model;
 
 /// An arena with fast alists and memo tables, which evaluates terms of a world that it fits, within limits of steps and
-/// cells. Contracts see the arena, the limit of steps, the memoized functions, and the kept calls.
+/// cells. Contracts see the arena, the limit of steps, the memoized functions, the kept calls, and the lists that have a
+/// table, with the tables.
 #[derive(Drop)]
 pub struct Machine {
     alloc: Global,
@@ -53,19 +50,20 @@ impl Model for Machine {
 
     ghost coded = { coded_machine };
 
-    ghost view = { λ m. record { arena = m.arena; steps = m.steps; functions = m.functions.items; memos = m.memos } };
+    ghost view = { λ m. record { arena = m.arena; steps = m.steps; functions = m.functions.items; memos = m.memos; tables = m.alists } };
 
     ghost invariant = { λ m. Agree m.arena.objects m.alists × All (IsLiveEntry m.arena.objects) m.memos };
 }
 
 impl Machine {
-    /// An empty machine with these limits of steps and cells: nothing is held, kept or memoized.
+    /// An empty machine with these limits of steps and cells: nothing is held, kept or memoized, and no list has a table.
     pub fn new(alloc: Global, limits: &Limits) -> Result<Machine, NoMemory>
         ensures objects { IfOk result (λ m. m.arena.objects ≡ []) }
         ensures cells { IfOk result (λ m. m.arena.limit ≡ limits.now.cells) }
         ensures steps { IfOk result (λ m. m.steps ≡ limits.now.steps) }
         ensures functions { IfOk result (λ m. m.functions ≡ []) }
         ensures memos { IfOk result (λ m. m.memos ≡ []) }
+        ensures tables { IfOk result (λ m. m.tables ≡ []) }
     {
         Ok(Machine {
             alloc,
@@ -77,9 +75,12 @@ impl Machine {
         })
     }
 
-    /// Empties everything, takes over the memoized functions, and places the constants of the world and of its
-    /// definitions' bodies. Cells exactly where their different cells exceed the limit, unless memory is refused. After a
-    /// refusal the machine is empty.
+    /// Empties everything and takes over the memoized functions. Cells exactly where the different cells of the constants of
+    /// the world and of its definitions' bodies exceed the limit, unless memory is refused. After a refusal the machine is
+    /// empty.
+    ///
+    /// A constant is placed when an evaluation first meets it. All are placed here where the count that the world keeps does
+    /// not tell that they fit, however often they repeat.
     pub fn begin(&mut self, world: &World, memoized: &FnSet) -> Result<(), EvalFault>
         requires functions { AreFunctionsOf world.now memoized.now }
         ensures begins { OnOk result (BeginsWith world.now memoized.now self.old self.new) }
@@ -102,7 +103,7 @@ impl Machine {
         }
     }
 
-    /// Nothing is held, kept or memoized any more.
+    /// Nothing is held, kept or memoized any more, and no list has a table.
     fn empty(&mut self)
         ensures { IsEmptied self.old self.new }
     {
@@ -122,6 +123,7 @@ impl Machine {
         ensures whole { IsWhole self.new.arena }
         ensures settings { KeepsSettings self.old self.new }
         ensures memos { self.new.memos ≡ self.old.memos }
+        ensures tables { self.new.tables ≡ self.old.tables }
         ensures fits { (w : WorldSeen) → Fits w self.old → Fits w self.new }
     {
         match self.arena.place(tree) {
@@ -136,8 +138,8 @@ impl Machine {
     /// cells of values of visited subterms alone. Each refusal but want of memory has its cause on this very environment:
     /// Width, where some value of the plain evaluation is such an integer; Steps, where the cost in which each different
     /// call of the memoized functions is opened once exceeds the limit; Cells, where the cells that were held and those
-    /// that the evaluation speaks of are more different objects than the limit. After a refusal the arena stands as before
-    /// and nothing is kept.
+    /// that the evaluation speaks of are more different objects than the limit. After a refusal the arena stands as before,
+    /// no call is kept and no list has a table.
     pub fn eval(&mut self, world: &World, term: &Term, env: &Env) -> Result<Id, EvalFault>
         requires fits { Fits world.now self.old }
         requires term { IsTermOf world.now.definitions (term_of term.now) }
@@ -172,13 +174,15 @@ impl Machine {
         self.arena.mark()
     }
 
-    /// Takes away the cells made after the mark, and what is kept. The cells made before it stay with their ids.
+    /// Takes away the cells made after the mark, the kept calls and the tables of lists. The cells made before it stay with
+    /// their ids.
     pub fn back(&mut self, mark: Mark)
         requires { mark.count ≤ length self.old.arena.objects }
         ensures objects { self.new.arena.objects ≡ take mark.count self.old.arena.objects }
         ensures settings { KeepsSettings self.old self.new }
         ensures memos { self.new.memos ≡ [] }
-        ensures fits { (w : WorldSeen) → Fits w self.old → ArePlaced self.new.arena.objects (world_constants w) → Fits w self.new }
+        ensures tables { self.new.tables ≡ [] }
+        ensures fits { (w : WorldSeen) → Fits w self.old → Fits w self.new }
     {
         forget(&mut self.memos, &mut self.alists);
         self.arena.release(mark);
@@ -191,8 +195,8 @@ impl Machine {
         &self.arena
     }
 
-    /// Lends the arena, with nothing kept. All else stays: where the arena that comes back holds the constants of a world
-    /// that the machine fitted, it fits that world still.
+    /// Lends the arena, with no call kept and no list with a table. All else stays: a world that the machine fitted it fits
+    /// still.
     pub fn arena_mut(&mut self) -> &mut HonsArena
         ensures* writes_back { sem 𝓛 (LendsArena self.entry result) }
         ensures arena { result.now ≡ self.old.arena }
@@ -205,13 +209,14 @@ impl Machine {
 /// No call is kept any more, and no list has a table.
 fn forget(calls: &mut MemoTables, lists: &mut FastAlists)
     ensures calls { calls.new ≡ [] }
-    ensures lists { (objects : List Object) → Agree objects lists.new }
+    ensures lists { lists.new ≡ [] }
 {
     calls.clear();
     lists.clear();
 }
 
-/// Places the constants of a world in an empty arena, and takes over the memoized functions.
+/// Takes over the memoized functions, and places the constants of a world in an empty arena where it is not known that they
+/// fit its limit.
 fn set_up(
     alloc: Global,
     world: &World,
@@ -221,13 +226,17 @@ fn set_up(
 ) -> Result<(), EvalFault>
     requires { arena.old.objects ≡ [] }
     ensures functions { OnOk result (functions.new.items ≡ memoized.now) }
-    ensures placed { OnOk result (ArePlaced arena.new.objects (world_constants world.now)) }
-    ensures only { OnOk result (All (Contains (flat_map cells_in (world_constants world.now))) arena.new.objects) }
+    ensures only { OnOk result (All (Contains (constant_cells world.now)) arena.new.objects) }
     ensures cells { RefusesForCells world.now arena.old.limit result }
     ensures limit { arena.new.limit ≡ arena.old.limit }
 {
-    let constants = constants_in(alloc, world)?;
     *functions = numbers_of(alloc, memoized)?;
+    let bound = world.constant_cells();
+    let limit = u64::from(arena.limit());
+    if bound <= limit {
+        return Ok(());
+    }
+    let constants = constants_in(alloc, world)?;
     Ok(place_all(arena, constants.as_slice())?)
 }
 

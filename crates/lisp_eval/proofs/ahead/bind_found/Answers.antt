@@ -3,7 +3,7 @@ use Rattle.lisp_eval.specs.declared.attempt.Stop.TheVariants as stop
 use Rattle.lisp_eval.proofs.Entering.{scope_grown}
 use Rattle.lisp_eval.proofs.Grown.{grown_on}
 use Rattle.lisp_eval.proofs.NextBound.{refused, all_bound, one_stops, one_unheld, one_bound}
-use Rattle.lisp_eval.proofs.PlacedConstants.{at_index}
+use Rattle.gl_logic.proofs.CellCounts.{at_index}
 use Rattle.lisp_eval.proofs.StepsAhead.{told}
 use Rattle.lisp_eval.proofs.ahead.bind_found.Goals as goal
 

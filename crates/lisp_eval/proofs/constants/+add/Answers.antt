@@ -1,4 +1,5 @@
-use Rattle.lisp_eval.proofs.PlacedConstants.{constants_next, behind_more}
+use Rattle.gl_logic.proofs.CellCounts.{constants_next}
+use Rattle.lisp_eval.proofs.PlacedConstants.{behind_more}
 use Rattle.lisp_eval.proofs.constants.+add.Goals as goal
 
 pub add_all-loop-term-preserved : goal.add_all-loop-term-preserved

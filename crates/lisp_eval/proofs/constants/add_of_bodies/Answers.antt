@@ -1,7 +1,8 @@
 use Rattle.gl_logic.specs.CellCounts.{constants_of}
 use Rattle.gl_logic.specs.Definition.{Definition}
 use Rattle.gl_logic.specs.DefinitionOf.{definition_of}
-use Rattle.lisp_eval.proofs.PlacedConstants.{flat_next, behind_more}
+use Rattle.gl_logic.proofs.CellCounts.{flat_next}
+use Rattle.lisp_eval.proofs.PlacedConstants.{behind_more}
 use Rattle.lisp_eval.proofs.constants.add_of_bodies.Goals as goal
 
 pub loop-number-preserved : goal.loop-number-preserved

@@ -1,6 +1,7 @@
 use Rattle.std.proofs.Common.{◌∙◌, ap, sym, ℕ, [], ◌∷◌, ◌++◌, map, Bor}
 use Rattle.gl_logic.specs.Object.{Object}
-use Rattle.lisp_eval.proofs.PlacedConstants.{take_next, map-push}
+use Rattle.gl_logic.proofs.CellCounts.{take_next}
+use Rattle.lisp_eval.proofs.PlacedConstants.{map-push}
 use Rattle.lisp_eval.proofs.constants.constants_in.Goals as goal
 
 pub loop-i-preserved : goal.loop-i-preserved

@@ -4,7 +4,8 @@ use Rattle.gl_logic.specs.Object.{Object}
 use Rattle.lisp_eval.specs.MachineCalls.{different_cells}
 use Rattle.lisp_eval.specs.Machines.{ArePlaced}
 use Rattle.lisp_eval.proofs.Places.{map_at}
-use Rattle.lisp_eval.proofs.PlacedConstants.{at_index, one_more, within_more, lacks_one, all_placed, all_cells, not_many}
+use Rattle.gl_logic.proofs.CellCounts.{at_index}
+use Rattle.lisp_eval.proofs.PlacedConstants.{one_more, within_more, lacks_one, all_placed, all_cells, not_many}
 use Rattle.lisp_eval.proofs.constants.place_all.Goals as goal
 
 pub returns-in_err-place-clause-full : goal.returns-in_err-place-clause-full

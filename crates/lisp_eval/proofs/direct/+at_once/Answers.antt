@@ -20,7 +20,7 @@ use Rattle.lisp_eval.specs.declared.value.Value.TheVariants as value
 use Rattle.lisp_eval.proofs.Attempting.{const_tells, tells_found, test_refused, branch_tells, first_refused, second_refused, third_refused, one_tells, two_tell, three_tell, operand_refused, unary_refused, unary_tells, second_operand_refused, binary_refused, binary_tells, call_refused, call_tells, entering_refused, answering_refused, answered_tells}
 use Rattle.lisp_eval.proofs.DirectFound.{found_var, first_term, second_term, one_term, two_terms, three_terms, one_local, two_locals}
 use Rattle.lisp_eval.proofs.Entering.{scope_grown, tables_on}
-use Rattle.lisp_eval.proofs.PlacedConstants.{at_index}
+use Rattle.gl_logic.proofs.CellCounts.{at_index}
 use Rattle.lisp_eval.proofs.Sights.{adds_none}
 use Rattle.lisp_eval.proofs.ZeroTells.{argument_refused, zero_refused, zero_tells}
 use Rattle.lisp_eval.proofs.TermForms.{var_term, const_term, if_term, call_term}

@@ -1,5 +1,5 @@
 use Rattle.std.proofs.Common.{rules, arith, ap, sym, ◌≡◌, ◌∙◌, length, Some, slice_get, FitsSigned, to_z, of_z, to_z-of_z}
-use Rattle.lisp_eval.proofs.PlacedConstants.{at_index}
+use Rattle.gl_logic.proofs.CellCounts.{at_index}
 use Rattle.std.specs.Int.{w64}
 use Rattle.gl_logic.specs.TermOf.{term_of, terms_of}
 use Rattle.lisp_eval.proofs.DirectFound.{one_term}

@@ -1,5 +1,5 @@
 use Rattle.std.proofs.Common.{◌∙◌, ap, sym, ◌++◌, ◌∷◌, []}
-use Rattle.lisp_eval.proofs.PlacedConstants.{take_next}
+use Rattle.gl_logic.proofs.CellCounts.{take_next}
 use Rattle.lisp_eval.proofs.machine.numbers_of.Goals as goal
 
 pub loop-i-preserved : goal.loop-i-preserved
