@@ -1,12 +1,11 @@
 -- Machines that have begun, or have not.
 use Rattle.std.proofs.Common.{◌≡◌, ◌≢◌, ◌<◌, refl, subst, ℕ, List, Result, Err, arith}
-use Rattle.std.specs.List.{Contains, flat_map}
+use Rattle.std.specs.List.{Contains}
 use Rattle.std.proofs.lemmas.List.Elements.{All-contains}
 use Rattle.gl_logic.specs.Object.{Object}
 use Rattle.gl_logic.specs.IsTermOf.{IsTermOf}
 use Rattle.gl_logic.specs.IsTotal.{IsTotal}
-use Rattle.gl_logic.specs.Parts.{cells_in}
-use Rattle.gl_logic.specs.CellCounts.{world_constants}
+use Rattle.gl_logic.specs.CellCounts.{constant_cells}
 use Rattle.gl_logic.specs.WorldSeen.{WorldSeen}
 use Rattle.shape_spec.specs.InputMeant.{assignment_numbered}
 use Rattle.shape_spec.specs.declared.theorem.Part.TheVariants as part
@@ -23,7 +22,7 @@ use Rattle.gl_decide.proofs.Causes.{from_constants}
 use Rattle.gl_decide.proofs.Ranges.{none_yet}
 
 pub ready : (w : WorldSeen) (thm : Theorem) (old new : MachineSeen) → BeginsWith w thm.memoized old new → IsReady w thm new
-ready w thm old new b = record { fits = b.fits; functions = b.functions; cells = λ y c. All-contains (Contains (flat_map cells_in (world_constants w))) new.arena.objects y b.cells c }
+ready w thm old new b = record { fits = b.fits; functions = b.functions; cells = λ y c. All-contains (Contains (constant_cells w)) new.arena.objects y b.cells c }
 
 pub among_at : (w : WorldSeen) (thm : Theorem) (s t l m first end : ℕ) (r : Scan) → s ≡ t → l ≡ m → IsProperAmong w s l thm first end r → IsProperAmong w t m thm first end r
 among_at w thm s t l m first end r e f h = subst (λ (k : ℕ). IsProperAmong w t k thm first end r) f (subst (λ (k : ℕ). IsProperAmong w k l thm first end r) e h)

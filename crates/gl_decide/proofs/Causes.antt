@@ -11,7 +11,7 @@ use Rattle.gl_logic.specs.IsTermOf.{IsTermOf}
 use Rattle.gl_logic.specs.IsTotal.{IsTotal}
 use Rattle.gl_logic.specs.Parts.{cells_in}
 use Rattle.gl_logic.specs.Counts.{seen}
-use Rattle.gl_logic.specs.CellCounts.{cells, constants_of, world_constants}
+use Rattle.gl_logic.specs.CellCounts.{cells, constant_cells, constants_of, world_constants}
 use Rattle.gl_logic.specs.WorldSeen.{WorldSeen}
 use Rattle.gl_logic.proofs.DifferentObjects.{different_once, contains_different}
 use Rattle.hons_arena.specs.declared.id.Id.{Id}
@@ -26,7 +26,6 @@ use Rattle.gl_decide.specs.Causes.{IsOutOfSteps, IsOutOfCells}
 use Rattle.gl_decide.specs.Theorem.{Theorem, term_at}
 use Rattle.gl_decide.specs.Scans.{HasCause}
 use Rattle.gl_decide.specs.Placed.{input_cells, HasLicense}
-use Rattle.gl_decide.specs.Trials.{constant_cells}
 
 -- ---- cells of an input and of the world's constants are among those of an evaluation
 pub in_cells : (w : WorldSeen) (d : ℕ) (env : List (ℕ × Object)) (t : Exp) (y : Object) → Contains (input_cells env) y ⊎ Contains (constant_cells w) y → Contains (cells w d env t) y

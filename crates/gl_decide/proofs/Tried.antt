@@ -2,6 +2,7 @@
 use Rattle.std.proofs.Common.{◌≡◌, ◌∙◌, sym, refl, subst, ℕ, List, ◌++◌, Bool, true, false, not, inl, inr, ◌⊎◌}
 use Rattle.std.specs.List.{Contains}
 use Rattle.std.proofs.lemmas.List.Elements.{Contains-append_cases}
+use Rattle.gl_logic.specs.CellCounts.{constant_cells}
 use Rattle.gl_logic.specs.Object.{Object, nil}
 use Rattle.gl_logic.specs.ObjectEq.{is_nil}
 use Rattle.gl_logic.specs.Exp.{Exp}
@@ -18,7 +19,7 @@ use Rattle.lisp_eval.specs.declared.fault.EvalFault.{EvalFault}
 use Rattle.gl_decide.specs.Theorem.{Theorem, input_at}
 use Rattle.gl_decide.specs.Scans.{HasCause}
 use Rattle.gl_decide.specs.Placed.{input_cells, IsTruthOf, HasLicense, LacksCells}
-use Rattle.gl_decide.specs.Trials.{IsReady, HoldsInput, IsInputOf, IsProperTrial, constant_cells}
+use Rattle.gl_decide.specs.Trials.{IsReady, HoldsInput, IsInputOf, IsProperTrial}
 use Rattle.gl_decide.specs.declared.trial.Trial.{Trial}
 use Rattle.gl_decide.specs.declared.trial.Trial.TheVariants as trial
 use Rattle.gl_decide.proofs.Causes.{cause_of, from_start}

@@ -1,12 +1,11 @@
 -- Machines that stand as before.
-use Rattle.std.proofs.Common.{◌≡◌, ◌∙◌, sym, refl, subst, ℕ, ◌≤◌, List, length, take, inl, inr}
+use Rattle.std.proofs.Common.{◌≡◌, ◌∙◌, refl, subst, ℕ, ◌≤◌, List, length, take, inl, inr}
 use Rattle.std.specs.List.{Contains}
 use Rattle.std.proofs.lemmas.List.Elements.{Contains-append_cases}
 use Rattle.gl_logic.specs.Object.{Object}
-use Rattle.gl_logic.specs.CellCounts.{world_constants}
 use Rattle.gl_logic.specs.WorldSeen.{WorldSeen}
 use Rattle.lisp_eval.specs.Answers.{HasGrown}
-use Rattle.lisp_eval.specs.Machines.{MachineSeen, Fits, ArePlaced}
+use Rattle.lisp_eval.specs.Machines.{MachineSeen, Fits}
 use Rattle.lisp_eval.specs.MachineCalls.{KeepsSettings}
 use Rattle.lisp_eval.proofs.Grown.{grown_back, grown_count}
 use Rattle.gl_decide.specs.Theorem.{Theorem}
@@ -28,12 +27,8 @@ module _ (w : WorldSeen) (old mid new : MachineSeen) (n : ℕ) (counted : n ≡ 
     pub objects_back : new.arena.objects ≡ old.arena.objects
     objects_back = grown_back old.arena.objects mid.arena.objects new.arena.objects n grown counted released
 
-    pub rests : Fits w old → (ArePlaced new.arena.objects (world_constants w) → Fits w new) → Rests w old new
-    rests fits h = record {
-      arena = objects_back;
-      settings = keeps_then old mid new first second;
-      fits = h (subst (λ (os : List Object). ArePlaced os (world_constants w)) (sym objects_back) fits.constants);
-    }
+    pub rests : Fits w new → Rests w old new
+    rests fits = record { arena = objects_back; settings = keeps_then old mid new first second; fits = fits }
 
 pub grown_by_input : (input : List (ℕ × Object)) (old new : List Object) → AddsCellsOfInput input old new → HasGrown old new
 grown_by_input input old new a = (a.made, a.is)

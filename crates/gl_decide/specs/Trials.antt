@@ -1,11 +1,9 @@
 -- When what one input tells is proper.
 use Rattle.std.specs.Prelude.{◌≡◌, ◌≢◌, ℕ, Bool, List, Contains}
-use Rattle.std.specs.List.{flat_map}
 use Rattle.std.proofs.Common.{◌⊎◌}
 use Rattle.gl_logic.specs.Object.{Object, nil}
 use Rattle.gl_logic.specs.Evaluate.{HasValue}
-use Rattle.gl_logic.specs.Parts.{cells_in}
-use Rattle.gl_logic.specs.CellCounts.{world_constants}
+use Rattle.gl_logic.specs.CellCounts.{constant_cells}
 use Rattle.gl_logic.specs.WorldSeen.{WorldSeen}
 use Rattle.shape_spec.specs.InputMeant.{input_meant}
 use Rattle.shape_spec.specs.Theorems.{IsMet}
@@ -18,9 +16,6 @@ use Rattle.gl_decide.specs.Scans.{HasCause}
 use Rattle.gl_decide.specs.Placed.{input_cells}
 use Rattle.gl_decide.specs.declared.trial.Trial.{Trial}
 use Rattle.gl_decide.specs.declared.trial.Trial.TheVariants as trial
-
-abbrev pub constant_cells : WorldSeen → List Object
-constant_cells w = flat_map cells_in (world_constants w)
 
 -- a machine that fits the world, with the theorem's memoized functions, and holds cells of the world's constants alone
 pub record IsReady (w : WorldSeen) (thm : Theorem) (m : MachineSeen) : Type 0 where

@@ -16,8 +16,8 @@ ghost use Rattle.gl_decide.specs.Certificates.{IsCertificate, IsOpen, unscanned}
 ghost use Rattle.gl_decide.specs.ShownRooms.{IsShownIn};
 
 use super::decide::stalled;
-use super::told::{cause_of, told};
 use super::verdict::Verdict;
+use super::verdict_of::{cause_of, verdict_of};
 use bdd_store::Bdd;
 use bfr_store::{Bits, Meaning};
 use cnf_rup::ClauseBook;
@@ -148,7 +148,7 @@ fn decide_unscanned(alloc: Global, world: &World, thm: &Thm, limits: &Limits) ->
     let (decision, left) = decide_in_mode(alloc, world, thm, limits);
     match cause_of(&decision, limits) {
         Some(cause) => (stalled(world, thm, cause), left),
-        None => match told(alloc, thm, decision) {
+        None => match verdict_of(alloc, thm, decision) {
             Ok(verdict) => (verdict, left),
             Err(_) => (Verdict::Memory, left),
         },

@@ -17,8 +17,8 @@ use super::otherwise::decide_otherwise;
 use super::scanned::Scan;
 use super::scanning::scan;
 use super::stall::{StallCause, make_stall};
-use super::told::{cause_of, told};
 use super::verdict::Verdict;
+use super::verdict_of::{cause_of, verdict_of};
 use bdd_store::Bdd;
 use bfr_store::Meaning;
 use coverage::covers;
@@ -88,7 +88,7 @@ fn decide_covered<R: Threads + Sync>(
     let (decision, left) = decide_in_mode(alloc, world, thm, limits);
     match cause_of(&decision, limits) {
         Some(cause) => (give_up(rt, alloc, world, thm, limits, cause), left),
-        None => match told(alloc, thm, decision) {
+        None => match verdict_of(alloc, thm, decision) {
             Ok(verdict) => (verdict, left),
             Err(_) => (Verdict::Memory, left),
         },

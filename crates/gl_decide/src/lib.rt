@@ -14,13 +14,13 @@ pub mod laws;
 mod otherwise;
 mod piece;
 mod pieces;
-mod place;
 mod scanned;
 mod scanning;
 mod stall;
-mod told;
 mod trial;
+mod trial_input;
 mod verdict;
+mod verdict_of;
 
 pub use certify::certificate;
 pub use decide::decide_theorem;

@@ -6,8 +6,8 @@ ghost use Rattle.gl_decide.specs.Bounds.{bounds_of};
 ghost use Rattle.gl_decide.specs.TheoremOf.{theorem_of};
 ghost use Rattle.gl_decide.specs.Answered.{IsCoveredIn, IsDecidedOtherwise};
 
-use super::told::{cause_of, told};
 use super::verdict::Verdict;
+use super::verdict_of::{cause_of, verdict_of};
 use gl_base::limits::Limits;
 use gl_logic::World;
 use gl_symbolic::run_in_mode;
@@ -52,7 +52,7 @@ fn decide_in(
     let (decision, _room) = run_in_mode(alloc, world, thm, mode, limits);
     match cause_of(&decision, limits) {
         Some(_) => None,
-        None => match told(alloc, thm, decision) {
+        None => match verdict_of(alloc, thm, decision) {
             Ok(verdict) => Some(verdict),
             Err(_) => None,
         },

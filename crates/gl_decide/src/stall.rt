@@ -102,17 +102,17 @@ impl Stalls {
     }
 
     /// How many there are.
-    pub fn len(&self) -> usize
+    pub fn len(&self) -> u64
         ensures { result ≡ length self.now }
     {
-        self.items.len()
+        self.items.len() as u64
     }
 
-    /// One of them, counted from 0.
-    pub fn at(&self, i: usize) -> &Stall
+    /// The stall at a place, from 0.
+    pub fn at(&self, i: u64) -> &Stall
         requires { i < length self.now }
         ensures { slice_get self.now i ≡ Some result.now }
     {
-        &self.items[i]
+        &self.items[i as usize]
     }
 }

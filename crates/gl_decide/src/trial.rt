@@ -11,7 +11,7 @@ ghost use Rattle.gl_decide.specs.Theorem.{input_at};
 ghost use Rattle.gl_decide.specs.TheoremOf.{theorem_of};
 ghost use Rattle.gl_decide.specs.Trials.{IsReady, HoldsInput, IsInputOf, IsProperTrial};
 
-use super::place::{place_input, truth};
+use super::trial_input::{place_input, truth};
 use gl_logic::World;
 use lisp_eval::{Env, EvalFault, Machine};
 use shape_spec::{Part, Thm, input_numbered};

@@ -15,9 +15,9 @@ use Rattle.gl_interp.specs.declared.envs.EnvId.{EnvId}
 use Rattle.gl_interp.specs.declared.frame.Frame.{Frame}
 use Rattle.gl_interp.specs.declared.frame.Frame.TheVariants as frame
 use Rattle.gl_interp.specs.declared.frame.Focus.TheVariants as focus
-use Rattle.gl_interp.specs.declared.frame.Way.{Way}
-use Rattle.gl_interp.specs.declared.gives.Branches.{Branches}
-use Rattle.gl_interp.specs.declared.gives.Branches.TheVariants as branches
+use Rattle.gl_interp.specs.declared.frame.Path.{Path}
+use Rattle.gl_interp.specs.declared.results.Branches.{Branches}
+use Rattle.gl_interp.specs.declared.results.Branches.TheVariants as branches
 use Rattle.gl_interp.specs.Branches.{IsPartOf, IsSplit}
 use Rattle.gl_interp.specs.Envs.{EnvsBelow}
 use Rattle.gl_interp.specs.Environments.{objects_of}
@@ -51,11 +51,11 @@ one_of : {X Y : Type 0} (flag : Bool) (f : X → Y) (a b t : X) → t ≡ cond f
 one_of true f a b t e = ap f (sym e)
 one_of false f a b t e = ap f (sym e)
 
-module _ {B : Type 0} (g : Ghosts B) (ds : List Definition) (start : Edge) (path : Way) (old new : SobsSeen B) (es : List (List (ℕ × Sob))) (kept : Leaves g old new) (fs : List Frame) where
+module _ {B : Type 0} (g : Ghosts B) (ds : List Definition) (start : Edge) (path : Path) (old new : SobsSeen B) (es : List (List (ℕ × Sob))) (kept : Leaves g old new) (fs : List Frame) where
   wider : EnvsBelow (length old.nodes) es → EnvsBelow (length new.nodes) es
   wider l i = pairs_below_more _ _ kept.grows.no_fewer (get_or es i []) (l i)
 
-  turn_into : (a b : Bor Term) (env : EnvId) (n : ℕ) (x : Sob) (c : Edge) (way rest : Way) → Ready g old es start path (frame.Test a b env n ∷ fs) (focus.Give x)
+  turn_into : (a b : Bor Term) (env : EnvId) (n : ℕ) (x : Sob) (c : Edge) (way rest : Path) → Ready g old es start path (frame.Test a b env n ∷ fs) (focus.Give x)
       → g.live new.store c → ((z : ℕ → Bool) → g.truth_of new.store c z ≡ not (is_nil (stands_for g old x z)))
       → IsPartOf g new new path.edge (g.truth_of new.store c) way → IsPartOf g new new path.edge (λ z. not (g.truth_of new.store c z)) rest
       → Turn g ds start old es (frame.Test a b env n ∷ fs) (focus.Give x) new es way (frame.Other c b env n path.edge rest ∷ fs) (focus.Visit a env n)
@@ -95,7 +95,7 @@ module _ {B : Type 0} (g : Ghosts B) (ds : List Definition) (start : Edge) (path
       }
 
   -- both branches are reached
-  pub turn_both : (hs : List Frame) (a b : Bor Term) (env : EnvId) (n : ℕ) (x : Sob) (c : Edge) (way rest : Way) → hs ≡ frame.Other c b env n path.edge rest ∷ fs → Ready g old es start path (frame.Test a b env n ∷ fs) (focus.Give x)
+  pub turn_both : (hs : List Frame) (a b : Bor Term) (env : EnvId) (n : ℕ) (x : Sob) (c : Edge) (way rest : Path) → hs ≡ frame.Other c b env n path.edge rest ∷ fs → Ready g old es start path (frame.Test a b env n ∷ fs) (focus.Give x)
       → g.live new.store c → ((z : ℕ → Bool) → g.truth_of new.store c z ≡ not (is_nil (stands_for g old x z)))
       → IsPartOf g new new path.edge (g.truth_of new.store c) way → IsPartOf g new new path.edge (λ z. not (g.truth_of new.store c z)) rest
       → Turn g ds start old es (frame.Test a b env n ∷ fs) (focus.Give x) new es way hs (focus.Visit a env n)
@@ -135,7 +135,7 @@ module _ {B : Type 0} (g : Ghosts B) (ds : List Definition) (start : Edge) (path
       }
 
 -- ---- by the split of a test
-module _ {B : Type 0} (g : Ghosts B) (ds : List Definition) (start : Edge) (path : Way) (old one new : SobsSeen B) (es : List (List (ℕ × Sob))) (fs : List Frame) (a b : Bor Term) (env : EnvId) (n : ℕ) (x : Sob) (test : Edge) (first : Leaves g old one) (second : Leaves g one new) (ready : Ready g old es start path (frame.Test a b env n ∷ fs) (focus.Give x)) (live : g.live one.store test) (says : (z : ℕ → Bool) → g.truth_of one.store test z ≡ not (is_nil (stands_for g old x z))) where
+module _ {B : Type 0} (g : Ghosts B) (ds : List Definition) (start : Edge) (path : Path) (old one new : SobsSeen B) (es : List (List (ℕ × Sob))) (fs : List Frame) (a b : Bor Term) (env : EnvId) (n : ℕ) (x : Sob) (test : Edge) (first : Leaves g old one) (second : Leaves g one new) (ready : Ready g old es start path (frame.Test a b env n ∷ fs) (focus.Give x)) (live : g.live one.store test) (says : (z : ℕ → Bool) → g.truth_of one.store test z ≡ not (is_nil (stands_for g old x z))) where
   both_kept : Leaves g old new
   both_kept = leaves_then g old one new first second
 
@@ -155,10 +155,10 @@ module _ {B : Type 0} (g : Ghosts B) (ds : List Definition) (start : Edge) (path
       let h : IsSplit g one new path.edge test branches.Second = subst (λ q. IsSplit g one new path.edge test q) e s in
       turn_one g ds start path old new es both_kept fs a b b env n x false ready refl (λ z p. sym (says z) ∙ h z (path_one z ∙ p))
 
-  part_moved : (side later : (ℕ → Bool) → Bool) (way : Way) → ((z : ℕ → Bool) → later z ≡ side z) → IsPartOf g one new path.edge side way → IsPartOf g new new path.edge later way
+  part_moved : (side later : (ℕ → Bool) → Bool) (way : Path) → ((z : ℕ → Bool) → later z ≡ side z) → IsPartOf g one new path.edge side way → IsPartOf g new new path.edge later way
   part_moved side later way e p = record { live = p.live; says = λ z. p.says z ∙ (λ i. sym (second.grows.store.same path.edge z path_live) i && sym (e z) i); is_way = p.is_way }
 
-  pub turn_parts : (hs : List Frame) (r : Branches) (way rest : Way) → r ≡ branches.Both way rest → hs ≡ frame.Other test b env n path.edge rest ∷ fs → IsSplit g one new path.edge test r
+  pub turn_parts : (hs : List Frame) (r : Branches) (way rest : Path) → r ≡ branches.Both way rest → hs ≡ frame.Other test b env n path.edge rest ∷ fs → IsSplit g one new path.edge test r
       → Turn g ds start old es (frame.Test a b env n ∷ fs) (focus.Give x) new es way hs (focus.Visit a env n)
   turn_parts hs r way rest e pushed s =
       let h : IsSplit g one new path.edge test (branches.Both way rest) = subst (λ q. IsSplit g one new path.edge test q) e s in

@@ -34,7 +34,7 @@ use Rattle.lisp_eval.proofs.Places.{contains_at}
 use Rattle.lisp_eval.proofs.Within.{full_of_room, stays}
 use Rattle.gl_interp.specs.Calls.{HasEvalCause, IsCrowdedCall, IsDearCall}
 use Rattle.gl_interp.specs.Placed.{Grows, HasPlaced, LacksCells, PlacesOne, numbered_from, variable_call, variables_from}
-use Rattle.gl_interp.proofs.Machines.{fits_grown, keeps_same, keeps_settings}
+use Rattle.gl_interp.proofs.Machines.{fits_forgetting, keeps_same, keeps_settings}
 use Rattle.sym_objects.specs.declared.sob.Sob.{Sob}
 use Rattle.lisp_eval.specs.Answers.{IsLicensed}
 use Rattle.lisp_eval.specs.declared.fault.EvalFault.{EvalFault}
@@ -209,24 +209,24 @@ module _ (f : ℕ) (xs : List Object) where
 -- ---- one object, placed in the lent arena
 module _ (x : Object) (old : MachineSeen) (lent after : Held) (is : lent ≡ old.arena) (whole : IsWhole old.arena) where
   abbrev next : MachineSeen
-  next = record old { arena = after; memos = [] }
+  next = record old { arena = after; memos = []; tables = [] }
 
-  settled : (answer : Result Id SobFault) → Places lent after x answer → KeepsSettings old (record old { arena = after; memos = [] })
+  settled : (answer : Result Id SobFault) → Places lent after x answer → KeepsSettings old (record old { arena = after; memos = []; tables = [] })
   settled answer p = record { limit = p.limit ∙ ap (λ (h : Held). h.limit) is; steps = refl; functions = refl }
 
   added : (answer : Result Id SobFault) → Places lent after x answer → AddsCellsOf x old.arena.objects after.objects
   added answer p = subst (λ (h : Held). AddsCellsOf x h.objects after.objects) is p.objects
 
-  fitting : (answer : Result Id SobFault) → Places lent after x answer → (w : WorldSeen) → Fits w old → Fits w (record old { arena = after; memos = [] })
-  fitting answer p w f = let a = added answer p in fits_grown w old after (a.made, a.is) f
+  fitting : (answer : Result Id SobFault) → Places lent after x answer → (w : WorldSeen) → Fits w old → Fits w (record old { arena = after; memos = []; tables = [] })
+  fitting answer p w f = fits_forgetting w old (record old { arena = after; memos = []; tables = [] }) refl refl f
 
-  pub placed_ok : (id : Id) → Places lent after x (Ok id) → PlacesOne x old (record old { arena = after; memos = [] }) (Ok id)
+  pub placed_ok : (id : Id) → Places lent after x (Ok id) → PlacesOne x old (record old { arena = after; memos = []; tables = [] }) (Ok id)
   placed_ok id p = record { id = p.id; adds = added (Ok id) p; room = λ e. absurd cc; only = tt; different = whole.different; settings = settled (Ok id) p; fits = fitting (Ok id) p }
 
-  pub placed_full : (answer : Result Id SobFault) → answer ≡ Err sob.Full → Places lent after x answer → PlacesOne x old (record old { arena = after; memos = [] }) (Err eval.Cells)
+  pub placed_full : (answer : Result Id SobFault) → answer ≡ Err sob.Full → Places lent after x answer → PlacesOne x old (record old { arena = after; memos = []; tables = [] }) (Err eval.Cells)
   placed_full answer e p = record { id = tt; adds = added answer p; room = λ q. subst (λ (h : Held). HasNoRoomFor h x) is (p.full e); only = tt; different = whole.different; settings = settled answer p; fits = fitting answer p }
 
-  pub placed_memory : (answer : Result Id SobFault) → Places lent after x answer → PlacesOne x old (record old { arena = after; memos = [] }) (Err eval.Memory)
+  pub placed_memory : (answer : Result Id SobFault) → Places lent after x answer → PlacesOne x old (record old { arena = after; memos = []; tables = [] }) (Err eval.Memory)
   placed_memory answer p = record { id = tt; adds = added answer p; room = λ e. absurd cc; only = tt; different = whole.different; settings = settled answer p; fits = fitting answer p }
 
 -- ---- what the machine's refusal says of the call

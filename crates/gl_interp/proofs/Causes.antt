@@ -36,7 +36,7 @@ use Rattle.sym_prims.specs.Applying.{Leaves}
 use Rattle.gl_interp.specs.declared.envs.EnvId.{EnvId}
 use Rattle.gl_interp.specs.declared.fault.GlFault.{GlFault}
 use Rattle.gl_interp.specs.declared.fault.GlFault.TheVariants as fault
-use Rattle.gl_interp.specs.declared.frame.Way.{Way}
+use Rattle.gl_interp.specs.declared.frame.Path.{Path}
 use Rattle.gl_interp.specs.declared.frame.Work.{Work}
 use Rattle.gl_interp.specs.declared.frame.Work.TheVariants as work
 use Rattle.gl_interp.specs.declared.frame.Frame.{Frame}
@@ -58,7 +58,7 @@ and_right : (a b : Bool) → (a && b) ≡ true → b ≡ true
 and_right true b h = h
 and_right false b h = absurd cc
 
-module _ {B : Type 0} (g : Ghosts B) (old : SobsSeen B) (t : Task) (now new : SobsSeen B) (machine : MachineSeen) (es : List (List (ℕ × Sob))) (path : Way) (fs : List Frame) (f : Focus) (r : Running g old t now machine es path fs f) (k : Leaves g now new) where
+module _ {B : Type 0} (g : Ghosts B) (old : SobsSeen B) (t : Task) (now new : SobsSeen B) (machine : MachineSeen) (es : List (List (ℕ × Sob))) (path : Path) (fs : List Frame) (f : Focus) (r : Running g old t now machine es path fs f) (k : Leaves g now new) where
   abbrev ds : List Definition
   ds = t.world.definitions
 

@@ -16,7 +16,7 @@ use Rattle.gl_interp.specs.declared.frame.Work.{Work}
 use Rattle.gl_interp.specs.declared.frame.Frame.{Frame}
 use Rattle.gl_interp.specs.declared.frame.Frame.TheVariants as frame
 use Rattle.gl_interp.specs.declared.frame.Focus.TheVariants as focus
-use Rattle.gl_interp.specs.declared.frame.Way.{Way}
+use Rattle.gl_interp.specs.declared.frame.Path.{Path}
 use Rattle.gl_interp.specs.Envs.{AllBelow, EnvsBelow}
 use Rattle.gl_interp.specs.Environments.{objects_of}
 use Rattle.gl_interp.specs.Walking.{wrap, chained, values_of, worked, walks, from, Makes}
@@ -38,7 +38,7 @@ map_push f [] x = refl
 map_push f (y ∷ ys) x = ap (λ zs. f y ∷ zs) (map_push f ys x)
 
 -- ---- where the machine's objects stay
-module _ {B : Type 0} (g : Ghosts B) (ds : List Definition) (start : Edge) (path : Way) (old : SobsSeen B) (es : List (List (ℕ × Sob))) (fs : List Frame) where
+module _ {B : Type 0} (g : Ghosts B) (ds : List Definition) (start : Edge) (path : Path) (old : SobsSeen B) (es : List (List (ℕ × Sob))) (fs : List Frame) where
   -- the next argument
   pub turn_argument : (w : Work) (done : Vec Sob Global) (ts : Bor (List Term)) (t : Bor Term) (env : EnvId) (n : ℕ) → Ready g old es start path fs (focus.Next w done ts env n) → length done.items < length ts.now → get_or ts.now (length done.items) t.now ≡ t.now
       → Turn g ds start old es fs (focus.Next w done ts env n) old es path (frame.Arguments w done ts env n ∷ fs) (focus.Visit t env n)
@@ -104,7 +104,7 @@ module _ {B : Type 0} (g : Ghosts B) (ds : List Definition) (start : Edge) (path
       }
 
   -- the first branch is done
-  pub turn_other : (c saved : Edge) (rest : Way) (b : Bor Term) (env : EnvId) (n : ℕ) (x : Sob) → Ready g old es start path (frame.Other c b env n saved rest ∷ fs) (focus.Give x)
+  pub turn_other : (c saved : Edge) (rest : Path) (b : Bor Term) (env : EnvId) (n : ℕ) (x : Sob) → Ready g old es start path (frame.Other c b env n saved rest ∷ fs) (focus.Give x)
       → Turn g ds start old es (frame.Other c b env n saved rest ∷ fs) (focus.Give x) old es rest (frame.Join c x saved ∷ fs) (focus.Visit b env n)
   turn_other c saved rest b env n x r = record {
     envs_kept = envs_same es;
@@ -112,7 +112,7 @@ module _ {B : Type 0} (g : Ghosts B) (ds : List Definition) (start : Edge) (path
     makes = λ k z whole s p. (p.1.1.0, (p.0, (p.1.0, p.1.1.1)));
   }
 
-  pub turn_other_at : (hs : List Frame) (f : Frame) (c saved : Edge) (rest : Way) (b : Bor Term) (env : EnvId) (n : ℕ) (x : Sob) → f ≡ frame.Other c b env n saved rest → hs ≡ frame.Join c x saved ∷ fs → Ready g old es start path (f ∷ fs) (focus.Give x)
+  pub turn_other_at : (hs : List Frame) (f : Frame) (c saved : Edge) (rest : Path) (b : Bor Term) (env : EnvId) (n : ℕ) (x : Sob) → f ≡ frame.Other c b env n saved rest → hs ≡ frame.Join c x saved ∷ fs → Ready g old es start path (f ∷ fs) (focus.Give x)
       → Turn g ds start old es (f ∷ fs) (focus.Give x) old es rest hs (focus.Visit b env n)
   turn_other_at hs f c saved rest b env n x e i r =
       subst (λ hs. Turn g ds start old es (f ∷ fs) (focus.Give x) old es rest hs (focus.Visit b env n)) (sym i)
@@ -131,7 +131,7 @@ both_of_three true false c h = h
 both_of_three false r c h = h
 
 -- ---- where more nodes are made
-module _ {B : Type 0} (g : Ghosts B) (ds : List Definition) (start : Edge) (path : Way) (old new : SobsSeen B) (es : List (List (ℕ × Sob))) (kept : Leaves g old new) (fs : List Frame) where
+module _ {B : Type 0} (g : Ghosts B) (ds : List Definition) (start : Edge) (path : Path) (old new : SobsSeen B) (es : List (List (ℕ × Sob))) (kept : Leaves g old new) (fs : List Frame) where
   lower : EnvsBelow (length old.nodes) es → EnvsBelow (length new.nodes) es
   lower l i = pairs_below_more _ _ kept.grows.no_fewer (get_or es i []) (l i)
 
@@ -140,7 +140,7 @@ module _ {B : Type 0} (g : Ghosts B) (ds : List Definition) (start : Edge) (path
       → ((a : ℕ → Bool) → stands_for g new r a ≡ cond (g.truth_of old.store c a) (stands_for g old x a) (stands_for g old y a))
       → Turn g ds start old es (frame.Join c x saved ∷ fs) (focus.Give y) new es (record path { edge = saved }) fs (focus.Give r)
   turn_join c saved x y r d l m =
-      let back : Way = record path { edge = saved } in
+      let back : Path = record path { edge = saved } in
       let v = value_at path.found in
       let reaches : g.truth_of old.store saved v ≡ true = d.paths.0.says v ∙ both_of_three (g.truth_of old.store start (value_at path.found)) (reach (g.truth_of old.store) fs (value_at path.found)) (not (g.truth_of old.store c (value_at path.found))) (sym (d.is_path.says v) ∙ d.way.reaches) in
       let middle : Ready g old es start back fs (focus.Give y) = record { way = record { count = d.way.count; reaches = reaches }; whole = d.whole; envs = d.envs; some_env = d.some_env; start_live = d.start_live; path_live = d.frames.0.2; frames = d.frames.1; focus = d.focus; is_path = d.paths.0; paths = d.paths.1 } in

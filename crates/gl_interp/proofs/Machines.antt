@@ -1,14 +1,11 @@
 -- Machines that stand as before.
 use Rattle.std.proofs.Common.{◌≡◌, ◌∙◌, sym, refl, subst, ℕ, ◌<◌, ◌≤◌, List, [], ◌++◌, length, take}
 use Rattle.std.specs.List.{All}
-use Rattle.std.proofs.lemmas.List.Elements.{Contains-append_left}
-use Rattle.gl_logic.specs.CellCounts.{world_constants}
 use Rattle.gl_logic.specs.Object.{Object}
 use Rattle.gl_logic.specs.WorldSeen.{WorldSeen}
 use Rattle.hons_arena.specs.Held.{AddsCellsOf, Held}
-use Rattle.hons_arena.specs.Parts.{AreHeld}
 use Rattle.lisp_eval.specs.Answers.{FitMemos, HasGrown}
-use Rattle.lisp_eval.specs.Machines.{ArePlaced, Fits, MachineSeen}
+use Rattle.lisp_eval.specs.Machines.{Fits, MachineSeen}
 use Rattle.lisp_eval.specs.MachineCalls.{KeepsSettings}
 use Rattle.lisp_eval.proofs.Grown.{grown_back, grown_count}
 use Rattle.gl_interp.specs.Causes.{Rests}
@@ -32,21 +29,10 @@ keeps_same m = record { limit = refl; steps = refl; functions = refl }
 pub grown_by : (x : Object) (old new : List Object) → AddsCellsOf x old new → HasGrown old new
 grown_by x old new a = (a.made, a.is)
 
--- ---- a machine with another arena, which holds what was held
-are_held_more : (objects made : List Object) (x : Object) → AreHeld objects x → AreHeld (objects ++ made) x
-are_held_more objects made x h y c = Contains-append_left objects made y (h y c)
-
-pub fits_grown : (w : WorldSeen) (m : MachineSeen) (a : Held) → HasGrown m.arena.objects a.objects → Fits w m → Fits w (record m { arena = a; memos = [] })
-fits_grown w m a g f = record {
-  functions = f.functions;
-  constants = subst (λ os. ArePlaced os (world_constants w)) (sym g.1) (λ x c. are_held_more m.arena.objects g.0 x (f.constants x c));
-  memos = record { calls = []; stand = λ more. refl; right = tt };
-}
-
-pub fits_back : (w : WorldSeen) (old new : MachineSeen) → new.functions ≡ old.functions → new.arena.objects ≡ old.arena.objects → new.memos ≡ [] → Fits w old → Fits w new
-fits_back w old new same objects none f = record {
+-- ---- a machine that keeps no call
+pub fits_forgetting : (w : WorldSeen) (old new : MachineSeen) → new.functions ≡ old.functions → new.memos ≡ [] → Fits w old → Fits w new
+fits_forgetting w old new same none f = record {
   functions = subst (λ fs. All (λ k. k < length w.definitions) fs) (sym same) f.functions;
-  constants = subst (λ os. ArePlaced os (world_constants w)) (sym objects) f.constants;
   memos = subst (λ es. FitMemos w.definitions new.arena.objects es) (sym none) (record { calls = []; stand = λ more. refl; right = tt });
 }
 
@@ -61,4 +47,4 @@ pub rests_back : (old mid new : MachineSeen) (n : ℕ) → n ≡ length old.aren
 rests_back old mid new n counted grown first released second none =
     let settings = keeps_settings old mid new first second in
     let objects : new.arena.objects ≡ old.arena.objects = grown_back old.arena.objects mid.arena.objects new.arena.objects n grown counted released in
-    record { arena = held_same new.arena old.arena settings.limit objects; settings = settings; fits = λ w h. fits_back w old new settings.functions objects none h }
+    record { arena = held_same new.arena old.arena settings.limit objects; settings = settings; fits = λ w h. fits_forgetting w old new settings.functions none h }

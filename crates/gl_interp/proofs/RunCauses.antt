@@ -26,13 +26,13 @@ use Rattle.gl_interp.specs.declared.calls.CallFault.TheVariants as call
 use Rattle.gl_interp.specs.declared.envs.EnvId.{EnvId}
 use Rattle.gl_interp.specs.declared.fault.GlFault.{GlFault}
 use Rattle.gl_interp.specs.declared.fault.GlFault.TheVariants as fault
-use Rattle.gl_interp.specs.declared.frame.Way.{Way}
+use Rattle.gl_interp.specs.declared.frame.Path.{Path}
 use Rattle.gl_interp.specs.declared.frame.Work.{Work}
 use Rattle.gl_interp.specs.declared.frame.Work.TheVariants as work
 use Rattle.gl_interp.specs.declared.frame.Focus.TheVariants as focus
 
 -- the path's assignment is one of the path
-pub on_path : {B : Type 0} (g : Ghosts B) (old new : SobsSeen B) (path : Way) (found : List Bool) → IsWay (g.truth_of old.store) (g.width_of old.store) path → Leaves g old new → g.live old.store path.edge → found ≡ path.found → IsOnPath g new path.edge found
+pub on_path : {B : Type 0} (g : Ghosts B) (old new : SobsSeen B) (path : Path) (found : List Bool) → IsWay (g.truth_of old.store) (g.width_of old.store) path → Leaves g old new → g.live old.store path.edge → found ≡ path.found → IsOnPath g new path.edge found
 on_path g old new path found w k live e =
     (ap length e ∙ (w.count ∙ sym k.width), k.grows.store.same path.edge (value_at found) live ∙ (ap (λ b. g.truth_of old.store path.edge (value_at b)) e ∙ w.reaches))
 
@@ -52,7 +52,7 @@ wide_object (Symbol n) h = absurd h
 wide_object (Text n) h = absurd h
 wide_object (Cons x y) h = absurd h
 
-module _ {B : Type 0} (g : Ghosts B) (old new : SobsSeen B) (w : WorldSeen) (m : MachineSeen) (path : Way) (args : Vec Sob Global) (env : EnvId) (n : ℕ) where
+module _ {B : Type 0} (g : Ghosts B) (old new : SobsSeen B) (w : WorldSeen) (m : MachineSeen) (path : Path) (args : Vec Sob Global) (env : EnvId) (n : ℕ) where
   prim_at : (p : Primitive) (f : SymFault) → HasCause g new path.edge (λ a. IsTooWide (prim_value p (values_under g old args.items a))) f → HasTurnCause g old new w m path (focus.Run (work.Prim p) args env n) (fault_from f)
   prim_at p prim.Full h = h
   prim_at p prim.Spent h = h

@@ -24,7 +24,7 @@ use Rattle.gl_interp.specs.declared.frame.Work.{Work}
 use Rattle.gl_interp.specs.declared.frame.Work.TheVariants as work
 use Rattle.gl_interp.specs.declared.frame.Frame.{Frame}
 use Rattle.gl_interp.specs.declared.frame.Focus.TheVariants as focus
-use Rattle.gl_interp.specs.declared.frame.Way.{Way}
+use Rattle.gl_interp.specs.declared.frame.Path.{Path}
 use Rattle.gl_interp.specs.Envs.{AllBelow, EnvsBelow, EnvsKept, sobs_bound}
 use Rattle.gl_interp.specs.Environments.{objects_of}
 use Rattle.gl_interp.specs.Walking.{Before, wrap, worked, Makes, FocusMakes, reached}
@@ -35,7 +35,7 @@ use Rattle.gl_interp.proofs.ConstantWalks.{constants_walk}
 use Rattle.gl_interp.specs.Calls.{values_under}
 use Rattle.gl_interp.proofs.VisitTurns.{envs_same}
 
-module _ {B : Type 0} (g : Ghosts B) (ds : List Definition) (start : Edge) (path : Way) (old new : SobsSeen B) (es : List (List (ℕ × Sob))) (kept : Leaves g old new) (fs : List Frame) where
+module _ {B : Type 0} (g : Ghosts B) (ds : List Definition) (start : Edge) (path : Path) (old new : SobsSeen B) (es : List (List (ℕ × Sob))) (kept : Leaves g old new) (fs : List Frame) where
   -- a primitive's value is there
   pub turn_prim : (p : Primitive) (w : Work) (args : Vec Sob Global) (env : EnvId) (n : ℕ) (r : Sob) → w ≡ work.Prim p → Ready g old es start path fs (focus.Run w args env n) → IsLive new r
       → ((a : ℕ → Bool) → g.truth_of old.store path.edge a ≡ true → stands_for g new r a ≡ prim_value p (map (λ x. stands_for g old x a) args.items))
@@ -115,7 +115,7 @@ value_of_opened ds (suc m) f rs r e =
     ap (λ o. then (then o (opened ds (suc m) f)) (λ w. Some w.value)) (constants_walk (opened ds (suc m)) rs.values [])
     ∙ (ap (λ o. then (then o (ended rs.values ([] ++ (f, rs.values) ∷ []))) (λ w. Some w.value)) q.1.0 ∙ ap Some same)
 
-module _ {B : Type 0} (g : Ghosts B) (ds : List Definition) (start : Edge) (path : Way) (old new : SobsSeen B) (es : List (List (ℕ × Sob))) (kept : Leaves g old new) (fs : List Frame) where
+module _ {B : Type 0} (g : Ghosts B) (ds : List Definition) (start : Edge) (path : Path) (old new : SobsSeen B) (es : List (List (ℕ × Sob))) (kept : Leaves g old new) (fs : List Frame) where
   abbrev Answered : ℕ → (ℕ → Bool) → Option Walk → Sob → Type 0
   Answered k a whole r = ((o : Option Walk) × (Makes (at g ds k old es a) fs whole o × (Makes (at g ds k new es a) fs whole o → FocusMakes (at g ds k new es a) fs whole (focus.Give r)))) ⊎ (whole ≡ None)
 

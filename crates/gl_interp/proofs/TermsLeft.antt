@@ -12,7 +12,7 @@ use Rattle.gl_logic.specs.TermOf.{term_of, terms_of}
 use Rattle.gl_logic.specs.declared.term.Term.{Term}
 use Rattle.sym_objects.specs.declared.sob.Sob.{Sob}
 use Rattle.gl_interp.specs.declared.envs.EnvId.{EnvId}
-use Rattle.gl_interp.specs.declared.frame.Way.{Way}
+use Rattle.gl_interp.specs.declared.frame.Path.{Path}
 use Rattle.gl_interp.specs.declared.frame.Work.{Work}
 use Rattle.gl_interp.specs.declared.frame.Frame.{Frame}
 use Rattle.gl_interp.specs.declared.frame.Frame.TheVariants as frame
@@ -63,7 +63,7 @@ module _ (ds : List Definition) (fs : List Frame) where
   pub terms_all : (w : Work) (done : Vec Sob Global) (ts : Bor (List Term)) (env : EnvId) (n : ℕ) → length done.items ≡ length ts.now → AreTerms ds fs (focus.Next w done ts env n) → AreTerms ds fs (focus.Run w done env n)
   terms_all w done ts env n e h = record { frames = h.frames; focus = subst (λ (m : ℕ). IsWorkOf ds m w) (sym e) h.focus.0 }
 
-  pub terms_other : (hs : List Frame) (f : Frame) (c saved : Edge) (rest : Way) (b : Bor Term) (env : EnvId) (n : ℕ) (x : Sob) → f ≡ frame.Other c b env n saved rest → hs ≡ frame.Join c x saved ∷ fs → AreTerms ds (f ∷ fs) (focus.Give x) → AreTerms ds hs (focus.Visit b env n)
+  pub terms_other : (hs : List Frame) (f : Frame) (c saved : Edge) (rest : Path) (b : Bor Term) (env : EnvId) (n : ℕ) (x : Sob) → f ≡ frame.Other c b env n saved rest → hs ≡ frame.Join c x saved ∷ fs → AreTerms ds (f ∷ fs) (focus.Give x) → AreTerms ds hs (focus.Visit b env n)
   terms_other hs f c saved rest b env n x e i h =
       let p : AreTerms ds (frame.Other c b env n saved rest ∷ fs) (focus.Give x) = subst (λ y. AreTerms ds (y ∷ fs) (focus.Give x)) e h in
       subst (λ ks. AreTerms ds ks (focus.Visit b env n)) (sym i) (record { frames = (tt, p.frames.1); focus = p.frames.0 })
@@ -83,7 +83,7 @@ module _ (ds : List Definition) (fs : List Frame) where
   pub terms_second : (a b : Bor Term) (env : EnvId) (n : ℕ) (x : Sob) → AreTerms ds (frame.Test a b env n ∷ fs) (focus.Give x) → AreTerms ds fs (focus.Visit b env n)
   terms_second a b env n x h = record { frames = h.frames.1; focus = h.frames.0.1 }
 
-  pub terms_both : (hs : List Frame) (a b : Bor Term) (env : EnvId) (n : ℕ) (x : Sob) (c saved : Edge) (rest : Way) → hs ≡ frame.Other c b env n saved rest ∷ fs → AreTerms ds (frame.Test a b env n ∷ fs) (focus.Give x) → AreTerms ds hs (focus.Visit a env n)
+  pub terms_both : (hs : List Frame) (a b : Bor Term) (env : EnvId) (n : ℕ) (x : Sob) (c saved : Edge) (rest : Path) → hs ≡ frame.Other c b env n saved rest ∷ fs → AreTerms ds (frame.Test a b env n ∷ fs) (focus.Give x) → AreTerms ds hs (focus.Visit a env n)
   terms_both hs a b env n x c saved rest e h = subst (λ ks. AreTerms ds ks (focus.Visit a env n)) (sym e) (record { frames = (h.frames.0.1, h.frames.1); focus = h.frames.0.0 })
 
   -- a body is entered

@@ -12,7 +12,7 @@ use Rattle.gl_interp.specs.declared.frame.Frame.{Frame}
 use Rattle.gl_interp.specs.declared.frame.Frame.TheVariants as frame
 use Rattle.gl_interp.specs.declared.frame.Focus.{Focus}
 use Rattle.gl_logic.specs.Assignments.{value_at}
-use Rattle.gl_interp.specs.declared.frame.Way.{Way}
+use Rattle.gl_interp.specs.declared.frame.Path.{Path}
 use Rattle.gl_interp.specs.Envs.{AllBelow, PairsBelow, EnvsBelow, EnvsKept}
 use Rattle.gl_interp.specs.Environments.{objects_of}
 use Rattle.gl_interp.specs.Walking.{Makes, FocusMakes}
@@ -47,7 +47,7 @@ module _ (t u : Edge → (ℕ → Bool) → Bool) (live : Edge → Type 0) (n m 
   pub is_path_same : (start path : Edge) (r q : (ℕ → Bool) → Bool) → live start → live path → ((a : ℕ → Bool) → q a ≡ r a) → IsPath t start r path → IsPath u start q path
   is_path_same start path r q ls lp e p = record { says = λ a. same path a lp ∙ (p.says a ∙ (λ i. sym (same start a ls) i && sym (e a) i)) }
 
-  pub is_way_same : (width later : ℕ) (way : Way) → later ≡ width → live way.edge → IsWay t width way → IsWay u later way
+  pub is_way_same : (width later : ℕ) (way : Path) → later ≡ width → live way.edge → IsWay t width way → IsWay u later way
   is_way_same width later way e l w = record { count = w.count ∙ sym e; reaches = same way.edge (value_at way.found) l ∙ w.reaches }
 
   pub paths_same : (width later : ℕ) (start : Edge) → later ≡ width → live start → (fs : List Frame) → FramesLive live n m fs → PathsRight t width start fs → PathsRight u later start fs
@@ -81,7 +81,7 @@ module _ {B : Type 0} (g : Ghosts B) (start : Edge) (old new : SobsSeen B) (es l
       (g.live old.store) (length old.nodes) (length es) (λ c h. kept.grows.store.same c a h) (λ x h. kept.grows.same x a h) (env_same a below) fs whole o l p
 
   -- the same frames and the same path
-  pub ready_kept : (path : Way) (fs : List Frame) (f h : Focus) → Ready g old es start path fs f → FocusLive (length new.nodes) (length later) h → Ready g new later start path fs h
+  pub ready_kept : (path : Path) (fs : List Frame) (f h : Focus) → Ready g old es start path fs f → FocusLive (length new.nodes) (length later) h → Ready g new later start path fs h
   ready_kept path fs f h r l = record {
     whole = kept.grows.whole;
     envs = lower;
@@ -97,7 +97,7 @@ module _ {B : Type 0} (g : Ghosts B) (start : Edge) (old new : SobsSeen B) (es l
   }
 
   -- a turn that leaves the frames and the path: the old state makes the whole of some walk, and the new focus is that walk
-  pub turn_kept : (ds : List Definition) (path : Way) (fs : List Frame) (f h : Focus) → Ready g old es start path fs f → FocusLive (length new.nodes) (length later) h
+  pub turn_kept : (ds : List Definition) (path : Path) (fs : List Frame) (f h : Focus) → Ready g old es start path fs f → FocusLive (length new.nodes) (length later) h
       → ((k : ℕ) (a : ℕ → Bool) (whole : Option Walk) → g.truth_of old.store start a ≡ true → FocusMakes (at g ds k old es a) fs whole f → (o : Option Walk) × (Makes (at g ds k old es a) fs whole o × (Makes (at g ds k new later a) fs whole o → FocusMakes (at g ds k new later a) fs whole h)))
       → Turn g ds start old es fs f new later path fs h
   turn_kept ds path fs f h r l via = record {
@@ -107,7 +107,7 @@ module _ {B : Type 0} (g : Ghosts B) (start : Edge) (old new : SobsSeen B) (es l
   }
 
   -- the same, where the value may come from elsewhere
-  pub turns_kept : (ds : List Definition) (path : Way) (fs : List Frame) (f h : Focus) → Ready g old es start path fs f → FocusLive (length new.nodes) (length later) h
+  pub turns_kept : (ds : List Definition) (path : Path) (fs : List Frame) (f h : Focus) → Ready g old es start path fs f → FocusLive (length new.nodes) (length later) h
       → ((k : ℕ) (a : ℕ → Bool) (whole : Option Walk) → g.truth_of old.store start a ≡ true → FocusMakes (at g ds k old es a) fs whole f → ((o : Option Walk) × (Makes (at g ds k old es a) fs whole o × (Makes (at g ds k new later a) fs whole o → FocusMakes (at g ds k new later a) fs whole h))) ⊎ (whole ≡ None))
       → Turns g ds start old es fs f new later path fs h
   turns_kept ds path fs f h r l via = record {
@@ -120,5 +120,5 @@ module _ {B : Type 0} (g : Ghosts B) (start : Edge) (old new : SobsSeen B) (es l
   }
 
 -- a turn that keeps what the frames make
-pub turns_of : {B : Type 0} (g : Ghosts B) (ds : List Definition) (start : Edge) (old new : SobsSeen B) (es later : List (List (ℕ × Sob))) (way : Way) (fs hs : List Frame) (f h : Focus) → Turn g ds start old es fs f new later way hs h → Turns g ds start old es fs f new later way hs h
+pub turns_of : {B : Type 0} (g : Ghosts B) (ds : List Definition) (start : Edge) (old new : SobsSeen B) (es later : List (List (ℕ × Sob))) (way : Path) (fs hs : List Frame) (f h : Focus) → Turn g ds start old es fs f new later way hs h → Turns g ds start old es fs f new later way hs h
 turns_of g ds start old new es later way fs hs f h t = record { envs_kept = t.envs_kept; ready = t.ready; makes = λ k a whole s p. inl (t.makes k a whole s p) }

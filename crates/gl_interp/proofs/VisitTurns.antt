@@ -18,7 +18,7 @@ use Rattle.gl_interp.specs.declared.frame.Work.{Work}
 use Rattle.gl_interp.specs.declared.frame.Frame.{Frame}
 use Rattle.gl_interp.specs.declared.frame.Frame.TheVariants as frame
 use Rattle.gl_interp.specs.declared.frame.Focus.TheVariants as focus
-use Rattle.gl_interp.specs.declared.frame.Way.{Way}
+use Rattle.gl_interp.specs.declared.frame.Path.{Path}
 use Rattle.gl_interp.specs.Envs.{AllBelow, PairsBelow, EnvsKept, sob_in}
 use Rattle.gl_interp.specs.Environments.{objects_of}
 use Rattle.gl_interp.specs.Walking.{wrap, worked, walks, from, Makes}
@@ -42,7 +42,7 @@ look_below n (p ∷ ps) v x l e = grind (arith, l.0, look_below n ps v x l.1)
 pub envs_same : (es : List (List (ℕ × Sob))) → EnvsKept es es
 envs_same es = record { no_fewer = omega arith; same = λ i h. refl }
 
-module _ {B : Type 0} (g : Ghosts B) (ds : List Definition) (start : Edge) (path : Way) (old : SobsSeen B) (es : List (List (ℕ × Sob))) (fs : List Frame) where
+module _ {B : Type 0} (g : Ghosts B) (ds : List Definition) (start : Edge) (path : Path) (old : SobsSeen B) (es : List (List (ℕ × Sob))) (fs : List Frame) where
   -- the term is done at once
   pub turn_visited : (new : SobsSeen B) (t : Bor Term) (env : EnvId) (n : ℕ) (e : Exp) (x : Sob) (y : (ℕ → Bool) → Object) → Ready g old es start path fs (focus.Visit t env n) → Leaves g old new → IsLive new x → term_of t.now ≡ e
       → ((k : ℕ) (a : ℕ → Bool) → walk ds (n + k) (objects_of (λ z. stands_for g old z a) (get_or es env.number [])) e ≡ visited (y a)) → ((a : ℕ → Bool) → stands_for g new x a ≡ y a)

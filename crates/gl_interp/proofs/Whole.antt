@@ -19,7 +19,7 @@ use Rattle.sym_prims.specs.Applying.{Leaves}
 use Rattle.sym_prims.proofs.Leaving.{leaves_then}
 use Rattle.lisp_eval.specs.Machines.{MachineSeen}
 use Rattle.gl_interp.specs.declared.envs.EnvId.{EnvId}
-use Rattle.gl_interp.specs.declared.frame.Way.{Way}
+use Rattle.gl_interp.specs.declared.frame.Path.{Path}
 use Rattle.gl_interp.specs.declared.frame.Frame.{Frame}
 use Rattle.gl_interp.specs.declared.frame.Focus.{Focus}
 use Rattle.gl_interp.specs.declared.frame.Focus.TheVariants as focus
@@ -65,7 +65,7 @@ no_envs n zero = tt
 no_envs n (suc i) = tt
 
 module _ {B : Type 0} (g : Ghosts B) (old : SobsSeen B) (t : Task) where
-  pub running_start : (now : SobsSeen B) (machine : MachineSeen) (es : List (List (ℕ × Sob))) (way : Way) (e : EnvId) (b : Bor Term)
+  pub running_start : (now : SobsSeen B) (machine : MachineSeen) (es : List (List (ℕ × Sob))) (way : Path) (e : EnvId) (b : Bor Term)
       → Leaves g old now → machine ≡ t.machine → IsTotal t.world.definitions → IsTermOf t.world.definitions t.term → g.live old.store t.path
       → Ready g now es t.path way [] (focus.Visit b e t.clock) → t.term ≡ term_of b.now → ((a : ℕ → Bool) → env_under g now (get_or es e.number []) a ≡ env_under g old t.env a)
       → Running g old t now machine es way [] (focus.Visit b e t.clock)
@@ -80,7 +80,7 @@ module _ {B : Type 0} (g : Ghosts B) (old : SobsSeen B) (t : Task) where
     makes = λ k a s. inl ([], λ i. walk t.world.definitions (t.clock + k) (env a i) (sym term i));
   }
 
-  pub running_begin : (first now : SobsSeen B) (none es : List (List (ℕ × Sob))) (way : Way) (e : EnvId) (b : Bor Term) → first ≡ old → Leaves g old now → IsTotal t.world.definitions → IsTermOf t.world.definitions t.term → g.live old.store t.path → AreLive old t.env
+  pub running_begin : (first now : SobsSeen B) (none es : List (List (ℕ × Sob))) (way : Path) (e : EnvId) (b : Bor Term) → first ≡ old → Leaves g old now → IsTotal t.world.definitions → IsTermOf t.world.definitions t.term → g.live old.store t.path → AreLive old t.env
       → none ≡ [] ∷ [] → e.number < length es → get_or es e.number [] ≡ t.env → ((n : ℕ) → EnvsBelow n none → PairsBelow n t.env → EnvsBelow n es)
       → way.edge ≡ t.path → IsWay (g.truth_of now.store) (g.width_of now.store) way → t.term ≡ term_of b.now → Running g old t now t.machine es way [] (focus.Visit b e t.clock)
   running_begin first now none es way e b same k total is_term live lives empty less bound below edge is_way term =
@@ -102,7 +102,7 @@ module _ {B : Type 0} (g : Ghosts B) (old : SobsSeen B) (t : Task) where
       running_start now t.machine es way e b k refl total is_term live ready term
       (λ a. ap (λ ps. env_under g now ps a) bound ∙ objects_same (λ x. stands_for g old x a) (λ x. stands_for g now x a) (length old.nodes) (λ x h. k.grows.same x a h) t.env old_pairs)
 
-  pub running_then : (now new : SobsSeen B) (machine next : MachineSeen) (es later : List (List (ℕ × Sob))) (path way : Way) (fs hs : List Frame) (f h : Focus) → Running g old t now machine es path fs f → Leaves g now new → Rests machine next
+  pub running_then : (now new : SobsSeen B) (machine next : MachineSeen) (es later : List (List (ℕ × Sob))) (path way : Path) (fs hs : List Frame) (f h : Focus) → Running g old t now machine es path fs f → Leaves g now new → Rests machine next
       → Turns g t.world.definitions t.path now es fs f new later way hs h → AreTerms t.world.definitions hs h
       → Running g old t new next later way hs h
   running_then now new machine next es later path way fs hs f h r k s m terms = record {
@@ -120,7 +120,7 @@ module _ {B : Type 0} (g : Ghosts B) (old : SobsSeen B) (t : Task) where
   }
 
   -- the same, from the interpreter's own names for what a turn leaves
-  pub running_turn : (now new next : SobsSeen B) (machine after held : MachineSeen) (es later ls : List (List (ℕ × Sob))) (path way there : Way) (gs fs hs ks : List Frame) (e f h m : Focus) → Running g old t now machine es path gs e → gs ≡ fs → e ≡ f → Leaves g now new → Rests machine after
+  pub running_turn : (now new next : SobsSeen B) (machine after held : MachineSeen) (es later ls : List (List (ℕ × Sob))) (path way there : Path) (gs fs hs ks : List Frame) (e f h m : Focus) → Running g old t now machine es path gs e → gs ≡ fs → e ≡ f → Leaves g now new → Rests machine after
       → Turns g t.world.definitions t.path now es fs f new later way hs h → AreTerms t.world.definitions hs h
       → next ≡ new → held ≡ after → ls ≡ later → there ≡ way → ks ≡ hs → m ≡ h → Running g old t next held ls there ks m
   running_turn now new next machine after held es later ls path way there gs fs hs ks e f h m r i j k s u terms a q b c d n =
@@ -134,7 +134,7 @@ module _ {B : Type 0} (g : Ghosts B) (old : SobsSeen B) (t : Task) where
       (running_then now new machine after es later path way fs hs f h before k s u terms))))))
 
   -- a turn that keeps what the frames make
-  pub running_plain : (now new next : SobsSeen B) (machine after held : MachineSeen) (es later ls : List (List (ℕ × Sob))) (path way there : Way) (gs fs hs ks : List Frame) (e f h m : Focus) → Running g old t now machine es path gs e → gs ≡ fs → e ≡ f → Leaves g now new → Rests machine after
+  pub running_plain : (now new next : SobsSeen B) (machine after held : MachineSeen) (es later ls : List (List (ℕ × Sob))) (path way there : Path) (gs fs hs ks : List Frame) (e f h m : Focus) → Running g old t now machine es path gs e → gs ≡ fs → e ≡ f → Leaves g now new → Rests machine after
       → Turn g t.world.definitions t.path now es fs f new later way hs h → (AreTerms t.world.definitions fs f → AreTerms t.world.definitions hs h)
       → next ≡ new → held ≡ after → ls ≡ later → there ≡ way → ks ≡ hs → m ≡ h → Running g old t next held ls there ks m
   running_plain now new next machine after held es later ls path way there gs fs hs ks e f h m r i j k s u terms a q b c d n =
@@ -142,7 +142,7 @@ module _ {B : Type 0} (g : Ghosts B) (old : SobsSeen B) (t : Task) where
       running_turn now new next machine after held es later ls path way there fs fs hs ks f f h m before refl refl k s (turns_of g t.world.definitions t.path now new es later way fs hs f h u) (terms before.terms) a q b c d n
 
   -- nothing is left: the object is the value
-  pub running_done : (now : SobsSeen B) (machine : MachineSeen) (es : List (List (ℕ × Sob))) (path : Way) (fs : List Frame) (f : Focus) (x : Sob) → Running g old t now machine es path fs f → fs ≡ [] → f ≡ focus.Give x → (a : ℕ → Bool) → g.truth_of old.store t.path a ≡ true
+  pub running_done : (now : SobsSeen B) (machine : MachineSeen) (es : List (List (ℕ × Sob))) (path : Path) (fs : List Frame) (f : Focus) (x : Sob) → Running g old t now machine es path fs f → fs ≡ [] → f ≡ focus.Give x → (a : ℕ → Bool) → g.truth_of old.store t.path a ≡ true
       → HasValue t.world.definitions (env_under g old t.env a) t.term (stands_for g now x a)
   running_done now machine es path fs f x r e i a s =
       let ds = t.world.definitions in
@@ -155,7 +155,7 @@ module _ {B : Type 0} (g : Ghosts B) (old : SobsSeen B) (t : Task) where
         | inr n ↦ none_some w.run (sym n ∙ w.walks)
       ]
 
-  pub interprets_ok : (now : SobsSeen B) (machine : MachineSeen) (es : List (List (ℕ × Sob))) (path : Way) (fs : List Frame) (f : Focus) (x : Sob) → Running g old t now machine es path fs f → fs ≡ [] → f ≡ focus.Give x → Interprets g old now t (Ok x)
+  pub interprets_ok : (now : SobsSeen B) (machine : MachineSeen) (es : List (List (ℕ × Sob))) (path : Path) (fs : List Frame) (f : Focus) (x : Sob) → Running g old t now machine es path fs f → fs ≡ [] → f ≡ focus.Give x → Interprets g old now t (Ok x)
   interprets_ok now machine es path fs f x r e i = record {
     leaves = r.leaves;
     live = subst (λ h. FocusLive (length now.nodes) (length es) h) i r.ready.focus;
@@ -167,7 +167,7 @@ module _ {B : Type 0} (g : Ghosts B) (old : SobsSeen B) (t : Task) where
   interprets_err new c k h = record { leaves = k; live = tt; value = tt; cause = h }
 
   -- an assignment of the path is one of the whole's
-  pub on_start : (now new : SobsSeen B) (machine : MachineSeen) (es : List (List (ℕ × Sob))) (path : Way) (fs : List Frame) (f : Focus) (b : List Bool) → Running g old t now machine es path fs f → Leaves g now new → IsOnPath g new path.edge b → IsOnPath g old t.path b
+  pub on_start : (now new : SobsSeen B) (machine : MachineSeen) (es : List (List (ℕ × Sob))) (path : Path) (fs : List Frame) (f : Focus) (b : List Bool) → Running g old t now machine es path fs f → Leaves g now new → IsOnPath g new path.edge b → IsOnPath g old t.path b
   on_start now new machine es path fs f b r k h =
       let a = value_at b in
       let here : g.truth_of now.store path.edge a ≡ true = sym (k.grows.store.same path.edge a r.ready.path_live) ∙ h.1 in

@@ -3,13 +3,13 @@ use Rattle.std.specs.Prelude.{ℕ, Bool, true, false, not, ◌&&◌, ◌≡◌}
 use Rattle.bfr_store.specs.declared.edge.Edge.{Edge}
 use Rattle.bfr_store.specs.declared.meaning.Meaning.{Ghosts}
 use Rattle.sym_objects.specs.Seen.{SobsSeen}
-use Rattle.gl_interp.specs.declared.frame.Way.{Way}
-use Rattle.gl_interp.specs.declared.gives.Branches.{Branches}
-use Rattle.gl_interp.specs.declared.gives.Branches.TheVariants as branches
+use Rattle.gl_interp.specs.declared.frame.Path.{Path}
+use Rattle.gl_interp.specs.declared.results.Branches.{Branches}
+use Rattle.gl_interp.specs.declared.results.Branches.TheVariants as branches
 use Rattle.gl_interp.specs.Running.{IsWay}
 
 -- a path's part: its edge is true where the path's edge is and this is
-pub record IsPartOf {B : Type 0} (g : Ghosts B) (old new : SobsSeen B) (path : Edge) (side : (ℕ → Bool) → Bool) (way : Way) : Type 0 where
+pub record IsPartOf {B : Type 0} (g : Ghosts B) (old new : SobsSeen B) (path : Edge) (side : (ℕ → Bool) → Bool) (way : Path) : Type 0 where
   pub live : g.live new.store way.edge
   pub says : (a : ℕ → Bool) → g.truth_of new.store way.edge a ≡ (g.truth_of old.store path a && side a)
   pub is_way : IsWay (g.truth_of new.store) (g.width_of new.store) way

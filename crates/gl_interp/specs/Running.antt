@@ -10,7 +10,7 @@ use Rattle.gl_logic.specs.Assignments.{value_at}
 use Rattle.gl_logic.specs.IsTermOf.{AreTermsOf, IsTermOf, arity_in}
 use Rattle.gl_logic.specs.PrimValue.{prim_arity}
 use Rattle.gl_logic.specs.TermOf.{term_of, terms_of}
-use Rattle.gl_interp.specs.declared.frame.Way.{Way}
+use Rattle.gl_interp.specs.declared.frame.Path.{Path}
 use Rattle.gl_interp.specs.declared.frame.Work.{Work}
 use Rattle.gl_interp.specs.declared.frame.Work.TheVariants as work
 use Rattle.gl_interp.specs.declared.frame.Frame.{Frame}
@@ -54,7 +54,7 @@ pub record IsPath (truth : Edge → (ℕ → Bool) → Bool) (start : Edge) (her
   pub says : (a : ℕ → Bool) → truth path a ≡ (truth start a && here a)
 
 -- the path's assignment has so many values, and makes its edge true
-pub record IsWay (truth : Edge → (ℕ → Bool) → Bool) (width : ℕ) (way : Way) : Type 0 where
+pub record IsWay (truth : Edge → (ℕ → Bool) → Bool) (width : ℕ) (way : Path) : Type 0 where
   pub count : length way.found ≡ width
   pub reaches : truth way.edge (value_at way.found) ≡ true
 
@@ -69,7 +69,7 @@ PathsRight truth width start (frame.Test a b env k ∷ fs) = PathsRight truth wi
 PathsRight truth width start (frame.Arguments w done ts env k ∷ fs) = PathsRight truth width start fs
 
 -- ---- the interpreter may take a turn
-pub record Ready {B : Type 0} (g : Ghosts B) (s : SobsSeen B) (bindings : List (List (ℕ × Sob))) (start : Edge) (path : Way) (fs : List Frame) (f : Focus) : Type 0 where
+pub record Ready {B : Type 0} (g : Ghosts B) (s : SobsSeen B) (bindings : List (List (ℕ × Sob))) (start : Edge) (path : Path) (fs : List Frame) (f : Focus) : Type 0 where
   pub whole : IsWhole g s
   pub envs : EnvsBelow (length s.nodes) bindings
   pub some_env : 0 < length bindings
@@ -82,13 +82,13 @@ pub record Ready {B : Type 0} (g : Ghosts B) (s : SobsSeen B) (bindings : List (
   pub paths : PathsRight (g.truth_of s.store) (g.width_of s.store) start fs
 
 -- a turn: the frames make what they made before
-pub record Turn {B : Type 0} (g : Ghosts B) (ds : List Definition) (start : Edge) (old : SobsSeen B) (es : List (List (ℕ × Sob))) (fs : List Frame) (f : Focus) (new : SobsSeen B) (later : List (List (ℕ × Sob))) (way : Way) (hs : List Frame) (h : Focus) : Type 0 where
+pub record Turn {B : Type 0} (g : Ghosts B) (ds : List Definition) (start : Edge) (old : SobsSeen B) (es : List (List (ℕ × Sob))) (fs : List Frame) (f : Focus) (new : SobsSeen B) (later : List (List (ℕ × Sob))) (way : Path) (hs : List Frame) (h : Focus) : Type 0 where
   pub envs_kept : EnvsKept es later
   pub ready : Ready g new later start way hs h
   pub makes : (k : ℕ) (a : ℕ → Bool) (whole : Option Walk) → g.truth_of old.store start a ≡ true → FocusMakes (at g ds k old es a) fs whole f → FocusMakes (at g ds k new later a) hs whole h
 
 -- a turn that may take the value from elsewhere: the frames make what they made before, or there is no whole within the clock
-pub record Turns {B : Type 0} (g : Ghosts B) (ds : List Definition) (start : Edge) (old : SobsSeen B) (es : List (List (ℕ × Sob))) (fs : List Frame) (f : Focus) (new : SobsSeen B) (later : List (List (ℕ × Sob))) (way : Way) (hs : List Frame) (h : Focus) : Type 0 where
+pub record Turns {B : Type 0} (g : Ghosts B) (ds : List Definition) (start : Edge) (old : SobsSeen B) (es : List (List (ℕ × Sob))) (fs : List Frame) (f : Focus) (new : SobsSeen B) (later : List (List (ℕ × Sob))) (way : Path) (hs : List Frame) (h : Focus) : Type 0 where
   pub envs_kept : EnvsKept es later
   pub ready : Ready g new later start way hs h
   pub makes : (k : ℕ) (a : ℕ → Bool) (whole : Option Walk) → g.truth_of old.store start a ≡ true → FocusMakes (at g ds k old es a) fs whole f → FocusMakes (at g ds k new later a) hs whole h ⊎ (whole ≡ None)

@@ -18,7 +18,7 @@ use Rattle.gl_interp.specs.Calls.{IsCrowdedCall, IsDearCall, values_under}
 use Rattle.gl_interp.specs.Causes.{IsOnPath}
 use Rattle.gl_interp.specs.declared.fault.GlFault.{GlFault}
 use Rattle.gl_interp.specs.declared.fault.GlFault.TheVariants as fault
-use Rattle.gl_interp.specs.declared.frame.Way.{Way}
+use Rattle.gl_interp.specs.declared.frame.Path.{Path}
 use Rattle.gl_interp.specs.declared.frame.Work.TheVariants as work
 use Rattle.gl_interp.specs.declared.frame.Focus.{Focus}
 use Rattle.gl_interp.specs.declared.frame.Focus.TheVariants as focus
@@ -51,7 +51,7 @@ IsCrowdedTurn g s w m a (focus.Run (work.Call f) args env n) = IsCrowdedCall w m
 IsCrowdedTurn g s w m a _ = ⊥
 
 -- the cause is there for what the turn was to do, under an assignment of the path
-abbrev pub HasTurnCause : {B : Type 0} → Ghosts B → SobsSeen B → SobsSeen B → WorldSeen → MachineSeen → Way → Focus → GlFault → Type 0
+abbrev pub HasTurnCause : {B : Type 0} → Ghosts B → SobsSeen B → SobsSeen B → WorldSeen → MachineSeen → Path → Focus → GlFault → Type 0
 HasTurnCause g old new w m path f (fault.Clock a) = IsOnPath g new path.edge a × IsStopped f
 HasTurnCause g old new w m path f (fault.Wide a) = IsOnPath g new path.edge a × IsWideTurn g old w (value_at a) f
 HasTurnCause g old new w m path f (fault.Steps a) = IsOnPath g new path.edge a × IsDearTurn g old w m (value_at a) f
@@ -68,12 +68,12 @@ HasPlainCause g new fault.Memory = Unit {0}
 HasPlainCause g new _ = ⊥
 
 -- of a constant's node: there is no room for the object
-abbrev pub HasConstantCause : {B : Type 0} → Ghosts B → SobsSeen B → MachineSeen → Way → Object → GlFault → Type 0
+abbrev pub HasConstantCause : {B : Type 0} → Ghosts B → SobsSeen B → MachineSeen → Path → Object → GlFault → Type 0
 HasConstantCause g new m path x (fault.Cells a) = IsOnPath g new path.edge a × HasNoRoomFor m.arena x × IsEachOnce m.arena.objects
 HasConstantCause g new m path x f = HasPlainCause g new f
 
 -- of a call on constants: it is wide, dear or crowded
-abbrev pub HasMachineCause : {B : Type 0} → Ghosts B → SobsSeen B → SobsSeen B → WorldSeen → MachineSeen → Way → ℕ → List Sob → GlFault → Type 0
+abbrev pub HasMachineCause : {B : Type 0} → Ghosts B → SobsSeen B → SobsSeen B → WorldSeen → MachineSeen → Path → ℕ → List Sob → GlFault → Type 0
 HasMachineCause g old new w m path f args (fault.Wide a) = IsOnPath g new path.edge a × IsWide w.definitions [] (constant_call f (values_under g old args (value_at a)))
 HasMachineCause g old new w m path f args (fault.Steps a) = IsOnPath g new path.edge a × IsDearCall w m f (values_under g old args (value_at a))
 HasMachineCause g old new w m path f args (fault.Cells a) = IsOnPath g new path.edge a × IsCrowdedCall w m f (values_under g old args (value_at a))

@@ -8,7 +8,7 @@ use Rattle.lisp_eval.specs.Machines.{MachineSeen}
 use Rattle.sym_objects.specs.declared.sob.Sob.{Sob}
 use Rattle.sym_objects.specs.Seen.{SobsSeen}
 use Rattle.sym_prims.specs.Applying.{Leaves}
-use Rattle.gl_interp.specs.declared.frame.Way.{Way}
+use Rattle.gl_interp.specs.declared.frame.Path.{Path}
 use Rattle.gl_interp.specs.declared.frame.Frame.{Frame}
 use Rattle.gl_interp.specs.declared.frame.Focus.{Focus}
 use Rattle.gl_interp.specs.Causes.{Rests, Task}
@@ -20,7 +20,7 @@ use Rattle.gl_interp.specs.Running.{at, AreTerms, Ready}
 abbrev pub whole_at : {B : Type 0} → Ghosts B → SobsSeen B → Task → ℕ → (ℕ → Bool) → Option Walk
 whole_at g s t k a = walk t.world.definitions (t.clock + k) (env_under g s t.env a) t.term
 
-pub record Running {B : Type 0} (g : Ghosts B) (old : SobsSeen B) (t : Task) (now : SobsSeen B) (machine : MachineSeen) (es : List (List (ℕ × Sob))) (way : Way) (fs : List Frame) (f : Focus) : Type 0 where
+pub record Running {B : Type 0} (g : Ghosts B) (old : SobsSeen B) (t : Task) (now : SobsSeen B) (machine : MachineSeen) (es : List (List (ℕ × Sob))) (way : Path) (fs : List Frame) (f : Focus) : Type 0 where
   pub leaves : Leaves g old now
   pub rests : Rests t.machine machine
   pub total : IsTotal t.world.definitions

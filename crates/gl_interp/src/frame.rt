@@ -7,7 +7,7 @@ use sym_objects::Sob;
 
 /// A path: an edge, and an assignment that makes it true.
 #[derive(Drop)]
-pub struct Way {
+pub struct Path {
     pub edge: Edge,
     pub found: Assignment,
 }
@@ -27,7 +27,7 @@ pub enum Frame<'a> {
     Test(&'a Term, &'a Term, EnvId, u32),
     /// It is the first branch's. The test, the other branch, its environment and clock, the path's edge to the two and the
     /// path to the other one.
-    Other(Edge, &'a Term, EnvId, u32, Edge, Way),
+    Other(Edge, &'a Term, EnvId, u32, Edge, Path),
     /// It is the other branch's. The test, the first branch's object and the path's edge to the two.
     Join(Edge, Sob, Edge),
     /// It is an argument's. The arguments before it, all terms, their environment and clock.

@@ -12,10 +12,10 @@ use super::env::SymEnv;
 use super::envs::Envs;
 use super::fault::GlFault;
 use super::frame::Focus;
-use super::gives::{give, next};
-use super::lent::way_of;
+use super::results::{give, next};
 use super::runs::run;
 use super::stack::Stack;
+use super::store_calls::path_of;
 use super::visits::visit;
 use bfr_store::{Bits, Edge};
 use gl_logic::{Term, World};
@@ -46,7 +46,7 @@ pub fn interp<B: Bits>(
     let _total = world.count();
     let mut envs = Envs::new(alloc);
     let first = envs.bind_pairs(env)?;
-    let mut way = way_of(alloc, objs, path)?;
+    let mut way = path_of(alloc, objs, path)?;
     let mut frames = Stack::new(alloc);
     let mut focus = Focus::Visit(term, first, clock);
     for turn in 0..u64::MAX {

@@ -19,13 +19,13 @@ pub mod env;
 mod envs;
 pub mod fault;
 mod frame;
-mod gives;
 pub mod inputs;
 pub mod interpreter;
-mod lent;
+mod results;
 mod runs;
 mod shapes;
 mod stack;
+mod store_calls;
 mod visits;
 
 pub use env::SymEnv;

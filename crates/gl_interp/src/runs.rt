@@ -15,9 +15,9 @@ ghost use Rattle.gl_interp.specs.TurnFaults.{HasMachineCause, HasTurnCause};
 use super::calls::{CallFault, are_constant, call};
 use super::envs::{EnvId, Envs};
 use super::fault::GlFault;
-use super::frame::{Focus, Frame, Way, Work};
-use super::lent::copy_of;
+use super::frame::{Focus, Frame, Path, Work};
 use super::stack::Stack;
+use super::store_calls::copy_of;
 use bfr_store::{Bits, Edge};
 use gl_logic::{FnId, World};
 use lisp_eval::{EvalFault, Machine};
@@ -33,7 +33,7 @@ pub(crate) fn run<'a, B: Bits>(
     envs: &mut Envs,
     world: &'a World,
     start: Edge,
-    path: &Way,
+    path: &Path,
     work: Work<'a>,
     args: Vec<Sob>,
     env: EnvId,
@@ -83,7 +83,7 @@ fn evaluate<B: Bits>(
     objs: &mut Sobs<B>,
     machine: &mut Machine,
     world: &World,
-    path: &Way,
+    path: &Path,
     f: FnId,
     args: &[Sob],
 ) -> Result<Sob, GlFault>

@@ -13,15 +13,15 @@ ghost use Rattle.gl_interp.specs.TurnFaults.{HasConstantCause, HasPlainCause, Ha
 use super::constants::{PlaceFault, constant};
 use super::envs::{EnvId, Envs};
 use super::fault::GlFault;
-use super::frame::{Focus, Frame, Way, Work};
-use super::lent::copy_of;
+use super::frame::{Focus, Frame, Path, Work};
 use super::stack::Stack;
+use super::store_calls::copy_of;
 use bfr_store::{Bits, Edge};
 use gl_logic::{Term, Tree};
 use lisp_eval::Machine;
 use std::alloc::Global;
 use sym_objects::{Sob, Sobs};
-use sym_prims::lent::constant_edge;
+use sym_prims::store_calls::constant_edge;
 
 /// Goes into a term.
 pub(crate) fn visit<'a, B: Bits>(
@@ -30,7 +30,7 @@ pub(crate) fn visit<'a, B: Bits>(
     machine: &mut Machine,
     envs: &Envs,
     start: Edge,
-    path: &Way,
+    path: &Path,
     term: &'a Term,
     env: EnvId,
     clock: u32,
@@ -97,7 +97,7 @@ fn constant_of<B: Bits>(
     alloc: Global,
     objs: &mut Sobs<B>,
     machine: &mut Machine,
-    path: &Way,
+    path: &Path,
     tree: &Tree,
 ) -> Result<Sob, GlFault>
     requires whole { IsWhole B.Meaning objs.old }

@@ -11,15 +11,12 @@ use Rattle.gl_logic.specs.IsTermOf.{IsTermOf}
 use Rattle.gl_logic.specs.IsTotal.{IsTotal}
 use Rattle.gl_logic.specs.Parts.{cells_in}
 use Rattle.gl_logic.specs.Counts.{seen}
-use Rattle.gl_logic.specs.CellCounts.{cells, constants_of, world_constants}
+use Rattle.gl_logic.specs.CellCounts.{cells, constant_cells, constants_of, world_constants}
 use Rattle.gl_logic.specs.WorldSeen.{WorldSeen}
 use Rattle.gl_logic.proofs.DifferentObjects.{different_once, contains_different}
 use Rattle.hons_arena.proofs.Counting.{each_once_few}
 use Rattle.lisp_eval.specs.Answers.{IsCrowded}
 use Rattle.gl_symbolic.specs.Causes.{IsOutOfCells}
-
-abbrev pub constant_cells : WorldSeen → List Object
-constant_cells w = flat_map cells_in (world_constants w)
 
 abbrev pub input_cells : List (ℕ × Object) → List Object
 input_cells env = flat_map cells_in (map (λ p. p.1) env)

@@ -4,6 +4,7 @@ use Rattle.std.specs.List.{All, Contains}
 use Rattle.bfr_store.specs.declared.edge.Edge.{Edge}
 use Rattle.bfr_store.specs.declared.meaning.Meaning.{Ghosts}
 use Rattle.gl_logic.specs.Assignments.{value_at}
+use Rattle.gl_logic.specs.CellCounts.{constant_cells}
 use Rattle.gl_logic.specs.Evaluate.{evaluate}
 use Rattle.gl_logic.specs.IsTermOf.{IsTermOf}
 use Rattle.gl_logic.specs.IsTotal.{IsTotal}
@@ -29,7 +30,7 @@ use Rattle.gl_symbolic.specs.Theorems.{term_at, clock_at, input_under, IsOfPart}
 use Rattle.gl_symbolic.specs.declared.decision.Decision.{Decision}
 use Rattle.gl_symbolic.specs.declared.decision.Decision.TheVariants as decision
 use Rattle.hons_arena.specs.Held.{Held}
-use Rattle.gl_symbolic.proofs.Cells.{constant_cells, from_crowd, from_input}
+use Rattle.gl_symbolic.proofs.Cells.{from_crowd, from_input}
 
 -- ---- a machine that rests
 pub ready_later : (w : WorldSeen) (thm : Thm) (old new : MachineSeen) → Rests old new → IsReady w thm old → IsReady w thm new

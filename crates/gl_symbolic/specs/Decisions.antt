@@ -1,12 +1,11 @@
 -- When a symbolic decision of a theorem is proper.
 use Rattle.std.specs.Prelude.{◌≡◌, ℕ, Bool, None, IsTrue}
-use Rattle.std.specs.List.{All, Contains, flat_map}
+use Rattle.std.specs.List.{All, Contains}
 use Rattle.bfr_store.specs.declared.meaning.Meaning.{Ghosts}
 use Rattle.gl_logic.specs.Assignments.{value_at}
-use Rattle.gl_logic.specs.CellCounts.{world_constants}
+use Rattle.gl_logic.specs.CellCounts.{constant_cells}
 use Rattle.gl_logic.specs.Object.{nil}
 use Rattle.gl_logic.specs.Evaluate.{evaluate, HasValue}
-use Rattle.gl_logic.specs.Parts.{cells_in}
 use Rattle.gl_logic.specs.Wide.{IsWide}
 use Rattle.gl_logic.specs.WorldSeen.{WorldSeen}
 use Rattle.lisp_eval.specs.Answers.{IsDear}
@@ -28,7 +27,7 @@ use Rattle.gl_symbolic.specs.declared.decision.Decision.TheVariants as decision
 pub record IsReady (w : WorldSeen) (thm : Thm) (m : MachineSeen) : Type 0 where
   pub fits : Fits w m
   pub functions : m.functions ≡ thm.memoized
-  pub cells : All (λ y. Contains (flat_map cells_in (world_constants w)) y) m.arena.objects
+  pub cells : All (Contains (constant_cells w)) m.arena.objects
 
 -- what a decision says, by the limits of steps and cells
 abbrev pub IsProper : WorldSeen → ℕ → ℕ → Thm → Decision → Type 0

@@ -11,10 +11,10 @@ ghost use Rattle.gl_interp.specs.Causes.{Rests};
 ghost use Rattle.gl_symbolic.specs.Decisions.{HasRunOut, IsProper, IsReady, IsShown};
 ghost use Rattle.gl_symbolic.specs.Steps.{IsHypothesis, StandsUnder};
 
+use super::certifying_store::{CertifyingStore, reach};
 use super::decision::{Decision, given_up, stopped};
 use super::narrow::index_edges;
 use super::runs::{hypothesis, refutation};
-use super::settles::{Settles, reach};
 use bfr_store::Edge;
 use gl_interp::{SymEnv, symbolic_over};
 use gl_logic::{Assignment, World};
@@ -27,7 +27,7 @@ use sym_objects::Sobs;
 ///
 /// The hypothesis first: where the store gives up on it, nothing is said. The conclusion is run under the hypothesis'
 /// truth, and in each mode but Sat with the indices that the hypothesis fixes as constants.
-pub fn decide_symbolically<B: Settles>(
+pub fn decide_symbolically<B: CertifyingStore>(
     alloc: Global,
     objs: &mut Sobs<B>,
     machine: &mut Machine,
@@ -63,7 +63,7 @@ pub fn decide_symbolically<B: Settles>(
 
 /// Decides a theorem whose hypothesis this assignment meets, on an input in which each index that the hypothesis fixes is a
 /// constant.
-fn conclude_narrowed<B: Settles>(
+fn conclude_narrowed<B: CertifyingStore>(
     alloc: Global,
     objs: &mut Sobs<B>,
     machine: &mut Machine,
@@ -98,7 +98,7 @@ fn conclude_narrowed<B: Settles>(
 }
 
 /// Decides a theorem whose hypothesis some assignment meets.
-fn conclude<B: Settles>(
+fn conclude<B: CertifyingStore>(
     alloc: Global,
     objs: &mut Sobs<B>,
     machine: &mut Machine,

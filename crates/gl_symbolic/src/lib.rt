@@ -11,6 +11,7 @@
 //! Tests: those of the crate `gl`; of parametrised inputs also in `parametrised`.
 #![tactic(auto)]
 
+pub mod certifying_store;
 mod condition;
 pub mod decide;
 pub mod decision;
@@ -18,11 +19,10 @@ mod narrow;
 mod parametrised;
 pub mod room;
 pub mod runs;
-pub mod settles;
 mod stores;
 
+pub use certifying_store::CertifyingStore;
 pub use decide::decide_symbolically;
 pub use decision::Decision;
 pub use room::{Room, decide_in_mode, run_in_mode};
 pub use runs::{hypothesis, refutation};
-pub use settles::Settles;

@@ -7,13 +7,13 @@ ghost use Rattle.sym_prims.specs.Applying.{Leaves, Tells};
 ghost use Rattle.gl_symbolic.specs.Decisions.{HasRunOut, IsGivenUpOn};
 ghost use Rattle.gl_symbolic.specs.Narrowing.{IsIndex, IsNarrowed};
 
+use super::certifying_store::{CertifyingStore, reach};
 use super::decision::{Decision, given_up};
-use super::settles::{Settles, reach};
 use bfr_store::{Bits, Edge, Full};
 use gl_logic::Assignment;
 use std::alloc::Global;
 use sym_objects::Sobs;
-use sym_prims::lent::{complement, conjunction, constant_edge};
+use sym_prims::store_calls::{complement, conjunction, constant_edge};
 
 /// The function of a variable that the store has.
 fn variable<B: Bits>(objs: &mut Sobs<B>, k: u32) -> Result<Edge, Full>
@@ -44,7 +44,7 @@ fn unlike<B: Bits>(objs: &mut Sobs<B>, edge: Edge, value: bool) -> Edge
 
 /// Whether some assignment makes the hypothesis true and gives an edge another truth than this value. A store without room
 /// for the question answers that one does.
-fn may_differ<B: Settles>(
+fn may_differ<B: CertifyingStore>(
     alloc: Global,
     objs: &mut Sobs<B>,
     hyp: Edge,
@@ -72,7 +72,7 @@ fn may_differ<B: Settles>(
 
 /// An edge that stands for an index wherever the hypothesis is true: a constant, where this is asked and the hypothesis fixes
 /// the index, and else its variable. The value is one that the index has where the hypothesis is true.
-fn index_edge<B: Settles>(
+fn index_edge<B: CertifyingStore>(
     alloc: Global,
     objs: &mut Sobs<B>,
     hyp: Edge,
@@ -107,7 +107,7 @@ fn index_edge<B: Settles>(
 /// An edge for each index, which stands for it wherever the hypothesis is true: a constant, where the hypothesis is found to
 /// fix the index. The assignment makes the hypothesis true. An eighth of the store's room is spent on the questions at most,
 /// and what one of them takes beyond.
-pub(crate) fn index_edges<B: Settles>(
+pub(crate) fn index_edges<B: CertifyingStore>(
     alloc: Global,
     objs: &mut Sobs<B>,
     hyp: Edge,

@@ -21,10 +21,10 @@ ghost use Rattle.gl_symbolic.specs.Steps.{IsHypothesis};
 #[cfg(test)]
 mod tests;
 
+use super::certifying_store::{CertifyingStore, reach};
 use super::condition::condition;
 use super::decision::{Decision, given_up, stopped};
 use super::runs::hypothesis;
-use super::settles::{Settles, reach};
 use bdd_param::{Edges, ParamFault, parametrise};
 use bdd_store::Bdd;
 use bfr_store::{Bits, Edge, Meaning};
@@ -34,7 +34,7 @@ use lisp_eval::Machine;
 use shape_spec::{Part, Thm, bit_count};
 use std::alloc::Global;
 use sym_objects::Sobs;
-use sym_prims::lent::{complement, constant_edge};
+use sym_prims::store_calls::{complement, constant_edge};
 
 /// The truth of a function under an assignment.
 fn truth<B: Bits>(objs: &mut Sobs<B>, edge: Edge, a: &Assignment) -> bool
@@ -96,7 +96,7 @@ fn moved<B: Bits>(
 }
 
 /// Decides a theorem whose conclusion's input is the one at a vector that parametrises the hypothesis.
-pub(crate) fn conclude_parametrised<B: Settles>(
+pub(crate) fn conclude_parametrised<B: CertifyingStore>(
     alloc: Global,
     objs: &mut Sobs<B>,
     machine: &mut Machine,
@@ -128,7 +128,7 @@ pub(crate) fn conclude_parametrised<B: Settles>(
 }
 
 /// The same where the environment stands for that input.
-fn conclude_at<B: Settles>(
+fn conclude_at<B: CertifyingStore>(
     alloc: Global,
     objs: &mut Sobs<B>,
     machine: &mut Machine,
@@ -172,7 +172,7 @@ fn conclude_at<B: Settles>(
 }
 
 /// Decides whether some assignment makes the conclusion NIL on its input.
-fn refute_at<B: Settles>(
+fn refute_at<B: CertifyingStore>(
     alloc: Global,
     objs: &mut Sobs<B>,
     world: &World,

@@ -20,7 +20,7 @@ use lisp_eval::Machine;
 use shape_spec::{Part, Thm};
 use std::alloc::Global;
 use sym_objects::Sobs;
-use sym_prims::lent::{complement, conjunction, constant_edge};
+use sym_prims::store_calls::{complement, conjunction, constant_edge};
 
 /// Runs the hypothesis on the theorem's symbolic input, in a store that has no variable yet. The input, and the edge that
 /// tells under each assignment whether its input meets the hypothesis; or the decision that a fault is.

@@ -8,7 +8,7 @@ ghost use Rattle.sym_prims.specs.Frames.{JoiningLive, both, joined};
 
 use super::fault::SymFault;
 use super::frames::Joining;
-use super::lent::{conjunction, is_always};
+use super::store_calls::{conjunction, is_always};
 use bfr_store::{Bits, Edge, Full};
 use std::alloc::Global;
 use sym_objects::{Sob, SobFault, Sobs};

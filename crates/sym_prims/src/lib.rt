@@ -20,7 +20,6 @@ mod constants;
 pub mod fault;
 mod frames;
 mod kinds;
-pub mod lent;
 mod memo;
 mod nodes;
 mod numbers;
@@ -29,6 +28,7 @@ mod parts;
 mod predicates;
 mod simple;
 mod stack;
+pub mod store_calls;
 mod tests_of_integers;
 
 pub use applying::apply;

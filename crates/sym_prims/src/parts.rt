@@ -9,7 +9,7 @@ ghost use Rattle.sym_prims.specs.Seeing.{IsSimpleIn};
 use super::answers::lift;
 use super::fault::SymFault;
 use super::kinds::cons_of;
-use super::lent::constant_edge;
+use super::store_calls::constant_edge;
 use bfr_store::Bits;
 use sym_objects::{Sob, Sobs};
 

@@ -14,9 +14,9 @@ ghost use Rattle.sym_prims.specs.Results.{IsByteTest, IsNumberTest, holds, is_pr
 ghost use Rattle.sym_prims.specs.Seeing.{IsOfParts, IsSimple, IsSimpleIn, takes_two, is_kind_test};
 
 use super::kinds::{is_integer_node, is_of_kind, pairing_of, truth_of};
-use super::lent::{complement, constant_edge, difference};
 use super::nodes::Pairing;
 use super::numbers::integer_bits;
+use super::store_calls::{complement, constant_edge, difference};
 use super::tests_of_integers::test;
 use bfr_store::{Bits, Edge, Full};
 use gl_logic::Prim;

@@ -7,9 +7,9 @@ ghost use Rattle.int_prims.specs.Integers.{is_test};
 ghost use Rattle.sym_bits.specs.Integers.{AllLive, integer_under};
 ghost use Rattle.sym_prims.specs.Results.{test_result};
 
-use bfr_store::{Bits, Bitvec, Edge, Full};
+use bfr_store::{Bits, Bitvec, Edge, Full, both};
 use gl_logic::Prim;
-use sym_bits::{bit, bit_at, both, int_length, less};
+use sym_bits::{bit, bit_at, int_length, less};
 
 /// Whether an integer lies within so many bits, without a sign: it is not negative, and the width is not less than its
 /// length.

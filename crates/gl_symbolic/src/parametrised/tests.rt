@@ -3,7 +3,7 @@
 
 use super::parameters;
 use bdd_store::Bdd;
-use bfr_store::{Bits, Edge, exclusive_or};
+use bfr_store::{Bits, Edge};
 use std::alloc::Global;
 use std::process::Abort;
 use sym_objects::Sobs;
@@ -23,7 +23,7 @@ fn variable(rt: &impl Abort, store: &mut Bdd, k: u32) -> Edge {
 /// That this function holds, and that these two are equal.
 fn and_equal(rt: &impl Abort, store: &mut Bdd, hyp: Edge, x: Edge, y: Edge) -> Edge {
     assert!(rt; store.is_live(x) && store.is_live(y));
-    let differ = exclusive_or(store, x, y).expect(rt, "no room for an exclusive or");
+    let differ = bfr_store::differ(store, x, y).expect(rt, "no room for an exclusive or");
     assert!(rt; store.is_live(hyp) && store.is_live(differ));
     let equal = store.not(differ);
     assert!(rt; store.is_live(hyp) && store.is_live(equal));

@@ -19,7 +19,7 @@ use shape_spec::Thm;
 use std::alloc::Global;
 use sym_objects::{SobFault, Sobs};
 use sym_prims::SymFault;
-use sym_prims::lent::{complement, conjunction, constant_edge, reaches};
+use sym_prims::store_calls::{complement, conjunction, constant_edge, reaches};
 
 /// The edge that tells, under each assignment of the path, whether the term's value is other than NIL.
 fn condition<B: Bits>(

@@ -31,8 +31,8 @@ returns-in-Ok-place_input-clause-rests c =
     let after = c.tried_on-trial.new.machine in
     let still = c.tried_on-trial.ensures.rests in
     let grown = grown_at old.arena.objects mid.arena.objects after.arena.objects (grown_by_input c.in-Ok.input old.arena.objects mid.arena.objects c.in-Ok-place_input.ensures.ok.adds) still.arena in
-    rests w old after c.back.new.self c.mark-mark.result.count c.mark-mark.ensures.count grown c.back.ensures.objects (keeps_then old mid after c.place_input.ensures.settings still.settings) c.back.ensures.settings c.requires.ready.fits
-    (λ p. c.back.ensures.fits w still.fits p)
+    rests w old after c.back.new.self c.mark-mark.result.count c.mark-mark.ensures.count grown c.back.ensures.objects (keeps_then old mid after c.place_input.ensures.settings still.settings) c.back.ensures.settings
+    (c.back.ensures.fits w still.fits)
 
 pub returns-clause-trial : goal.returns-clause-trial
 returns-clause-trial c =
@@ -48,5 +48,5 @@ returns-clause-rests c =
     let w = c.args.world.now in
     let old = c.args.machine.now in
     let mid = c.place_input.new.machine in
-    rests w old mid c.back-in-Err.new.self c.mark-mark.result.count c.mark-mark.ensures.count (grown_by_input c.in-Ok.input old.arena.objects mid.arena.objects c.in-Err.ensures.err.adds) c.back-in-Err.ensures.objects c.place_input.ensures.settings c.back-in-Err.ensures.settings c.requires.ready.fits
-    (λ p. c.back-in-Err.ensures.fits w (c.place_input.ensures.fits w c.requires.ready.fits) p)
+    rests w old mid c.back-in-Err.new.self c.mark-mark.result.count c.mark-mark.ensures.count (grown_by_input c.in-Ok.input old.arena.objects mid.arena.objects c.in-Err.ensures.err.adds) c.back-in-Err.ensures.objects c.place_input.ensures.settings c.back-in-Err.ensures.settings
+    (c.back-in-Err.ensures.fits w (c.place_input.ensures.fits w c.requires.ready.fits))

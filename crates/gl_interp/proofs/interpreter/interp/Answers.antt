@@ -15,8 +15,8 @@ loop-turn-init g c =
     let first = c.in_ok-first.ensures in
     let way = c.in_ok-way.ensures in
     let task : Task = record { world = c.args.world.now; machine = c.args.machine.now; clock = c.args.clock; term = term_of c.args.term.now; env = c.args.env.now; path = c.args.path } in
-    subst (λ fs. Running g.B.Meaning c.args.objs.now task c.way_of.new.objs c.args.machine.now c.bind_pairs.new.self c.in_ok-way.way fs (focus.Visit c.args.term c.in_ok-first.first c.args.clock)) (sym c.new-frames.ensures)
-    (running_begin g.B.Meaning c.args.objs.now task c.args.objs.now c.way_of.new.objs c.new-envs.result c.bind_pairs.new.self c.in_ok-way.way c.in_ok-first.first c.args.term refl way.leaves c.count-total.ensures.total c.requires.term c.requires.path c.requires.env
+    subst (λ fs. Running g.B.Meaning c.args.objs.now task c.path_of.new.objs c.args.machine.now c.bind_pairs.new.self c.in_ok-way.way fs (focus.Visit c.args.term c.in_ok-first.first c.args.clock)) (sym c.new-frames.ensures)
+    (running_begin g.B.Meaning c.args.objs.now task c.args.objs.now c.path_of.new.objs c.new-envs.result c.bind_pairs.new.self c.in_ok-way.way c.in_ok-first.first c.args.term refl way.leaves c.count-total.ensures.total c.requires.term c.requires.path c.requires.env
     c.new-envs.ensures first.live first.bound first.below way.edge way.way refl)
 
 pub returns-in-None-clause-interprets : goal.returns-in-None-clause-interprets

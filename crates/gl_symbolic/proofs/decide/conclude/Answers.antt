@@ -22,4 +22,4 @@ returns-in-Err-reach-clause-run_out g c =
     subst (λ d. HasRunOut g.B.Meaning c.reach.new.objs d) (sym c.given_up.ensures.by) (given_up_out g.B.Meaning c.reach.new.objs c.in-Ok.edge c.in-Err-reach.fault (c.in-Err-reach.ensures.cause c.in-Ok.edge))
 
 pub returns-in-Err-clause-shown : goal.returns-in-Err-clause-shown
-returns-in-Err-clause-shown g c = undecided_shown (g.B.Settles.shown c.refutation.new.objs.store) c.in-Err.decision c.in-Err.ensures.undecided
+returns-in-Err-clause-shown g c = undecided_shown (g.B.CertifyingStore.shown c.refutation.new.objs.store) c.in-Err.decision c.in-Err.ensures.undecided

@@ -34,7 +34,7 @@ returns-clause-run_out g c =
     subst (λ d. HasRunOut g.B.Meaning c.reach.new.objs d) (sym c.given_up.ensures.by) (given_up_out g.B.Meaning c.reach.new.objs c.in-Ok.hyp c.in-Err-reach.fault (c.in-Err-reach.ensures.cause c.in-Ok.hyp))
 
 pub returns-in-Err-clause-shown : goal.returns-in-Err-clause-shown
-returns-in-Err-clause-shown g c = undecided_shown (g.B.Settles.shown c.hypothesis.new.objs.store) c.in-Err.decision c.in-Err.ensures.undecided
+returns-in-Err-clause-shown g c = undecided_shown (g.B.CertifyingStore.shown c.hypothesis.new.objs.store) c.in-Err.decision c.in-Err.ensures.undecided
 
 pub conclude_narrowed-requires-clause-ready : goal.conclude_narrowed-requires-clause-ready
 conclude_narrowed-requires-clause-ready g c = ready_later c.args.world.now c.args.thm.now c.args.machine.now c.hypothesis.new.machine c.hypothesis.ensures.rests c.requires.ready

@@ -1,5 +1,0 @@
-use Rattle.gl_interp.proofs.Copies.{IsCopied}
-use Rattle.gl_interp.proofs.lent.copied.Given as goal
-
-abbrev pub invariant-loop-k : goal.invariant-loop-k
-invariant-loop-k l = IsCopied l.a l.copy l.width l.k

@@ -1,0 +1,183 @@
+//! The turns that hand an object on.
+
+ghost use Rattle.std.specs.Prelude.{◌≡◌, ◌∷◌, ℕ, Bool, true, List, length, IfOk, IfErr};
+ghost use Rattle.gl_logic.specs.Assignments.{value_at};
+ghost use Rattle.gl_logic.specs.Definition.{Definition};
+ghost use Rattle.sym_objects.specs.Seen.{IsWhole};
+ghost use Rattle.sym_prims.specs.Applying.{Leaves};
+ghost use Rattle.gl_interp.specs.Branches.{IsPartOf, IsSplit};
+ghost use Rattle.gl_interp.specs.Running.{AreTerms, IsWay, Ready, Turn};
+ghost use Rattle.gl_interp.specs.TurnFaults.{HasPlainCause};
+
+use super::envs::{EnvId, Envs};
+use super::fault::GlFault;
+use super::frame::{Focus, Frame, Path, Work};
+use super::stack::Stack;
+use super::store_calls::{copy_of, narrow, value};
+use bfr_store::{Bits, Edge};
+use gl_logic::{NoMemory, Term};
+use std::alloc::Global;
+use sym_objects::{Sob, Sobs};
+use sym_prims::store_calls::{complement, conjunction, is_always};
+
+/// Goes to the next argument, or to the work where all are there.
+pub(crate) fn next<'a, B: Bits>(
+    objs: &Sobs<B>,
+    envs: &Envs,
+    start: Edge,
+    path: &Path,
+    work: Work<'a>,
+    done: Vec<Sob>,
+    terms: &'a [Term],
+    env: EnvId,
+    clock: u32,
+    frames: &mut Stack<Frame<'a>>,
+) -> Result<Focus<'a>, NoMemory>
+    requires ready { Ready B.Meaning objs.now envs.now start path.now frames.old (Focus.Next work done terms env clock) }
+    ensures turn { IfOk result (λ f. (ds : List Definition) → Turn B.Meaning ds start objs.now envs.now frames.old (Focus.Next work.entry done terms.entry env clock) objs.now envs.now path.now frames.new f) }
+    ensures terms { IfOk result (λ f. (ds : List Definition) → AreTerms ds frames.old (Focus.Next work.entry done terms.entry env clock) → AreTerms ds frames.new f) }
+{
+    if done.len() < terms.len() {
+        let term = &terms[done.len()];
+        frames.push(Frame::Arguments(work, done, terms, env, clock))?;
+        Ok(Focus::Visit(term, env, clock))
+    } else {
+        Ok(Focus::Run(work, done, env, clock))
+    }
+}
+
+/// Hands an object to the frame on top.
+pub(crate) fn give<'a, B: Bits>(
+    alloc: Global,
+    objs: &mut Sobs<B>,
+    envs: &Envs,
+    start: Edge,
+    path: &mut Path,
+    object: Sob,
+    frame: Frame<'a>,
+    frames: &mut Stack<Frame<'a>>,
+) -> Result<Focus<'a>, GlFault>
+    requires ready { Ready B.Meaning objs.old envs.now start path.old (frame ∷ frames.old) (Focus.Give object) }
+    ensures leaves { Leaves B.Meaning objs.old objs.new }
+    ensures turn { IfOk result (λ f. (ds : List Definition) → Turn B.Meaning ds start objs.old envs.now (frame.entry ∷ frames.old) (Focus.Give object) objs.new envs.now path.new frames.new f) }
+    ensures terms { IfOk result (λ f. (ds : List Definition) → AreTerms ds (frame.entry ∷ frames.old) (Focus.Give object) → AreTerms ds frames.new f) }
+    ensures cause { IfErr result (HasPlainCause B.Meaning objs.new) }
+{
+    match frame {
+        Frame::Test(a, b, env, clock) => branch(
+            alloc, objs, envs, start, path, object, a, b, env, clock, frames,
+        ),
+        Frame::Other(test, b, env, clock, saved, rest) => {
+            frames.push(Frame::Join(test, object, saved))?;
+            *path = rest;
+            Ok(Focus::Visit(b, env, clock))
+        }
+        Frame::Join(test, first, saved) => {
+            path.edge = saved;
+            Ok(Focus::Give(objs.merge(alloc, test, first, object)?))
+        }
+        Frame::Arguments(work, mut done, terms, env, clock) => {
+            done.push(object)?;
+            Ok(Focus::Next(work, done, terms, env, clock))
+        }
+    }
+}
+
+/// Goes into the branches that an assignment of the path reaches.
+fn branch<'a, B: Bits>(
+    alloc: Global,
+    objs: &mut Sobs<B>,
+    envs: &Envs,
+    start: Edge,
+    path: &mut Path,
+    object: Sob,
+    a: &'a Term,
+    b: &'a Term,
+    env: EnvId,
+    clock: u32,
+    frames: &mut Stack<Frame<'a>>,
+) -> Result<Focus<'a>, GlFault>
+    requires ready { Ready B.Meaning objs.old envs.now start path.old (Frame.Test a b env clock ∷ frames.old) (Focus.Give object) }
+    ensures leaves { Leaves B.Meaning objs.old objs.new }
+    ensures turn { IfOk result (λ f. (ds : List Definition) → Turn B.Meaning ds start objs.old envs.now (Frame.Test a.entry b.entry env clock ∷ frames.old) (Focus.Give object) objs.new envs.now path.new frames.new f) }
+    ensures terms { IfOk result (λ f. (ds : List Definition) → AreTerms ds (Frame.Test a.entry b.entry env clock ∷ frames.old) (Focus.Give object) → AreTerms ds frames.new f) }
+    ensures cause { IfErr result (HasPlainCause B.Meaning objs.new) }
+{
+    let test = objs.truth(alloc, object)?;
+    match split(alloc, objs, path, test)? {
+        Branches::First => Ok(Focus::Visit(a, env, clock)),
+        Branches::Second => Ok(Focus::Visit(b, env, clock)),
+        Branches::Both(first, second) => {
+            frames.push(Frame::Other(test, b, env, clock, path.edge, second))?;
+            *path = first;
+            Ok(Focus::Visit(a, env, clock))
+        }
+    }
+}
+
+/// Which branches some assignment of a path reaches, each with its path where both are reached.
+#[derive(Drop)]
+pub enum Branches {
+    First,
+    Second,
+    Both(Path, Path),
+}
+
+/// The branches of a test. The one that the path's own assignment takes is reached. No decision is taken where the test's
+/// edge is constant.
+fn split<B: Bits>(
+    alloc: Global,
+    objs: &mut Sobs<B>,
+    path: &Path,
+    test: Edge,
+) -> Result<Branches, GlFault>
+    requires whole { IsWhole B.Meaning objs.old }
+    requires path { B.live objs.old.store path.now.edge }
+    requires test { B.live objs.old.store test }
+    requires way { IsWay (B.truth_of objs.old.store) (B.width_of objs.old.store) path.now }
+    ensures leaves { Leaves B.Meaning objs.old objs.new }
+    ensures split { IfOk result (IsSplit B.Meaning objs.old objs.new path.now.edge test) }
+    ensures cause { IfErr result (HasPlainCause B.Meaning objs.new) }
+{
+    if is_always(objs, test, true) {
+        return Ok(Branches::First);
+    }
+    if is_always(objs, test, false) {
+        return Ok(Branches::Second);
+    }
+    let opposite = complement(objs, test);
+    if value(objs, test, &path.found) {
+        match narrow(alloc, objs, path.edge, opposite)? {
+            None => Ok(Branches::First),
+            Some(second) => Ok(Branches::Both(part(alloc, objs, path, test)?, second)),
+        }
+    } else {
+        match narrow(alloc, objs, path.edge, test)? {
+            None => Ok(Branches::Second),
+            Some(first) => Ok(Branches::Both(first, part(alloc, objs, path, opposite)?)),
+        }
+    }
+}
+
+/// The path's part where an edge is true that its own assignment makes true.
+fn part<B: Bits>(
+    alloc: Global,
+    objs: &mut Sobs<B>,
+    path: &Path,
+    edge: Edge,
+) -> Result<Path, GlFault>
+    requires whole { IsWhole B.Meaning objs.old }
+    requires path { B.live objs.old.store path.now.edge }
+    requires edge { B.live objs.old.store edge }
+    requires way { IsWay (B.truth_of objs.old.store) (B.width_of objs.old.store) path.now }
+    requires here { B.truth_of objs.old.store edge (value_at path.now.found) ≡ true }
+    ensures leaves { Leaves B.Meaning objs.old objs.new }
+    ensures part { IfOk result (IsPartOf B.Meaning objs.old objs.new path.now.edge (B.truth_of objs.old.store edge)) }
+    ensures cause { IfErr result (HasPlainCause B.Meaning objs.new) }
+{
+    let both = conjunction(objs, path.edge, edge)?;
+    Ok(Path {
+        edge: both,
+        found: copy_of(alloc, objs, &path.found)?,
+    })
+}
