@@ -9,7 +9,9 @@ pub mod Closing
 pub mod Stalled
 pub mod Onward
 pub mod Ends
+pub mod OneState
 pub mod Completeness
+pub mod OneText
 pub mod Shares
 pub mod PartsDecided
 pub mod Looks

@@ -1,13 +1,12 @@
 -- What a machine's answers and refusals tell of a term without variables.
 use Rattle.std.proofs.Common.{◌≡◌, refl, sym, subst, ℕ, List, [], Result, Err, inr}
-use Rattle.std.specs.List.{Contains, flat_map}
+use Rattle.std.specs.List.{Contains}
 use Rattle.std.proofs.lemmas.List.Elements.{All-contains}
 use Rattle.gl_logic.specs.Object.{Object}
 use Rattle.gl_logic.specs.Exp.{Exp}
 use Rattle.gl_logic.specs.IsTermOf.{IsTermOf}
 use Rattle.gl_logic.specs.IsTotal.{IsTotal}
-use Rattle.gl_logic.specs.Parts.{cells_in}
-use Rattle.gl_logic.specs.CellCounts.{world_constants}
+use Rattle.gl_logic.specs.CellCounts.{constant_cells}
 use Rattle.gl_logic.specs.WorldSeen.{WorldSeen}
 use Rattle.hons_arena.specs.declared.id.Id.{Id}
 use Rattle.lisp_eval.specs.Answers.{IsLicensed}
@@ -42,7 +41,7 @@ module _ (bounds : Bounds) (w : WorldSeen) (memoized : List ℕ) (t : Exp) where
     no_size = λ p. absurd cc;
   }
   not_evaluated m b fault.Cells r e l = record {
-    has = subst (λ (n : ℕ). IsOutOfCells w n [] t) b.limit (from_crowd w [] t m.arena.objects m.arena.limit (λ y c. inr (All-contains (Contains (flat_map cells_in (world_constants w))) m.arena.objects y b.cells c)) (l.cells_more (rw e refl)));
+    has = subst (λ (n : ℕ). IsOutOfCells w n [] t) b.limit (from_crowd w [] t m.arena.objects m.arena.limit (λ y c. inr (All-contains (Contains (constant_cells w)) m.arena.objects y b.cells c)) (l.cells_more (rw e refl)));
     no_size = λ p. absurd cc;
   }
   not_evaluated m b fault.Memory r e l = record { has = tt; no_size = λ p. absurd cc }

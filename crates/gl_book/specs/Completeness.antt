@@ -1,5 +1,5 @@
 -- What is decided before a book is run: where it is refused, and which terms get their values.
-use Rattle.std.specs.Prelude.{◌≡◌, ◌⊎◌, ℕ, List, [], ◌∷◌, Option, Some, None}
+use Rattle.std.specs.Prelude.{◌≡◌, ℕ, suc, ◌<◌, List, [], ◌∷◌, Option, Some, None}
 use Rattle.gl_logic.specs.Exp.{Exp}
 use Rattle.gl_logic.specs.WorldSeen.{WorldSeen}
 use Rattle.gl_decide.specs.Bounds.{Bounds}
@@ -29,9 +29,20 @@ abbrev pub IsOfConstant : Option Refusal → Type 0
 IsOfConstant (Some refusal) = IsConstantCode refusal.code
 IsOfConstant None = ⊥
 
--- they are the same place and code, or none, but for a constant without a value
-abbrev pub AgreeBut : Option Refusal → Option Refusal → Type 0
-AgreeBut r s = (r ≡ s) ⊎ (IsOfConstant r ⊎ IsOfConstant s)
+-- how many forms and marks come before the refusal, or before the end
+abbrev pub accepted : List Entry → ℕ
+accepted [] = 0
+accepted (Answered event answer ∷ entries) = suc (accepted entries)
+accepted (Marked mark ∷ entries) = suc (accepted entries)
+accepted (Refused refusal ∷ entries) = 0
+
+-- what comes of one book twice, each time by limits of its own, is refused alike up to the first constant without a value
+pub record AreRefusedAlike (xs ys : List Entry) : Type 0 where
+  -- where neither ends with a constant without a value, both are refused at one place with one code, or neither is
+  pub same : ¬ IsOfConstant (refusal_in xs) → ¬ IsOfConstant (refusal_in ys) → refusal_in xs ≡ refusal_in ys
+  -- where one alone does, the other accepts that form and all before it
+  pub left : IsOfConstant (refusal_in xs) → ¬ IsOfConstant (refusal_in ys) → accepted xs < accepted ys
+  pub right : IsOfConstant (refusal_in ys) → ¬ IsOfConstant (refusal_in xs) → accepted ys < accepted xs
 
 -- ---- values
 -- a term without variables stays within 128 bits, the steps and the cells

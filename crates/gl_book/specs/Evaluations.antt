@@ -1,8 +1,6 @@
 -- Machines that have begun for one evaluation.
 use Rattle.std.specs.Prelude.{◌≡◌, ℕ, List, All, Contains}
-use Rattle.std.specs.List.{flat_map}
-use Rattle.gl_logic.specs.CellCounts.{world_constants}
-use Rattle.gl_logic.specs.Parts.{cells_in}
+use Rattle.gl_logic.specs.CellCounts.{constant_cells}
 use Rattle.gl_logic.specs.WorldSeen.{WorldSeen}
 use Rattle.lisp_eval.specs.Machines.{MachineSeen, Fits}
 use Rattle.lisp_eval.specs.declared.fault.EvalFault.{EvalFault}
@@ -15,7 +13,7 @@ use Rattle.gl_book.specs.declared.answer.Cause.TheVariants as cause
 pub record BeginsFor (w : WorldSeen) (memoized : List ℕ) (bounds : Bounds) (m : MachineSeen) : Type 0 where
   pub fits : Fits w m
   pub functions : m.functions ≡ memoized
-  pub cells : All (λ y. Contains (flat_map cells_in (world_constants w)) y) m.arena.objects
+  pub cells : All (Contains (constant_cells w)) m.arena.objects
   pub limit : m.arena.limit ≡ bounds.cells
   pub steps : m.steps ≡ bounds.steps
 

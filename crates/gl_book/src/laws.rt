@@ -14,18 +14,23 @@ ghost use Rattle.event_world.specs.NextState.{BookState};
 ghost use Rattle.gl_decide.specs.Bounds.{Bounds};
 ghost use Rattle.gl_decide.specs.Stalls.{StallSeen};
 ghost use Rattle.gl_book.specs.Answers.{IsProperTruth, IsProperValue, IsTooLarge};
-ghost use Rattle.gl_book.specs.Completeness.{AgreeBut, IsFound, StaysWithin, refusal_in};
+ghost use Rattle.gl_book.specs.Completeness.{AreRefusedAlike, IsFound, StaysWithin};
 ghost use Rattle.gl_book.specs.Entry.{Entry};
-ghost use Rattle.gl_book.specs.Transcript.{IsTranscript, IsBookTranscript};
+ghost use Rattle.gl_book.specs.Transcript.{ComesOf, ComesOfBook, IsTranscript, IsBookTranscript};
 ghost use Rattle.book_state.specs.Reading.{IsReadBy};
 ghost use Rattle.gl_book.specs.Walk.{Walk};
 ghost use Rattle.gl_book.specs.declared.answer.Answer.{Answer as AnswerSeen};
 
-/// Whether a book is refused, at which place and with which code, is decided by its list and the events before it: two
-/// walks over the same list agree, but for a constant without a value.
+/// Whether a book is refused, at which place and with which code, is decided by its texts up to the first constant without a
+/// value, whatever the limits: what comes of one text, of one book of a shelf, or of one list from one state on, by one table of
+/// texts and by the limits of two runs, is refused alike up to there.
 pub fn one_refusal()
-    ensures { (names : List (List ℕ)) (bounds : Bounds) (state : BookState) (items : List ItemSeen) (end : FinishSeen) (xs ys : List Entry)
-        → Walk names bounds state items end xs → Walk names bounds state items end ys → AgreeBut (refusal_in xs) (refusal_in ys) }
+    ensures text { (names : List (List ℕ)) (bounds limits : Bounds) (bytes : List ℕ) (xs ys : List Entry)
+        → ComesOf names bounds bytes xs → ComesOf names limits bytes ys → AreRefusedAlike xs ys }
+    ensures book { (names : List (List ℕ)) (bounds limits : Bounds) (shelf : List ℕ → List ℕ) (name : List ℕ) (xs ys : List Entry)
+        → ComesOfBook names bounds shelf name xs → ComesOfBook names limits shelf name ys → AreRefusedAlike xs ys }
+    ensures walk { (names : List (List ℕ)) (bounds limits : Bounds) (state : BookState) (items : List ItemSeen) (end : FinishSeen) (xs ys : List Entry)
+        → Walk names bounds state items end xs → Walk names limits state items end ys → AreRefusedAlike xs ys }
 {}
 
 /// A transcript of a book whose text includes no other is one of the text, whatever else the shelf has.

@@ -1,5 +1,12 @@
-use Rattle.gl_book.proofs.Completeness.{one_refusal}
+use Rattle.gl_book.proofs.Completeness.{walks_alike}
+use Rattle.gl_book.proofs.OneText.{texts_alike, books_alike}
 use Rattle.gl_book.proofs.laws.one_refusal.Goals as goal
 
-pub returns : goal.returns
-returns c = λ names bounds state items end xs ys p q. one_refusal names bounds end state items xs ys p q
+pub returns-clause-text : goal.returns-clause-text
+returns-clause-text c = λ names bounds limits bytes xs ys p q. texts_alike names bounds limits bytes xs ys p q
+
+pub returns-clause-book : goal.returns-clause-book
+returns-clause-book c = λ names bounds limits shelf name xs ys p q. books_alike names bounds limits shelf name xs ys p q
+
+pub returns-clause-walk : goal.returns-clause-walk
+returns-clause-walk c = λ names bounds limits state items end xs ys p q. walks_alike names bounds limits end state items xs ys p q
