@@ -1,8 +1,7 @@
 -- What a value of the program asks for.
 use Rattle.std.specs.Prelude.{◌≤◌}
 use Rattle.gl_decide.specs.Bounds.{bounds_of}
-use Rattle.gl_base.specs.declared.limits.Limits.{Limits}
-use Rattle.gl.specs.Words.{Source, Book, Generated, Settings, Command, Order, Transcript, Proof, Judge}
+use Rattle.gl.specs.Words.{Source, Book, Generated, Command, Order, Transcript, Proof, Judge}
 use Rattle.gl.specs.declared.words.Source.{Source as GivenSource}
 use Rattle.gl.specs.declared.words.Source.TheVariants as given
 use Rattle.gl.specs.declared.words.Command.{Command as GivenCommand}
@@ -12,9 +11,6 @@ use Rattle.gl.specs.declared.orders.Order.TheVariants as asked
 abbrev pub source_seen : GivenSource → Source
 source_seen (given.Book name) = Book name.now
 source_seen (given.Generated n) = Generated n
-
-abbrev pub settings_seen : Limits → Settings
-settings_seen limits = record { workers = limits.workers; bounds = bounds_of limits }
 
 abbrev pub command_seen : GivenCommand → Command
 command_seen command = record { workers = command.limits.workers; bounds = bounds_of command.limits; source = source_seen command.source }

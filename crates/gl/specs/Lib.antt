@@ -1,4 +1,3 @@
-pub mod Adapters
 pub mod Usage
 pub mod Words
 pub mod CommandOf

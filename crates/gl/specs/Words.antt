@@ -1,9 +1,8 @@
 -- The words of the command line, and the command that they make.
-use Rattle.std.specs.Prelude.{ℕ, nat_lt, nat_le, ◌&&◌, if◌then◌else◌, Bool, true, false, bytes_eq, drop, List, [], ◌∷◌, length, codes, Option, Some, None, option_map, option_and_then}
-use Rattle.std.specs.List.{list_all}
-use Rattle.std.specs.Str.Parse.{digits_value}
+use Rattle.std.specs.Prelude.{ℕ, if◌then◌else◌, Bool, true, false, bytes_eq, drop, List, [], ◌∷◌, codes, Option, Some, None, option_map, option_and_then}
 use Rattle.clap.specs.Words.{App, Rule, Row, Text, new_app, new_rule, with_rule, first_of, matches_of, fault_of}
 use Rattle.clap.specs.declared.builder.ArgAction.TheVariants.{Set}
+use Rattle.command_line.specs.Options.{number_within, workers_from, settings_from}
 use Rattle.gl_decide.specs.Bounds.{Bounds}
 use Rattle.gl.specs.declared.proof_part.ProofPart.{ProofPart}
 use Rattle.gl.specs.declared.proof_part.ProofPart.TheVariants.{Cnf, Log}
@@ -28,20 +27,6 @@ plain_lrat_app = with_rule (with_rule (with_rule (new_app (codes "lrat")) (optio
 unfoldable pub lrat_app : App
 lrat_app = record plain_lrat_app { top = record plain_lrat_app.top { no_binary_name = true; disable_help_flag = true; disable_version_flag = true } }
 
--- ---- numbers
--- one to eight decimal digits
-abbrev pub is_number : Text → Bool
-is_number text = nat_lt 0 (length text) && (nat_le (length text) 8 && list_all (λ b. nat_le 48 b && nat_le b 57) text)
-
--- the number of a text of one to eight decimal digits, where it lies in a range
-abbrev pub number_within : ℕ → ℕ → Text → Option ℕ
-number_within least most text = if is_number text && (nat_le least (digits_value 10 text) && nat_le (digits_value 10 text) most) then Some (digits_value 10 text) else None
-
--- the number of an option: its usual one where the option is not there
-abbrev pub option_number : ℕ → ℕ → ℕ → Option Text → Option ℕ
-option_number usual least most None = Some usual
-option_number usual least most (Some text) = number_within least most text
-
 -- ---- commands
 module _ {X : Type 0} where
   abbrev pub is_empty : List X → Bool
@@ -55,40 +40,10 @@ pub data Source : Type 0 where
   -- so many theorems of the generator
   Generated : ℕ → Source
 
--- the number of workers, and the limits on which answers depend
-pub record Settings : Type 0 where
-  pub workers : ℕ
-  pub bounds : Bounds
-
 pub record Command : Type 0 where
   pub workers : ℕ
   pub bounds : Bounds
   pub source : Source
-
--- the options and their ranges
-abbrev pub workers_from : List Row → Option ℕ
-workers_from rows = option_number 1 1 8 (first_of (codes "workers") rows)
-
-abbrev pub steps_from : List Row → Option ℕ
-steps_from rows = option_number 10000000 1 99999999 (first_of (codes "steps") rows)
-
-abbrev pub cells_from : List Row → Option ℕ
-cells_from rows = option_number 1000000 1000 4000000 (first_of (codes "cells") rows)
-
-abbrev pub nodes_from : List Row → Option ℕ
-nodes_from rows = option_number 1000000 100 4000000 (first_of (codes "nodes") rows)
-
-abbrev pub clauses_from : List Row → Option ℕ
-clauses_from rows = option_number 100000 1 1000000 (first_of (codes "clauses") rows)
-
-abbrev pub enum_bits_from : List Row → Option ℕ
-enum_bits_from rows = option_number 12 0 16 (first_of (codes "enum-bits") rows)
-
-abbrev pub settings_from : List Row → Option Settings
-settings_from rows =
-    option_and_then (λ workers. option_and_then (λ steps. option_and_then (λ cells. option_and_then (λ nodes. option_and_then (λ clauses. option_map (λ enum_bits.
-    record { workers = workers; bounds = record { steps = steps; cells = cells; nodes = nodes; clauses = clauses; enum_bits = enum_bits } })
-    (enum_bits_from rows)) (clauses_from rows)) (nodes_from rows)) (cells_from rows)) (steps_from rows)) (workers_from rows)
 
 -- exactly one of a book and a number of theorems is there
 abbrev pub source_from : Option Text → Option Text → Option Source

@@ -3,7 +3,6 @@
 //! `gl lrat [options] CNF LOG`: the judgement on a formula and a log.
 #![tactic(auto)]
 
-mod adapters;
 mod judging;
 mod orders;
 mod proof_part;
@@ -15,7 +14,7 @@ mod tests;
 mod usage;
 mod words;
 
-use adapters::{FileShelf, WriterSink};
+use command_line::{FileShelf, WriterSink, words_of};
 use gl_base::status::Status;
 use gl_decide::Stalls;
 use run::run;
@@ -24,7 +23,6 @@ use std::process::ExitCode;
 use std::rt::{Env, Files};
 use std::thread::Threads;
 use usage::refuse_end;
-use words::words_of;
 
 fn main(rt: HostRuntime) -> ExitCode {
     ExitCode::from(status_of(&rt).code())

@@ -7,10 +7,9 @@ ghost use Rattle.gl.specs.Words.{command_of, is_lrat, judge_from, judge_of, lrat
 ghost use Rattle.gl.specs.CommandOf.{command_seen, order_seen, source_seen, IsFew, IsWithin};
 
 use crate::proof_part::ProofPart;
-use crate::words::{
-    Command, Source, WordsEnd, command_in, matched, matched_by, number_of, text_of, with_option,
-};
+use crate::words::{Command, Source, command_in, matched, matched_by, with_option};
 use clap::{Arg, ArgMatches};
+use command_line::{WordsEnd, number_of, text_of};
 use gl_base::failed::NoMemory;
 use gl_base::limits::Limits;
 use std::alloc::{AllocError, Global};

@@ -4,7 +4,7 @@ ghost use Rattle.std.specs.Prelude.{◌≡◌, ◌≢◌, ◌⊎◌};
 ghost use Rattle.gl_base.specs.Outside.{Rose, Grows, GrowsByFront};
 ghost use Rattle.gl.specs.Usage.{usage_line};
 
-use crate::words::WordsEnd;
+use command_line::WordsEnd;
 use gl_base::sink::{Sink, put_all};
 use gl_base::status::Status;
 

@@ -1,19 +1,15 @@
 //! The words of the command line.
 
-ghost use Rattle.std.specs.Prelude.{◌≡◌, ◌↔◌, ◌≢◌, ◌≤◌, true, map, string_bytes, [], codes, IfOk, IfSome, IsErrOf, option_map, Some, nat_le, ◌&&◌};
-ghost use Rattle.std.specs.List.{list_all};
-ghost use Rattle.std.specs.Str.Parse.{digits_value};
+ghost use Rattle.std.specs.Prelude.{◌≡◌, ◌≢◌, true, map, string_bytes, [], codes, IfOk, IfSome, IsErrOf, option_map};
 ghost use Rattle.clap.specs.Words.{app_of, with_rule, rule_of, fault_of, is_simple, is_simple_and_free, found_of, rows_of, matches_of, first_of};
-ghost use Rattle.gl.specs.Words.{gl_app, plain_app, option_rule, is_number as says_number, settings_from, command_from, source_from, number_within, option_number};
-ghost use Rattle.gl.specs.CommandOf.{command_seen, settings_seen, source_seen, IsFew};
+ghost use Rattle.gl.specs.Words.{gl_app, plain_app, option_rule, command_from, source_from};
+ghost use Rattle.gl.specs.CommandOf.{command_seen, source_seen, IsFew};
 
 use clap::error::ErrorKind as ClapKind;
 use clap::{Arg, ArgAction, ArgMatches};
+use command_line::{WordsEnd, limits_of, number_in, text_of};
 use gl_base::limits::Limits;
 use std::alloc::{AllocError, Global};
-use std::env;
-use std::io::ErrorKind;
-use std::rt::Env;
 
 /// Where the bytes of a book come from.
 #[derive(Clone, Copy, Debug, PartialEq, Eq)]
@@ -29,43 +25,6 @@ pub enum Source<'a> {
 pub struct Command<'a> {
     pub limits: Limits,
     pub source: Source<'a>,
-}
-
-/// Why words give nothing.
-#[derive(Clone, Copy, Debug, PartialEq, Eq)]
-pub enum WordsEnd {
-    /// Memory was not given.
-    Memory,
-    /// A word is no text.
-    NoText,
-    /// The words are no command.
-    Usage,
-}
-
-impl From<AllocError> for WordsEnd {
-    fn from(_error: AllocError) -> WordsEnd
-        ensures { result ≡ WordsEnd.Memory }
-    {
-        WordsEnd::Memory
-    }
-}
-
-/// The words behind the program's name.
-pub fn words_of<R: Env + AllocGlobal>(rt: &R) -> Result<Vec<String>, WordsEnd> {
-    match env::args(rt) {
-        Ok(args) => Ok(args.skip(1).collect(rt.alloc())?),
-        Err(error) => Err(end_of(error.kind())),
-    }
-}
-
-/// Why there are no words, by the kind of the error.
-fn end_of(kind: ErrorKind) -> WordsEnd
-    ensures { (result ≡ WordsEnd.Memory) ↔ (kind ≡ ErrorKind.OutOfMemory) }
-{
-    match kind {
-        ErrorKind::OutOfMemory => WordsEnd::Memory,
-        _ => WordsEnd::NoText,
-    }
 }
 
 pub(crate) fn with_option<'a>(
@@ -153,92 +112,6 @@ pub(crate) fn matched_by<'a>(
             }
         }
     }
-}
-
-/// Whether each byte is a decimal digit.
-fn are_digits(text: &[u8]) -> bool
-    ensures { result ≡ list_all (λ b. nat_le 48 b && nat_le b 57) text.now }
-{
-    text.iter().all(|b| 48 <= *b && *b <= 57)
-}
-
-/// Whether a text is one to eight decimal digits.
-fn is_number(text: &[u8]) -> bool
-    ensures { result ≡ says_number text.now }
-{
-    let some = !text.is_empty();
-    let few = text.len() <= 8;
-    some && (few && are_digits(text))
-}
-
-/// The number of one to eight decimal digits.
-fn number_that(text: &str) -> Option<u32>
-    requires { says_number text.now ≡ true }
-    ensures { result ≡ Some (digits_value 10 text.now) }
-{
-    text.parse::<u32>().ok()
-}
-
-/// The number of a text of one to eight decimal digits, where it lies in a range.
-fn number_in(text: &str, least: u32, most: u32) -> Option<u32>
-    ensures meant { result ≡ number_within least most text.now }
-    ensures range { IfSome result (λ n. (least ≤ n) × (n ≤ most)) }
-{
-    if !is_number(text.as_bytes()) {
-        return None;
-    }
-    let number = number_that(text)?;
-    if least <= number && number <= most {
-        Some(number)
-    } else {
-        None
-    }
-}
-
-/// The text that stands with an option, or in the book's place.
-pub(crate) fn text_of<'a>(matches: &ArgMatches<'a>, id: &str) -> Option<&'a str>
-    ensures { option_map (λ s. s.now) result ≡ first_of id.now (rows_of (found_of matches.now)) }
-{
-    matches.get_str(id)
-}
-
-/// The number of an option: its usual one where the option is not there.
-pub(crate) fn number_of(
-    matches: &ArgMatches,
-    option: &str,
-    usual: u32,
-    least: u32,
-    most: u32,
-) -> Option<u32>
-    requires low { least ≤ usual }
-    requires high { usual ≤ most }
-    ensures meant { result ≡ option_number usual least most (first_of option.now (rows_of (found_of matches.now))) }
-    ensures range { IfSome result (λ n. (least ≤ n) × (n ≤ most)) }
-{
-    match text_of(matches, option) {
-        Some(text) => number_in(text, least, most),
-        None => Some(usual),
-    }
-}
-
-/// The limits of a run, where each option is in its range.
-fn limits_of(matches: &ArgMatches) -> Option<Limits>
-    ensures { option_map settings_seen result ≡ settings_from (rows_of (found_of matches.now)) }
-{
-    let workers = number_of(matches, "workers", 1, 1, 8)?;
-    let steps = number_of(matches, "steps", 10_000_000, 1, 99_999_999)?;
-    let cells = number_of(matches, "cells", 1_000_000, 1000, 4_000_000)?;
-    let nodes = number_of(matches, "nodes", 1_000_000, 100, 4_000_000)?;
-    let clauses = number_of(matches, "clauses", 100_000, 1, 1_000_000)?;
-    let enum_bits = number_of(matches, "enum-bits", 12, 0, 16)?;
-    Some(Limits {
-        steps,
-        cells,
-        nodes,
-        clauses,
-        enum_bits: enum_bits as u8,
-        workers: workers as u8,
-    })
 }
 
 /// Where the book comes from: exactly one of a book and a number of theorems is there.

@@ -1,40 +1,29 @@
 //! `explain [options] BOOK`: a book's transcript with the place of each event, and why a book is refused.
 #![tactic(auto)]
 
-mod adapters;
 mod words;
 
-use adapters::{FileShelf, WriterSink};
 use clap::error::ErrorKind as ClapKind;
 use clap::{ArgMatches, Error};
+use command_line::{FileShelf, WordsEnd, WriterSink, limits_of, words_of};
 use explain_text::explain_book;
 use gl_base::status::Status;
+use std::io;
 use std::process::ExitCode;
 use std::rt::{Env, Files};
 use std::thread::Threads;
-use std::{env, io};
-use words::{command, limits_of};
+use words::command;
 
 fn main(rt: HostRuntime) -> ExitCode {
     ExitCode::from(status_of(&rt).code())
-}
-
-/// The words behind the program's name.
-fn words_of<R: Env + AllocGlobal>(rt: &R) -> Result<Vec<String>, Status> {
-    let Ok(args) = env::args(rt) else {
-        return Err(Status::Usage);
-    };
-    match args.skip(1).collect(rt.alloc()) {
-        Ok(words) => Ok(words),
-        Err(_) => Err(Status::NoMemory),
-    }
 }
 
 /// Runs the command of the process.
 fn status_of<R: Files + Print + Eprint + Env + AllocGlobal + Threads + Sync>(rt: &R) -> Status {
     let words = match words_of(rt) {
         Ok(words) => words,
-        Err(status) => return status,
+        Err(WordsEnd::Memory) => return Status::NoMemory,
+        Err(_) => return Status::Usage,
     };
     let Ok(command) = command(rt.alloc()) else {
         return Status::NoMemory;

@@ -5,8 +5,8 @@ use Rattle.std.specs.Ordering.{int_eq}
 use Rattle.std.specs.List.{list_any, list_all}
 use Rattle.std.proofs.lemmas.List.{map-append}
 use Rattle.std.proofs.lemmas.Option.{slice_get-map}
-use Rattle.cnf_rup.specs.declared.turn.Turn.{Turn}
-use Rattle.cnf_rup.specs.declared.turn.Turn.TheVariants as turn
+use Rattle.cnf_rup.specs.declared.clause_status.ClauseStatus.{ClauseStatus}
+use Rattle.cnf_rup.specs.declared.clause_status.ClauseStatus.TheVariants as turn
 use Rattle.cnf_rup.specs.Shown.{by_turn, clause_at, first_unshown, is_among, is_tautology, left_of, negated, stop, turn_at, turn_of, turn_of_left, turn_of_named}
 
 module _ (ρ : ℤ → ℤ) (same : (x y : ℤ) → int_eq (ρ x) (ρ y) ≡ int_eq x y) (odd : (x : ℤ) → ρ (neg_ℤ x) ≡ neg_ℤ (ρ x)) where
@@ -39,7 +39,7 @@ module _ (ρ : ℤ → ℤ) (same : (x y : ℤ) → int_eq (ρ x) (ρ y) ≡ int
       ∙ ap (λ ys. cond (not (is_among known (neg_ℤ x))) (ρ x ∷ ys) ys) (left_too known xs)
       ∙ kept_by (not (is_among known (neg_ℤ x))) x (left_of known xs)
 
-  abbrev turn_by : Turn → Turn
+  abbrev turn_by : ClauseStatus → ClauseStatus
   turn_by (turn.Unit l) = turn.Unit (ρ l)
   turn_by turn.Conflict = turn.Conflict
   turn_by turn.Neither = turn.Neither
@@ -77,7 +77,7 @@ module _ (ρ : ℤ → ℤ) (same : (x y : ℤ) → int_eq (ρ x) (ρ y) ≡ int
       ∙ ap (λ t. by_turn t (Some place) (λ l. stop (map (map ρ) clauses) (map ρ known ++ l ∷ []) (suc place) hs)) (named_too known (clause_at clauses h))
       ∙ by_same (λ l. stop_too clauses (known ++ l ∷ []) (suc place) hs) (turn_at clauses known h)
     where
-      by_same : ((l : ℤ) → stop (map (map ρ) clauses) (map ρ (known ++ l ∷ [])) (suc place) hs ≡ stop clauses (known ++ l ∷ []) (suc place) hs) → (t : Turn) → by_turn (turn_by t) (Some place) (λ l. stop (map (map ρ) clauses) (map ρ known ++ l ∷ []) (suc place) hs) ≡ by_turn t (Some place) (λ l. stop clauses (known ++ l ∷ []) (suc place) hs)
+      by_same : ((l : ℤ) → stop (map (map ρ) clauses) (map ρ (known ++ l ∷ [])) (suc place) hs ≡ stop clauses (known ++ l ∷ []) (suc place) hs) → (t : ClauseStatus) → by_turn (turn_by t) (Some place) (λ l. stop (map (map ρ) clauses) (map ρ known ++ l ∷ []) (suc place) hs) ≡ by_turn t (Some place) (λ l. stop clauses (known ++ l ∷ []) (suc place) hs)
       by_same m turn.Conflict = refl
       by_same m turn.Neither = refl
       by_same m (turn.Unit l) = ap (λ ks. stop (map (map ρ) clauses) ks (suc place) hs) (sym (map-append ρ known (l ∷ []))) ∙ m l

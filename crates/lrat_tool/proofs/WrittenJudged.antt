@@ -6,8 +6,8 @@ use Rattle.std.proofs.lemmas.Bool.{cases_eq, cases_lt, cond-false, cond-true, eq
 use Rattle.std.proofs.lemmas.List.{append-nil, append_assoc, map-append, length-map}
 use Rattle.std.proofs.lemmas.Option.{slice_get_past}
 use Rattle.cnf_rup.specs.declared.clause.Entry.{Entry}
-use Rattle.cnf_rup.specs.declared.turn.Turn.{Turn}
-use Rattle.cnf_rup.specs.declared.turn.Turn.TheVariants as turn
+use Rattle.cnf_rup.specs.declared.clause_status.ClauseStatus.{ClauseStatus}
+use Rattle.cnf_rup.specs.declared.clause_status.ClauseStatus.TheVariants as turn
 use Rattle.cnf_rup.specs.Books.{IsLogOk, clauses_of, holds_empty, is_empty}
 use Rattle.cnf_rup.specs.Shown.{IsShown, by_turn, clause_at, first_unshown, is_tautology, negated, stop, turn_at, turn_of_named}
 use Rattle.lrat_tool.specs.Logs.{LogEntry}
@@ -21,7 +21,7 @@ SameNamed clauses [] [] = Unit {0}
 SameNamed clauses (g ∷ gs) (h ∷ hs) = (clause_at clauses g ≡ clause_at clauses h) × SameNamed clauses gs hs
 SameNamed clauses _ _ = ⊥
 
-same_turn : (t : Turn) (p : Option ℕ) (m n : ℤ → Option ℕ) → ((l : ℤ) → m l ≡ n l) → by_turn t p m ≡ by_turn t p n
+same_turn : (t : ClauseStatus) (p : Option ℕ) (m n : ℤ → Option ℕ) → ((l : ℤ) → m l ≡ n l) → by_turn t p m ≡ by_turn t p n
 same_turn turn.Conflict p m n h = refl
 same_turn (turn.Unit l) p m n h = h l
 same_turn turn.Neither p m n h = refl

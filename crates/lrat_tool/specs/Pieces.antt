@@ -2,7 +2,7 @@
 use Rattle.std.specs.Prelude.{◌≡◌, ◌≤◌, ◌<◌, ◌^◌, ℕ, length, All, ℤ, Bool, true, false, not, ◌&&◌, List, [], ◌∷◌, ◌++◌, map, take, get_or, slice_index_or, Option, is_none}
 use Rattle.cnf_rup.specs.Marked.{AreWithin}
 use Rattle.cnf_rup.specs.Shown.{first_unshown, stop, turn_at}
-use Rattle.cnf_rup.specs.declared.turn.Turn.{Turn}
+use Rattle.cnf_rup.specs.declared.clause_status.ClauseStatus.{ClauseStatus}
 use Rattle.lrat_tool.specs.Flat.{FlatSeen}
 use Rattle.lrat_tool.specs.Held.{Rises, place_by}
 use Rattle.lrat_tool.specs.declared.log.Log.{Log}
@@ -29,7 +29,7 @@ before s k = s.formula ++ take k s.clauses
 abbrev pub place_at : LogSeen → ℕ → ℕ → ℕ
 place_at s k hint = place_by (length s.formula) (take k s.ids) hint
 
-abbrev pub turn_for : LogSeen → ℕ → List ℤ → ℕ → Turn
+abbrev pub turn_for : LogSeen → ℕ → List ℤ → ℕ → ClauseStatus
 turn_for s k known hint = turn_at (before s k) known (place_at s k hint)
 
 -- where hints stop, the first of which has this place among its entry's

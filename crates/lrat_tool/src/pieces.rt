@@ -11,8 +11,8 @@ use super::log::Log;
 use super::piece::Piece;
 use super::places::place_of;
 use cnf_rup::check::{is_one_true, take_as_false, turn};
+use cnf_rup::clause_status::ClauseStatus;
 use cnf_rup::trail::Trail;
-use cnf_rup::turn::Turn;
 use gl_logic::NoMemory;
 use std::alloc::{AllocError, Global};
 use std::thread::{self, Threads};
@@ -53,15 +53,15 @@ fn place_named(formula: &Clauses, log: &Log, k: usize, hint: u32) -> u32
 }
 
 /// What the clause is that a hint names.
-fn turn_named(trail: &Trail, formula: &Clauses, log: &Log, k: usize, hint: u32) -> Turn
+fn status_named(trail: &Trail, formula: &Clauses, log: &Log, k: usize, hint: u32) -> ClauseStatus
     requires within { k ≤ length log.now.clauses.lists }
     requires checked { AreChecked trail.now.room formula.now log.now }
     ensures turn { result ≡ turn_for (log_seen formula.now log.now) k trail.now.literals hint }
-    ensures unit { (l : ℤ) → result ≡ Turn.Unit l → IsOpenUnit trail.now.room trail.now.literals l }
+    ensures unit { (l : ℤ) → result ≡ ClauseStatus.Unit l → IsOpenUnit trail.now.room trail.now.literals l }
 {
     let place = place_named(formula, log, k, hint);
     match clause_named(formula, &log.clauses, k, place) {
-        None => Turn::Neither,
+        None => ClauseStatus::Neither,
         Some(clause) => turn(trail, clause),
     }
 }
@@ -80,10 +80,10 @@ fn follow(
     ensures room { trail.new.room ≡ trail.old.room }
 {
     for hint in hints {
-        match turn_named(trail, formula, log, k, *hint) {
-            Turn::Conflict => return Ok(true),
-            Turn::Unit(literal) => trail.set(literal)?,
-            Turn::Neither => return Ok(false),
+        match status_named(trail, formula, log, k, *hint) {
+            ClauseStatus::Conflict => return Ok(true),
+            ClauseStatus::Unit(literal) => trail.set(literal)?,
+            ClauseStatus::Neither => return Ok(false),
         }
     }
     Ok(false)

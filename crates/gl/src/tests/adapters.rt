@@ -1,8 +1,8 @@
 //! Files and writers of the system, and faked ones that fail.
 
 use super::rows::words_in;
-use crate::adapters::{FileShelf, WriterSink, read_some};
 use crate::run::run;
+use command_line::{FileShelf, WriterSink, read_some};
 use gl_base::failed::Failed;
 use gl_base::memory_sink::MemorySink;
 use gl_base::shelf::Shelf;
@@ -41,7 +41,7 @@ fn real_file(rt: HostRuntime) -> Result<(), Fail> {
 fn run_folder<R: AllocGlobal + Files + Threads + Sync>(
     rt: &R,
     out: &mut MemorySink,
-) -> Result<(u8, usize), AllocError> {
+) -> Result<(u8, u64), AllocError> {
     let mut shelf = FileShelf::new(rt);
     let words = words_in(rt.alloc(), ".")?;
     let mut stalls = Stalls::new(rt.alloc());

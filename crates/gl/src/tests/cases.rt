@@ -26,7 +26,7 @@ const BOOK: &[u8] =
 ";
 
 /// How many stalls a run by so many workers adds.
-fn stalls_by<R: Abort + Threads + Sync>(rt: &R, alloc: Global, workers: u8) -> usize
+fn stalls_by<R: Abort + Threads + Sync>(rt: &R, alloc: Global, workers: u8) -> u64
     requires one { 1 ≤ workers }
     requires eight { workers ≤ 8 }
 {

@@ -78,8 +78,8 @@ const STALLED: [u64; 2] = [27, 29];
 
 /// How many stalls are put where this call of the sink fails: the last line that was begun has put its stall before it is
 /// written.
-fn stalls_by(sink_call: u64) -> usize {
-    let mut stalls: usize = 0;
+fn stalls_by(sink_call: u64) -> u64 {
+    let mut stalls: u64 = 0;
     for line in &STALLED {
         if *line <= sink_call {
             stalls = stalls.saturating_add(1);

@@ -48,7 +48,7 @@ fn run_with<R: Threads + Sync>(
     workers: u8,
     last_only: bool,
     sink: &mut MemorySink,
-) -> (Status, usize)
+) -> (Status, u64)
     requires one { 1 ≤ workers }
     requires eight { workers ≤ 8 }
 {
@@ -68,7 +68,7 @@ fn writes_the_same<R: Abort + Threads + Sync>(
     rt: &R,
     alloc: Global,
     workers: u8,
-    given: (Status, usize),
+    given: (Status, u64),
     bytes: &[u8],
 )
     requires one { 1 ≤ workers }

@@ -22,7 +22,7 @@ pub struct Given {
     /// The code of its status.
     pub code: u8,
     /// How many stalls it added.
-    pub stalls: usize,
+    pub stalls: u64,
 }
 
 impl Given {
@@ -84,8 +84,8 @@ fn run_into<R: Threads + Sync>(
 }
 
 /// How many lines of a transcript tell of nodes or clauses.
-fn stalls_told(lines: &str) -> usize {
-    let mut count: usize = 0;
+fn stalls_told(lines: &str) -> u64 {
+    let mut count: u64 = 0;
     for word in lines.split_whitespace() {
         if word == "nodes" || word == "clauses" {
             count = count.saturating_add(1);
@@ -98,7 +98,7 @@ fn stalls_told(lines: &str) -> usize {
 pub type Case<'a> = (&'a str, &'a str, Fails);
 
 /// What a run writes, the code of its status, and how many stalls it adds.
-pub type Wanted<'a> = (&'a [u8], u8, usize);
+pub type Wanted<'a> = (&'a [u8], u8, u64);
 
 /// Compares what a run over memory gives. In the book `{9 part}` stands for nine times the part.
 pub fn gives<R: AllocGlobal + Threads + Sync + Abort>(

@@ -34,7 +34,7 @@ fn limits(enum_bits: u8) -> Limits
 
 /// A text, how many indices are scanned, whether the last line alone is written; what is written, the code of the status,
 /// and how many stalls it adds.
-type Row = (&'static str, u8, bool, &'static str, u8, usize);
+type Row = (&'static str, u8, bool, &'static str, u8, u64);
 
 const PROVED: &str = "DONE proved=1 vacuous=0 refuted=0 undecided=0\n";
 

@@ -20,7 +20,7 @@ pub struct FileShelf<'a, R: Files> {
 
 impl<'a, R: Files> Model for FileShelf<'a, R> {
     ghost use Rattle.std.specs.Prelude.{is_some};
-    ghost use Rattle.gl.specs.Adapters.{FilesSeen};
+    ghost use Rattle.command_line.specs.Adapters.{FilesSeen};
 
     ghost Value = { FilesSeen };
 
@@ -78,7 +78,7 @@ impl<'a, R: Files> Shelf for FileShelf<'a, R> {
 }
 
 /// Reads once more where a signal came between. Each other error is a fault.
-pub(crate) fn read_some<F: Read>(file: &mut F, buf: &mut [u8]) -> Result<usize, Failed>
+pub fn read_some<F: Read>(file: &mut F, buf: &mut [u8]) -> Result<usize, Failed>
     ensures { IfOk result (λ n. n ≤ length buf.new) }
 {
     for _ in 0..u64::MAX {
@@ -102,7 +102,7 @@ pub struct WriterSink<W: Write + Drop> {
 }
 
 impl<W: Write + Drop> Model for WriterSink<W> {
-    ghost use Rattle.gl.specs.Adapters.{WriterSeen};
+    ghost use Rattle.command_line.specs.Adapters.{WriterSeen};
 
     ghost Value = { WriterSeen W };
 

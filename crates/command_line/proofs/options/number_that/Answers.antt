@@ -4,7 +4,7 @@ use Rattle.std.specs.Result.{result_ok}
 use Rattle.std.specs.Str.Parse.{digits_value}
 use Rattle.std.proofs.lemmas.Str.Parse.{IsNumeralModel, numerals_by_value, parse_gives, digits_value_short}
 use Rattle.std.proofs.lemmas.Bool.Decides.{nat_tests}
-use Rattle.gl.proofs.words.number_that.Goals as goal
+use Rattle.command_line.proofs.options.number_that.Goals as goal
 
 both : (b d : Bool) → (b && d) ≡ true → (b ≡ true) × (d ≡ true)
 both true true e = (e, e)
