@@ -35,7 +35,7 @@ pub(crate) fn is_never(store: &Bdd, e: Edge) -> bool
     ensures some { result ≡ false → ((a : ℕ → Bool) → truth_of store.now.nodes e a ≡ false) → ⊥ }
 {
     let zero = store.constant(false);
-    store.same(e, zero)
+    e.number == zero.number
 }
 
 /// The place of a vector that parametrises a function, which is not always false.

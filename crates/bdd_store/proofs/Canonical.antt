@@ -5,7 +5,8 @@ use Rattle.std.proofs.lemmas.Bool.Decides.{nat_tests}
 use Rattle.bfr_store.specs.declared.edge.Edge.{Edge}
 use Rattle.bfr_store.specs.Edges.{node_of, is_flipped, xor}
 use Rattle.bdd_store.specs.declared.node.Node.{Node}
-use Rattle.bdd_store.specs.Nodes.{node_at, top_of, truth_of}
+use Rattle.bdd_store.specs.Nodes.{Diagrams, IsLive, node_at, top_of, truth_of}
+use Rattle.bdd_store.specs.Canonical.{IsOnlyEdge}
 use Rattle.bdd_store.specs.Inside.{IsBranch, IsOrdered, IsDistinct}
 use Rattle.bdd_store.proofs.Nodes.{constant-says, edge-says, top-at, top-constant, top-in_width, positive_from_top, values_of}
 use Rattle.bdd_store.proofs.Drawn.{top_le}
@@ -191,3 +192,8 @@ module _ (nodes : List Node) (width : ℕ) (o : IsOrdered nodes width) where
     -- live edges that say the same under every assignment are equal
     pub unique : (e f : Edge) → node_of e < length nodes → node_of f < length nodes → SaysSame e f → e.number ≡ f.number
     unique e f e_live f_live same = unique-below (suc (node_of e + node_of f)) e f (omega arith) e_live f_live same
+
+pub only_edge : (s : Diagrams) (width : ℕ) → IsOrdered s.nodes width → IsDistinct s.nodes → (e : Edge) → IsLive s e → IsOnlyEdge s e
+only_edge s width o d e live = record {
+  only = λ f f_live same. same_edge f e (unique s.nodes width o d f e f_live live same);
+}

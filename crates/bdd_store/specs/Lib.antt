@@ -1,4 +1,5 @@
 pub mod Nodes
+pub mod Canonical
 pub mod Inside
 pub mod Plans
 pub mod Hashes

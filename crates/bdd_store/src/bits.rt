@@ -10,24 +10,13 @@ use bfr_store::{Bits, Decision, Edge, Full, Meaning};
 use gl_logic::{Assignment, NoMemory};
 
 impl Bdd {
-    ghost use Rattle.bdd_store.specs.Nodes.{IsLive, truth_of};
+    ghost use Rattle.bdd_store.specs.Nodes.{IsLive};
 
     /// Whether the edge names a function of this store.
     pub fn is_live(&self, e: Edge) -> bool
         ensures { IsTrue result ↔ IsLive self.now e }
     {
         e.node() < self.len()
-    }
-
-    /// Whether two edges are equal, which they are exactly where their functions are.
-    pub fn same(&self, x: Edge, y: Edge) -> bool
-        requires x { IsLive self.now x }
-        requires y { IsLive self.now y }
-        ensures edges { IsTrue result ↔ (x ≡ y) }
-        ensures functions { IsTrue result ↔ ((a : ℕ → Bool) → truth_of self.now.nodes x a ≡ truth_of self.now.nodes y a) }
-    {
-        let _width = self.width_of();
-        x.number == y.number
     }
 }
 
@@ -54,22 +43,37 @@ impl Meaning for Bdd {
 
 impl Bits for Bdd {
     ghost use Rattle.bdd_store.specs.Inside.{IsDistinct, IsOrdered};
-    ghost use Rattle.bdd_store.specs.Nodes.{IsHeld, IsLive, truth_of};
+    ghost use Rattle.bdd_store.specs.Canonical.{IsOnlyEdge};
+    ghost use Rattle.bdd_store.specs.Nodes.{IsHeld, IsLive, constant_of, truth_of};
 
-    fn constant(&self, b: bool) -> Edge {
+    // As the trait says, and no other live edge says the same.
+    fn constant(&self, b: bool) -> Edge
+        ensures edge { result ≡ constant_of b }
+        ensures live { IsLive self.now result }
+        ensures truth { (a : ℕ → Bool) → truth_of self.now.nodes result a ≡ b }
+        ensures only { IsOnlyEdge self.now result }
+    {
         let _width = self.width_of();
         if b { TRUE } else { FALSE }
     }
 
-    fn not(&self, x: Edge) -> Edge {
+    // As the trait says, and no other live edge says the same.
+    fn not(&self, x: Edge) -> Edge
+        requires { IsLive self.now x }
+        ensures live { IsLive self.now result }
+        ensures truth { (a : ℕ → Bool) → truth_of self.now.nodes result a ≡ not (truth_of self.now.nodes x a) }
+        ensures only { IsOnlyEdge self.now result }
+    {
+        let _width = self.width_of();
         x.complement()
     }
 
-    // As the trait says. A function that is held already is found again in a full store too, and over four variables a
-    // store with this much room is never full.
+    // As the trait says, and no other live edge says the same. A function that is held already is found again in a full
+    // store too, and over four variables a store with this much room is never full.
     fn var(&mut self, k: u32) -> Result<Edge, Full>
         requires { k < 4294967295 }
         ensures makes { MakesVariable ⟦<Bdd as Meaning>⟧ self.old self.new result k }
+        ensures only { IfOk result (IsOnlyEdge self.new) }
         ensures unheld { OnErr result (¬ IsHeld self.new (λ a. a k)) }
         ensures room { self.old.width ≤ 4 → k < 4 → 65600 ≤ self.old.limit → IsOk result }
     {
@@ -91,25 +95,27 @@ impl Bits for Bdd {
         Ok(self.edge_of(number))
     }
 
-    // As the trait says. A function that is held already is found again in a full store too, and over four variables a
-    // store with this much room is never full.
+    // As the trait says, and no other live edge says the same. A function that is held already is found again in a full
+    // store too, and over four variables a store with this much room is never full.
     fn and(&mut self, x: Edge, y: Edge) -> Result<Edge, Full>
         requires x { IsLive self.old x }
         requires y { IsLive self.old y }
         ensures makes { Makes ⟦<Bdd as Meaning>⟧ self.old self.new result (λ a. truth_of self.old.nodes x a && truth_of self.old.nodes y a) }
+        ensures only { IfOk result (IsOnlyEdge self.new) }
         ensures unheld { OnErr result (¬ IsHeld self.new (λ a. truth_of self.old.nodes x a && truth_of self.old.nodes y a)) }
         ensures room { self.old.width ≤ 4 → 65600 ≤ self.old.limit → IsOk result }
     {
         self.both(x, y)
     }
 
-    // As the trait says. A function that is held already is found again in a full store too, and over four variables a
-    // store with this much room is never full.
+    // As the trait says, and no other live edge says the same. A function that is held already is found again in a full
+    // store too, and over four variables a store with this much room is never full.
     fn ite(&mut self, t: Edge, x: Edge, y: Edge) -> Result<Edge, Full>
         requires t { IsLive self.old t }
         requires x { IsLive self.old x }
         requires y { IsLive self.old y }
         ensures makes { Makes ⟦<Bdd as Meaning>⟧ self.old self.new result (λ a. cond (truth_of self.old.nodes t a) (truth_of self.old.nodes x a) (truth_of self.old.nodes y a)) }
+        ensures only { IfOk result (IsOnlyEdge self.new) }
         ensures unheld { OnErr result (¬ IsHeld self.new (λ a. cond (truth_of self.old.nodes t a) (truth_of self.old.nodes x a) (truth_of self.old.nodes y a))) }
         ensures room { self.old.width ≤ 4 → 65600 ≤ self.old.limit → IsOk result }
     {

@@ -2,8 +2,9 @@
 //!
 //! A [`Bdd`] is a store of bit functions: it has the calls of `bfr_store`'s trait `Bits`. Its nodes test the variables in
 //! the order of their numbers, a node's high edge is never complemented and its edges differ, and no two nodes are
-//! equal. So two live edges are equal exactly where they say the same under every assignment ([`Bdd::same`]), and a
-//! decision is a comparison with the constant false and one walk down. It is never given up, and it takes no memory.
+//! equal. So two live edges are equal exactly where they say the same under every assignment: the edge that a call
+//! answers is the only one of its function. A decision is a comparison with the constant false and one walk down. It is
+//! never given up, and it takes no memory.
 //!
 //! Nodes stand in room that is reserved when the store is made, and so do the buckets by which a node is found again, in
 //! chains that lead from newer to older nodes, and a table of finished calls, in which a new entry takes the place of an

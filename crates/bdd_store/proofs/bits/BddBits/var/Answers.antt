@@ -1,11 +1,13 @@
-use Rattle.std.proofs.Common.{◌≡◌, ◌+◌, ◌++◌, ◌∷◌, [], Bool, true, false, cond, refl, sym, ap, ◌∙◌, arith, length, rules}
+use Rattle.std.proofs.Common.{◌≡◌, ◌<◌, ◌+◌, ◌++◌, ◌∷◌, [], Bool, true, false, cond, refl, sym, ap, ◌∙◌, arith, length, rules}
 use Rattle.std.proofs.lemmas.List.{length_push}
+use Rattle.bfr_store.specs.Edges.{node_of}
 use Rattle.bdd_store.specs.declared.node.Node.{Node}
 use Rattle.bdd_store.specs.Nodes.{Diagrams, node_at, truth_of}
-use Rattle.bdd_store.specs.Inside.{IsBranch, IsOrdered}
+use Rattle.bdd_store.specs.Inside.{IsBranch, IsDistinct, IsOrdered}
 use Rattle.bdd_store.proofs.Nodes.{top-constant}
 use Rattle.bdd_store.proofs.Drawn.{variable-says, true-says, false-says}
-use Rattle.bdd_store.proofs.Pushes.{truth-before, node-last, ordered-push, ordered-widen}
+use Rattle.bdd_store.proofs.Pushes.{truth-before, node-last, ordered-push, ordered-widen, distinct-push}
+use Rattle.bdd_store.proofs.Canonical.{only_edge}
 use Rattle.bdd_store.proofs.Room.{few}
 use Rattle.bdd_store.proofs.Held.{unheld_branch, held_as}
 use Rattle.bdd_store.proofs.bits.BddBits.var.Goals as goal
@@ -41,13 +43,22 @@ push-number-requires-clause-branch c = rw c.widen.ensures (branch ((goal.at.push
 nodes_are : (c : After-edge_of-2) → c.push-number.new.self.nodes ≡ c.args.self.now.nodes ++ record { variable = c.args.k; high = record { number = 0 }; low = record { number = 1 } } ∷ []
 nodes_are c = ap (λ (s : Diagrams). s.nodes) c.push-number.ensures.added ∙ ap (λ (s : Diagrams). s.nodes ++ record { variable = c.args.k; high = record { number = 0 }; low = record { number = 1 } } ∷ []) c.widen.ensures
 
+live_after : (c : After-edge_of-2) → node_of c.edge_of-2.result < length c.push-number.new.self.nodes
+live_after c = rw (nodes_are c) (omega (arith, c.edge_of-2.ensures.node, c.push-number.ensures.number, ap (λ (s : Diagrams). length s.nodes) c.widen.ensures, length_push c.args.self.now.nodes (record { variable = c.args.k; high = record { number = 0 }; low = record { number = 1 } })))
+
+ordered_after : (c : After-edge_of-2) → IsBranch c.args.self.now.nodes c.max.result (length c.args.self.now.nodes) (record { variable = c.args.k; high = record { number = 0 }; low = record { number = 1 } }) → IsOrdered c.push-number.new.self.nodes c.max.result
+ordered_after c b =
+    let old = c.args.self.now.nodes in
+    let o = c.width_of-width.ensures.ordered in
+    rw (nodes_are c) (ordered-push old (record { variable = c.args.k; high = record { number = 0 }; low = record { number = 1 } }) c.max.result (ordered-widen old _ c.max.result o (omega (arith, c.max.ensures)) (omega (arith, c.max.ensures, c.requires, o.narrow))) b)
+
 pub returns-clause-makes : goal.returns-clause-makes
 returns-clause-makes c =
     let d = (goal.at.returns-clause-makes c).After-max in
     let old = c.args.self.now.nodes in
     let node : Node = record { variable = c.args.k; high = record { number = 0 }; low = record { number = 1 } } in
     let is = nodes_are c in
-    let o : IsOrdered c.push-number.new.self.nodes c.max.result = rw is (ordered-push old node c.max.result (ordered-widen old _ c.max.result c.width_of-width.ensures.ordered (omega (arith, c.max.ensures)) (omega (arith, c.max.ensures, c.requires, c.width_of-width.ensures.ordered.narrow))) (branch d)) in
+    let o = ordered_after c (branch d) in
     let last : node_at c.push-number.new.self.nodes c.push-number.result ≡ node = rw is (node-last old node c.push-number.result (c.push-number.ensures.number ∙ ap (λ (s : Diagrams). length s.nodes) c.widen.ensures)) in
     record {
       grows = record {
@@ -59,10 +70,21 @@ returns-clause-makes c =
       };
       same_spent = refl;
       width = ap (λ (s : Diagrams). s.width) c.push-number.ensures.added ∙ ap (λ (s : Diagrams). s.width) c.widen.ensures ∙ search rules;
-      live = rw is (omega (arith, c.edge_of-2.ensures.node, c.push-number.ensures.number, ap (λ (s : Diagrams). length s.nodes) c.widen.ensures, length_push old node));
+      live = live_after c;
       truth = λ a. variable-says c.push-number.new.self.nodes _ o c.edge_of-2.result (node_at c.push-number.new.self.nodes c.push-number.result) c.args.k c.edge_of-2.ensures.truth last a;
       full = tt;
     }
+
+pub returns-in-Some-clause-only : goal.returns-in-Some-clause-only
+returns-in-Some-clause-only c =
+    let f = c.width_of-width.ensures in
+    only_edge c.args.self.now _ f.ordered f.distinct c.edge_of.result (omega (arith, c.edge_of.ensures.node, c.in-Some.ensures.found.1))
+
+pub returns-clause-only : goal.returns-clause-only
+returns-clause-only c =
+    let node : Node = record { variable = c.args.k; high = record { number = 0 }; low = record { number = 1 } } in
+    let distinct : IsDistinct c.push-number.new.self.nodes = rw (nodes_are c) (distinct-push c.args.self.now.nodes node c.width_of-width.ensures.distinct c.in_default.ensures.absent) in
+    only_edge c.push-number.new.self c.max.result (ordered_after c (branch ((goal.at.returns-clause-only c).After-max))) distinct c.edge_of-2.result (live_after c)
 
 pub returns-then-len-limit-clause-unheld : goal.returns-then-len-limit-clause-unheld
 returns-then-len-limit-clause-unheld c = λ held.
