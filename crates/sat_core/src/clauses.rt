@@ -1,6 +1,7 @@
 //! The clauses as the search has them: those of the book, in the book's order, with literals that it puts in other places.
 
 use super::literal::{Literal, number_of};
+use super::trail::Trail;
 use gl_logic::NoMemory;
 use std::alloc::Global;
 
@@ -137,5 +138,45 @@ impl Clauses {
                 span.forgotten = true;
             }
         }
+    }
+
+    /// Which clauses keep their literals: those that are watched, those that gave a literal of the trail its value, and the
+    /// last one, which may give one next.
+    fn kept(&self, alloc: Global, trail: &Trail) -> Result<Vec<bool>, NoMemory> {
+        let mut kept = Vec::with_capacity(alloc, self.spans.len())?;
+        for span in &self.spans {
+            kept.push(!span.forgotten)?;
+        }
+        for literal in trail.literals() {
+            if let Some(reason) = trail.fact(literal.variable()).reason {
+                let index = reason as usize;
+                if index < kept.len() {
+                    kept[index] = true;
+                }
+            }
+        }
+        if kept.len() > 0 {
+            let last = kept.len() - 1;
+            kept[last] = true;
+        }
+        Ok(kept)
+    }
+
+    /// Gives back the literals of the clauses that keep none: the book has them.
+    pub fn give_back(&mut self, alloc: Global, trail: &Trail) -> Result<(), NoMemory> {
+        let kept = self.kept(alloc, trail)?;
+        let mut literals = Vec::new(alloc);
+        for (index, is_kept) in kept.iter().enumerate() {
+            let begin = literals.len();
+            if *is_kept {
+                literals.extend_from_slice(self.of(number_of(index)))?;
+            }
+            if index < self.spans.len() {
+                self.spans[index].begin = number_of(begin);
+                self.spans[index].len = number_of(literals.len().saturating_sub(begin));
+            }
+        }
+        self.literals = literals;
+        Ok(())
     }
 }

@@ -331,6 +331,7 @@ impl Search {
         self.period = self.period.saturating_add(LONGER);
         self.left = self.period;
         self.clauses.forget();
+        self.clauses.give_back(self.alloc, &self.trail)?;
         self.watches.forget(&self.clauses)
     }
 }
