@@ -31,6 +31,15 @@ pub struct Analysis {
     stamps: Vec<u32>,
     /// How many clauses were counted over.
     stamp: u32,
+    /// By variable, whether its reason at level 0 was followed.
+    used: Vec<bool>,
+}
+
+/// A literal that is true at level 0, by a clause that has others.
+#[derive(Clone, Copy)]
+pub struct Fixed {
+    pub literal: Literal,
+    pub reason: u32,
 }
 
 /// A set of one level.
@@ -53,6 +62,7 @@ impl Analysis {
             levels: 0,
             stamps: vec![in alloc; 0; variables as usize + 1]?,
             stamp: 0,
+            used: vec![in alloc; false; variables as usize]?,
         })
     }
 
@@ -64,6 +74,14 @@ impl Analysis {
     /// The places on the trail of the literals whose reasons show the clause, in order.
     pub fn places(&self) -> &[u32] {
         self.places.as_slice()
+    }
+
+    /// Whether the reason of a variable was followed at level 0.
+    pub fn is_used(&self, variable: u32) -> bool {
+        match self.used.get(variable as usize) {
+            Some(used) => *used,
+            None => false,
+        }
     }
 
     #[inline]
@@ -300,6 +318,10 @@ impl Analysis {
             if trail.fact(variable).reason.is_none() {
                 return Ok(false);
             }
+            let index = variable as usize;
+            if index < self.used.len() {
+                self.used[index] = true;
+            }
             self.use_reason(variable, trail, clauses)?;
         }
         Ok(false)
@@ -347,6 +369,30 @@ impl Analysis {
         }
         self.places.sort_unstable();
         Ok(Some(self.put_second(trail)))
+    }
+
+    /// Makes the unit clause of a literal of level 0, which its reason shows with those of its other literals. False where one
+    /// has no reason.
+    pub fn blame_reason(
+        &mut self,
+        fixed: Fixed,
+        trail: &Trail,
+        clauses: &Clauses,
+    ) -> Result<bool, NoMemory> {
+        self.clear();
+        let _first = self.mark(fixed.literal.variable())?;
+        self.literals.push(fixed.literal)?;
+        for literal in clauses.of(fixed.reason) {
+            let variable = literal.variable();
+            if self.mark(variable)? {
+                self.base.push(variable)?;
+            }
+        }
+        if !self.follow_base(trail, clauses)? {
+            return Ok(false);
+        }
+        self.places.sort_unstable();
+        Ok(true)
     }
 
     /// Makes the clause of the complements of the decisions, the last one first, which all reasons of the trail show.

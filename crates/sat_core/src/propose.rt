@@ -4,6 +4,7 @@ ghost use Rattle.std.specs.Prelude.{◌≡◌, ◌<◌, true, false, length, All
 ghost use Rattle.cnf_rup.specs.Literals.{IsClause};
 ghost use Rattle.sat_core.specs.Decisions.{LearnsOne};
 
+use super::analysis::Fixed;
 use super::eliminate::Pair;
 use super::literal::Literal;
 use super::search::{Event, Search};
@@ -145,6 +146,24 @@ fn learn_resolvent(
     }
 }
 
+/// Learns the unit clause of a literal of level 0. Whether it was taken.
+fn learn_fixed(
+    alloc: Global,
+    search: &mut Search,
+    fixed: Fixed,
+    book: &mut ClauseBook,
+) -> Result<bool, NoMemory>
+    requires { length book.old.entries < 4294967295 }
+    ensures taken { IfOk result (λ t. t ≡ true → LearnsOne book.old book.new) }
+    ensures refused { IfOk result (λ t. t ≡ false → book.new ≡ book.old) }
+{
+    if search.blame_reason(fixed)? && propose(alloc, search, fixed.reason, book)? {
+        search.take_fixed(fixed)?;
+        return Ok(true);
+    }
+    Ok(false)
+}
+
 /// Learns one clause: what the search has come to.
 pub fn learn_next(
     alloc: Global,
@@ -158,6 +177,7 @@ pub fn learn_next(
     let taken = match event {
         Event::Conflict(conflict) => learn_conflict(alloc, search, conflict, book)?,
         Event::Resolvent(pair) => learn_resolvent(alloc, search, pair, book)?,
+        Event::Fixed(fixed) => learn_fixed(alloc, search, fixed, book)?,
         Event::Model => false,
     };
     if taken {

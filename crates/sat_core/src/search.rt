@@ -3,7 +3,7 @@
 //! What stands here is believed by nobody. Each table is read and written within its length, whatever the numbers say, each
 //! loop has a bound, and no contract speaks of the literals that are true.
 
-use super::analysis::Analysis;
+use super::analysis::{Analysis, Fixed};
 use super::clauses::Clauses;
 use super::eliminate::{Elimination, Pair};
 use super::literal::Literal;
@@ -23,6 +23,8 @@ pub enum Event {
     Conflict(u32),
     /// A resolvent of these clauses was made, of a variable that is resolved away.
     Resolvent(Pair),
+    /// This literal is true at level 0, and is to have a unit clause of its own.
+    Fixed(Fixed),
     /// All variables have values, and no clause is false.
     Model,
 }
@@ -59,6 +61,8 @@ pub struct Search {
     failed: Option<u32>,
     elimination: Elimination,
     stage: Stage,
+    /// Of the literals of level 0 those before this place have unit clauses, or are not to have any now.
+    fixed: usize,
     alloc: Global,
     /// How many literals were taken from the trail, and the clauses gone through that watch their complements.
     pub(crate) propagations: u64,
@@ -95,6 +99,7 @@ impl Search {
             failed: None,
             elimination: Elimination::new(alloc, variables)?,
             stage: Stage::Before(variables.max(FEW)),
+            fixed: 0,
             alloc,
             propagations: 0,
         };
@@ -243,7 +248,46 @@ impl Search {
             }
             self.end_elimination()?;
         }
+        if self.stage == Stage::After && self.trail.level() == 0 {
+            if let Some(conflict) = self.propagate()? {
+                return Ok(Event::Conflict(conflict));
+            }
+            if let Some(fixed) = self.next_fixed() {
+                return Ok(Event::Fixed(fixed));
+            }
+        }
         self.descend()
+    }
+
+    /// The next literal of level 0 whose reason was followed and has other literals: with a unit clause of its own one hint is
+    /// enough for it.
+    fn next_fixed(&mut self) -> Option<Fixed> {
+        for place in self.fixed..self.trail.len() {
+            let literal = *self.trail.literals().get(place)?;
+            self.fixed = place.saturating_add(1);
+            let variable = literal.variable();
+            if self.analysis.is_used(variable) {
+                let reason = self.trail.fact(variable).reason?;
+                if self.clauses.of(reason).len() > 1 {
+                    return Some(Fixed { literal, reason });
+                }
+            }
+        }
+        None
+    }
+
+    /// Finds what shows the unit clause of a literal of level 0. Whether it is found.
+    pub fn blame_reason(&mut self, fixed: Fixed) -> Result<bool, NoMemory> {
+        self.analysis
+            .blame_reason(fixed, &self.trail, &self.clauses)
+    }
+
+    /// Takes in the unit clause of a literal of level 0, which was learned.
+    pub fn take_fixed(&mut self, fixed: Fixed) -> Result<(), NoMemory> {
+        let clause = self.clauses.count();
+        self.clauses.push(&[fixed.literal], 1)?;
+        self.trail.set_reason(fixed.literal.variable(), clause);
+        Ok(())
     }
 
     /// The literals of the resolvent that was made.
@@ -330,6 +374,7 @@ impl Search {
     fn forget(&mut self) -> Result<(), NoMemory> {
         self.period = self.period.saturating_add(LONGER);
         self.left = self.period;
+        self.fixed = 0;
         self.clauses.forget();
         self.clauses.give_back(self.alloc, &self.trail)?;
         self.watches.forget(&self.clauses)

@@ -119,6 +119,19 @@ impl Trail {
         Ok(())
     }
 
+    /// Names another clause that gave a variable its value.
+    pub fn set_reason(&mut self, variable: u32, clause: u32) {
+        let index = variable as usize;
+        if index < self.facts.len() {
+            let fact = self.facts[index];
+            self.facts[index] = Fact {
+                level: fact.level,
+                place: fact.place,
+                reason: Some(clause),
+            };
+        }
+    }
+
     /// Makes an open literal true by decision, which begins a level.
     pub fn decide(&mut self, literal: Literal) -> Result<(), NoMemory> {
         let place = self.literals.len();
