@@ -1,6 +1,6 @@
 //! What a verdict that is no proof means, and what to try.
 
-use crate::report::Report;
+use explain_report::Report;
 use gl_logic::NoMemory;
 
 /// A word for what is meant, what it means, and what to try, in the order that costs least.
@@ -122,13 +122,8 @@ pub(crate) fn advice_of_line(line: &[u8]) -> Option<Advice> {
     }
 }
 
-/// Puts an advice behind a place.
-pub(crate) fn put_advice(
-    report: &mut Report,
-    front: &[u8],
-    advice: Advice,
-) -> Result<(), NoMemory> {
-    report.text(front)?;
+/// Puts an advice.
+pub(crate) fn put_advice(report: &mut Report, advice: Advice) -> Result<(), NoMemory> {
     report.say(advice.word)?;
     report.say(": ")?;
     report.say(advice.meaning)?;

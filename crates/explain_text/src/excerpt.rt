@@ -1,7 +1,7 @@
 //! A line of a text, with marks under a part of it.
 
-use crate::report::Report;
 use crate::span::{Span, column_of, cut, line_end, line_of, line_start};
+use explain_report::Report;
 use gl_logic::NoMemory;
 use std::alloc::Global;
 

@@ -6,36 +6,39 @@ ghost use Rattle.book_shelf.specs.NumberedItems.{IsNumberedItem};
 
 use crate::blame::Judge;
 use crate::codes::Fault;
+use crate::manner::{Format, Outlet};
 use crate::refusal::{
     Refusal, explain_constant, explain_event_fault, explain_text_fault, put_words,
 };
 use crate::replay::{FormFault, Refused, first_refused};
-use crate::report::Report;
-use crate::shown::Shown;
+use crate::shown::{Kept, Shown};
+use crate::sources::{put_sources, text_of};
 use crate::spots::{Spot, Spots, spots_of};
+use crate::told::put_told;
 use book_shelf::{Finish, Library, LoadEnd, ShelfCode, load};
 use book_state::State;
+use explain_report::{PutEnd, Record, Report, Verdict};
 use gl_base::limits::Limits;
 use gl_base::shelf::Shelf;
-use gl_base::sink::{Sink, put_all};
+use gl_base::sink::Sink;
 use gl_base::status::Status;
 use gl_book::run_library;
 use gl_decide::Stalls;
 use gl_logic::{NoMemory, Texts};
-use sexp_reader::{ReadEnd, read_book};
 use std::alloc::Global;
+use std::rt::Clock;
 use std::thread::Threads;
 
-/// Runs the book of a name with the books that it includes, shows each line of its transcript as it is decided with its
-/// event's place in front, and then explains why it is refused, where it is. The status is that of the run; WriteFault
-/// where the explanation could not be written, and NoMemory where memory was refused for it.
-pub fn explain_book<R: Threads + Sync, S: Shelf, K: Sink + Drop>(
+/// Runs the book of a name with the books that it includes, and tells each line of its transcript with its event's place, and
+/// what is to be said of it: in text as it is decided, and what is to be said behind the transcript. The status is that of the
+/// run; WriteFault where what is told could not be written, and NoMemory where memory was refused for it.
+pub fn explain_book<R: Threads + Sync + Clock, S: Shelf, K: Sink + Drop, E: Sink + Drop>(
     rt: &R,
     alloc: Global,
     name: &str,
     limits: &Limits,
     shelf: &mut S,
-    out: K,
+    outlet: Outlet<K, E>,
 ) -> Status {
     let Ok(mut texts) = Texts::new(alloc) else {
         return Status::NoMemory;
@@ -45,7 +48,7 @@ pub fn explain_book<R: Threads + Sync, S: Shelf, K: Sink + Drop>(
             let Ok(spots) = spots_of(alloc, name.as_bytes(), &library, &texts) else {
                 return Status::NoMemory;
             };
-            let shown = Shown::new(alloc, spots, out);
+            let shown = Shown::new(rt, alloc, spots, outlet);
             run_shown(rt, alloc, &library, limits, &mut texts, shelf, shown)
         }
         Err(LoadEnd::Failed) => Status::ReadFault,
@@ -53,49 +56,90 @@ pub fn explain_book<R: Threads + Sync, S: Shelf, K: Sink + Drop>(
     }
 }
 
-/// Runs a list of books, and then explains why it is refused.
-fn run_shown<R: Threads + Sync, S: Shelf, K: Sink + Drop>(
+/// Runs a list of books, and then tells what is to be said of it.
+fn run_shown<R: Threads + Sync + Clock, S: Shelf, K: Sink + Drop, E: Sink + Drop>(
     rt: &R,
     alloc: Global,
     library: &Library,
     limits: &Limits,
     texts: &mut Texts,
     shelf: &mut S,
-    mut shown: Shown<K>,
+    mut shown: Shown<'_, R, K, E>,
 ) -> Status
     requires numbered { Every (IsNumberedItem (length texts.old)) library.now.items }
 {
-    let mut stalls = Stalls::new(alloc);
-    let status = run_library(rt, alloc, library, texts, limits, &mut stalls, &mut shown);
-    let (mut out, spots, advice) = shown.into_parts();
-    let Some(mut report) = advice else {
+    let Ok(()) = shown.name_running() else {
         return Status::NoMemory;
     };
+    let mut stalls = Stalls::new(alloc);
+    let status = run_library(rt, alloc, library, texts, limits, &mut stalls, &mut shown);
+    shown.wipe_running();
+    let Kept {
+        outlet,
+        spots,
+        records,
+    } = shown.into_kept();
+    let Some(mut records) = records else {
+        return Status::NoMemory;
+    };
+    if status == Status::WriteFault || status == Status::NoMemory {
+        return status;
+    }
     if status == Status::BookRefused {
         let book = Book {
             library,
             spots: &spots,
             limits,
         };
-        let said = say_why(rt, alloc, &book, texts, shelf, &mut report);
-        if said.is_err() {
+        let Ok(message) = refusal_of(rt, alloc, &book, texts, shelf) else {
             return Status::NoMemory;
-        }
+        };
+        keep_refusal(&mut records, message);
     }
-    put_report(&mut out, &report, status)
+    tell(alloc, outlet, &spots, records, shelf, status)
 }
 
-/// Writes what is said behind a transcript, where its run did not fail. The status.
-fn put_report<K: Sink>(out: &mut K, report: &Report, status: Status) -> Status {
-    if report.as_slice().is_empty() || status == Status::WriteFault || status == Status::NoMemory {
-        return status;
+/// What is said of a book that is refused.
+fn refusal_of<R: Threads + Sync, S: Shelf>(
+    rt: &R,
+    alloc: Global,
+    book: &Book,
+    texts: &mut Texts,
+    shelf: &mut S,
+) -> Result<Vec<u8>, NoMemory> {
+    let mut report = Report::new(alloc);
+    say_why(rt, alloc, book, texts, shelf, &mut report)?;
+    Ok(report.into_bytes())
+}
+
+/// Keeps what is said of a refusal with its line.
+fn keep_refusal(records: &mut [Record], message: Vec<u8>) {
+    for record in records {
+        if record.verdict() == Verdict::Refused {
+            record.message = message;
+            return;
+        }
     }
-    let Ok(()) = put_all(out, report.as_slice()) else {
-        return Status::WriteFault;
-    };
-    match out.flush() {
+}
+
+/// Tells what is to be told behind a run. The status.
+fn tell<S: Shelf, K: Sink + Drop, E: Sink + Drop>(
+    alloc: Global,
+    outlet: Outlet<K, E>,
+    spots: &Spots,
+    mut records: Vec<Record>,
+    shelf: &mut S,
+    status: Status,
+) -> Status {
+    if outlet.manner.format == Format::Html {
+        let Ok(()) = put_sources(alloc, spots, &mut records, shelf) else {
+            return Status::NoMemory;
+        };
+    }
+    match put_told(alloc, outlet, spots, records.as_slice()) {
         Ok(()) => status,
-        Err(_) => Status::WriteFault,
+        Err(PutEnd::Failed) => Status::WriteFault,
+        Err(PutEnd::Memory) => Status::NoMemory,
     }
 }
 
@@ -200,20 +244,4 @@ fn explain_place<S: Shelf>(
 fn explain_unread(report: &mut Report, file: &[u8], place: &Place) -> Result<(), NoMemory> {
     report.place(file, place.spot.line as u64, place.spot.column as u64)?;
     put_words(report, place.fault)
-}
-
-/// The bytes of a text, where it is not too long and can be read.
-fn text_of<S: Shelf>(
-    alloc: Global,
-    shelf: &mut S,
-    file: &[u8],
-) -> Result<Option<Vec<u8>>, NoMemory> {
-    let Ok(name) = str::from_utf8(file) else {
-        return Ok(None);
-    };
-    match read_book(alloc, shelf, name) {
-        Ok(bytes) => Ok(Some(bytes)),
-        Err(ReadEnd::Memory) => Err(NoMemory),
-        Err(_) => Ok(None),
-    }
 }

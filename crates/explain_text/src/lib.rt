@@ -4,7 +4,8 @@
 //! front of a refused form are taken in again (`replay`), and the part of the form that is at fault is the one without which
 //! it is not refused for the same reason (`blame`). Places inside a form are told by the reader of books (`elements`).
 //!
-//! - what is shown: `shown`, a sink that puts places in front of lines, by `spots`; `explain`, a run with its explanation;
+//! - what is shown: `shown`, a sink that puts places in front of lines, by `spots`, and names the event that is `running`;
+//!   `explain`, a run with its explanation; `told`, what is told behind a run, with `sources`;
 //! - what is said: `refusal`, by `codes`, `known` and `excerpt`, into a `report`;
 //! - where it stands: `span`, `elements`, `terms`, `blame`.
 //!
@@ -18,13 +19,17 @@ mod elements;
 mod excerpt;
 mod explain;
 mod known;
+mod manner;
 mod refusal;
 mod replay;
-mod report;
+mod running;
 mod shown;
+mod sources;
 mod span;
 mod spots;
+mod stopwatch;
 mod terms;
+mod told;
 
 pub use explain::explain_book;
-pub use shown::put_line;
+pub use manner::{Format, Manner, Outlet};

@@ -1,34 +1,38 @@
-//! The lines of a transcript as a sink gets them, each with its event's place in front.
+//! The lines of a transcript as a sink gets them: each is told as it is decided, and what is known of it is kept.
 
-ghost use Rattle.std.specs.Prelude.{◌≡◌, ◌++◌, None, OnOk};
-ghost use Rattle.gl_base.specs.Outside.{Grows};
+ghost use Rattle.std.specs.Prelude.{◌≡◌, None};
 
 use crate::advice::{advice_of_line, put_advice};
-use crate::report::Report;
+use crate::manner::{Format, Manner, Outlet, PLAIN};
+use crate::running::{put_running, wipe};
 use crate::spots::{Spot, Spots};
+use crate::stopwatch::Stopwatch;
+use explain_report::{PutEnd, Record, Report, Style, name_in, put_line};
 use gl_base::failed::Failed;
-use gl_base::sink::{Sink, put_all};
+use gl_base::sink::Sink;
 use gl_logic::NoMemory;
 use std::alloc::Global;
 use std::marker::Model;
+use std::rt::Clock;
 
-/// A sink that shows each line of a transcript as it is decided, with its event's place in front. It tells no bytes.
+/// A sink that shows each line of a transcript as it is decided, with its event's place in front, where text is asked for. It
+/// tells no bytes.
 #[derive(Drop)]
-pub(crate) struct Shown<K: Sink + Drop> {
+pub(crate) struct Shown<'a, R: Clock, K: Sink + Drop, E: Sink + Drop> {
     alloc: Global,
-    out: K,
+    outlet: Outlet<K, E>,
+    watch: Stopwatch<'a, R>,
     spots: Spots,
     // how many spots are behind, and how many lines of the next one
     behind: usize,
     lines: usize,
     faults: u64,
-    // what is to be said behind the transcript
-    advice: Report,
+    records: Vec<Record>,
     // whether memory was refused
     lacks_memory: bool,
 }
 
-impl<K: Sink + Drop> Model for Shown<K> {
+impl<'a, R: Clock, K: Sink + Drop, E: Sink + Drop> Model for Shown<'a, R, K, E> {
     ghost use Rattle.std.specs.Prelude.{ℕ};
 
     ghost Value = { ℕ };
@@ -36,40 +40,49 @@ impl<K: Sink + Drop> Model for Shown<K> {
     ghost view = { λ s. s.faults };
 }
 
-/// Writes a line of a transcript behind what stands in front of it.
-pub fn put_line<K: Sink>(out: &mut K, front: &[u8], line: &[u8]) -> Result<(), Failed>
-    // What is shown of the transcript is its line, byte for byte.
-    ensures line { OnOk result (Grows (K.written out.old) (K.written out.new) (front.now ++ line.now)) }
-{
-    put_all(out, front)?;
-    put_all(out, line)
+/// What is left of a run: where it is told, the spots, and what is known of its lines; none where memory was refused.
+#[derive(Drop)]
+pub(crate) struct Kept<K: Sink + Drop, E: Sink + Drop> {
+    pub outlet: Outlet<K, E>,
+    pub spots: Spots,
+    pub records: Option<Vec<Record>>,
 }
 
-impl<K: Sink + Drop> Shown<K> {
+impl<'a, R: Clock, K: Sink + Drop, E: Sink + Drop> Shown<'a, R, K, E> {
     /// Nothing is shown yet.
-    pub(crate) fn new(alloc: Global, spots: Spots, out: K) -> Shown<K> {
+    pub(crate) fn new(
+        clock: &'a R,
+        alloc: Global,
+        spots: Spots,
+        outlet: Outlet<K, E>,
+    ) -> Shown<'a, R, K, E> {
         Shown {
             alloc,
-            out,
+            outlet,
+            watch: Stopwatch::new(clock),
             spots,
             behind: 0,
             lines: 0,
             faults: 0,
-            advice: Report::new(alloc),
+            records: Vec::new(alloc),
             lacks_memory: false,
         }
     }
 
-    /// The sink, the spots, and what is to be said behind the transcript; no advice where memory was refused.
-    pub(crate) fn into_parts(self) -> (K, Spots, Option<Report>) {
+    /// What is left.
+    pub(crate) fn into_kept(self) -> Kept<K, E> {
         let Shown {
-            out,
+            outlet,
             spots,
-            advice,
+            records,
             lacks_memory,
             ..
         } = self;
-        (out, spots, if lacks_memory { None } else { Some(advice) })
+        Kept {
+            outlet,
+            spots,
+            records: if lacks_memory { None } else { Some(records) },
+        }
     }
 }
 
@@ -93,14 +106,14 @@ fn next_with_lines(items: &[Spot], behind: usize, lines: usize) -> Option<usize>
     None
 }
 
-/// The spot from a number on with a line and a column; that of the list's end where there is none.
-fn spot_at(items: &[Spot], behind: usize, line: u32, column: u32) -> Option<Spot> {
-    for spot in spots_from(items, behind) {
+/// The number of the spot from one on with a line and a column; that of the list's end where there is none.
+fn number_at(items: &[Spot], behind: usize, line: u32, column: u32) -> usize {
+    for (i, spot) in spots_from(items, behind).iter().enumerate() {
         if spot.line == line && spot.column == column {
-            return Some(*spot);
+            return behind.saturating_add(i);
         }
     }
-    items.last().copied()
+    items.len().saturating_sub(1)
 }
 
 /// The line and the column of a line `REFUSED line column code`.
@@ -121,66 +134,220 @@ fn begins_with(line: &[u8], front: &[u8]) -> bool {
     line.len() >= front.len() && &line[..front.len()] == front
 }
 
-impl<K: Sink + Drop> Shown<K> {
-    /// Takes the next spot that has lines left.
-    fn take_spot(&mut self) -> Option<Spot>
-        ensures faults { self.new ≡ self.old }
-    {
-        let number = next_with_lines(&self.spots.items, self.behind, self.lines)?;
-        if number == self.behind {
-            self.lines = self.lines.saturating_add(1);
-        } else {
-            self.behind = number;
-            self.lines = 1;
-        }
-        self.spots.items.get(number).copied()
-    }
-
-    /// What stands in front of a line: the place of its event, and nothing in front of an input, a mark and the last line.
-    fn front_of(&mut self, line: &[u8]) -> Result<Report, NoMemory>
-        ensures faults { self.new ≡ self.old }
-    {
-        let mut front = Report::new(self.alloc);
-        if begins_with(line, b"  ") || begins_with(line, b"DONE ") {
-            return Ok(front);
-        }
-        if let Some((line, column)) = refused_place(line) {
-            if let Some(spot) = spot_at(&self.spots.items, self.behind, line, column) {
-                front.place(self.spots.file(spot), line as u64, column as u64)?;
-            }
-            return Ok(front);
-        }
-        if let Some(spot) = self.take_spot() {
-            if spot.line > 0 {
-                front.place(self.spots.file(spot), spot.line as u64, spot.column as u64)?;
-            }
-        }
-        Ok(front)
-    }
-
-    /// What stands in front of a line, whose advice is kept.
-    fn noted(&mut self, line: &[u8]) -> Result<Report, NoMemory>
-        ensures faults { self.new ≡ self.old }
-    {
-        let front = self.front_of(line)?;
-        if let Some(advice) = advice_of_line(line) {
-            put_advice(&mut self.advice, front.as_slice(), advice)?;
-        }
-        Ok(front)
-    }
-
-    fn show(&mut self, line: &[u8]) -> Result<(), Failed>
-        ensures faults { self.new ≡ self.old }
-    {
-        let Ok(front) = self.noted(line) else {
-            self.lacks_memory = true;
-            return Err(Failed);
-        };
-        put_line(&mut self.out, front.as_slice(), line)
+/// A line without its end.
+fn without_end(line: &[u8]) -> &[u8] {
+    match line {
+        [front @ .., b'\n'] => front,
+        _ => line,
     }
 }
 
-impl<K: Sink + Drop> Sink for Shown<K> {
+/// The item of a line, and its place.
+#[derive(Clone, Copy)]
+struct Seen {
+    item: usize,
+    line: u32,
+    column: u32,
+}
+
+/// Puts what is known of the item of a record.
+fn put_seen(alloc: Global, record: &mut Record, spots: &Spots, seen: Seen) -> Result<(), NoMemory> {
+    record.item = seen.item;
+    record.line = seen.line;
+    record.column = seen.column;
+    if let Some(spot) = spots.items.get(seen.item) {
+        record.file = spots.file(*spot).to_vec(alloc)?;
+    }
+    if let Some(named) = spots.named.get(seen.item) {
+        record.kind = named.kind.to_vec(alloc)?;
+        if record.name.as_slice().is_empty() {
+            record.name = named.name.to_vec(alloc)?;
+        }
+    }
+    Ok(())
+}
+
+/// The message with which a record begins: what its line means, and what to try.
+fn first_message(alloc: Global, text: &[u8]) -> Result<Vec<u8>, NoMemory> {
+    let mut report = Report::new(alloc);
+    if let Some(advice) = advice_of_line(text) {
+        put_advice(&mut report, advice)?;
+    }
+    Ok(report.into_bytes())
+}
+
+/// What stands in front of a line: the place of its event.
+fn front_of(alloc: Global, manner: Manner, record: &Record) -> Result<Report, NoMemory> {
+    let mut front = Report::new(alloc);
+    if record.line > 0 {
+        front.place(
+            record.file.as_slice(),
+            record.line as u64,
+            record.column as u64,
+        )?;
+    }
+    front.say(manner.color(record.verdict()))?;
+    Ok(front)
+}
+
+/// What stands behind a line: its seconds, where they are told, and its end.
+fn back_of(alloc: Global, manner: Manner, record: &Record) -> Result<Report, NoMemory> {
+    let mut back = Report::new(alloc);
+    let verdict = record.verdict();
+    if !manner.color(verdict).is_empty() {
+        back.say(PLAIN)?;
+    }
+    if manner.seconds && verdict.is_of_event() {
+        back.say("  ")?;
+        back.millis(record.micros)?;
+        back.say(" s")?;
+    }
+    back.say("\n")?;
+    Ok(back)
+}
+
+impl<'a, R: Clock, K: Sink + Drop, E: Sink + Drop> Shown<'a, R, K, E> {
+    /// Takes the next spot that has lines left.
+    fn take_spot(&mut self) -> Option<Seen>
+        ensures faults { self.new ≡ self.old }
+    {
+        let item = next_with_lines(&self.spots.items, self.behind, self.lines)?;
+        if item == self.behind {
+            self.lines = self.lines.saturating_add(1);
+        } else {
+            self.behind = item;
+            self.lines = 1;
+        }
+        let spot = self.spots.items.get(item)?;
+        Some(Seen {
+            item,
+            line: spot.line,
+            column: spot.column,
+        })
+    }
+
+    /// The item of a line that is of no input, and its place; none of the last line.
+    fn seen_of(&mut self, text: &[u8]) -> Option<Seen>
+        ensures faults { self.new ≡ self.old }
+    {
+        if begins_with(text, b"DONE ") {
+            return None;
+        }
+        match refused_place(text) {
+            Some((line, column)) => Some(Seen {
+                item: number_at(&self.spots.items, self.behind, line, column),
+                line,
+                column,
+            }),
+            None => self.take_spot(),
+        }
+    }
+
+    /// What is known of a line that is of no input.
+    fn record_of(&mut self, text: &[u8]) -> Result<Record, NoMemory>
+        ensures faults { self.new ≡ self.old }
+    {
+        let mut record = Record::new(self.alloc, text.to_vec(self.alloc)?);
+        record.micros = self.watch.lap();
+        record.name = name_in(text).to_vec(self.alloc)?;
+        record.message = first_message(self.alloc, text)?;
+        if let Some(seen) = self.seen_of(text) {
+            put_seen(self.alloc, &mut record, &self.spots, seen)?;
+        }
+        Ok(record)
+    }
+
+    /// Keeps a line of an input.
+    fn keep_input(&mut self, text: &[u8]) -> Result<(), NoMemory>
+        ensures faults { self.new ≡ self.old }
+    {
+        let line = text.to_vec(self.alloc)?;
+        if let Some(record) = self.records.last_mut() {
+            record.inputs.push(line)?;
+        }
+        Ok(())
+    }
+
+    /// Keeps what is known of a line.
+    fn keep(&mut self, record: Record) -> Result<(), NoMemory>
+        ensures faults { self.new ≡ self.old }
+    {
+        self.records.push(record)?;
+        Ok(())
+    }
+
+    /// Names the event that runs next.
+    pub(crate) fn name_running(&mut self) -> Result<(), NoMemory>
+        ensures faults { self.new ≡ self.old }
+    {
+        let next = next_with_lines(&self.spots.items, self.behind, self.lines);
+        if let Some(notes) = &mut self.outlet.notes {
+            if let Some(number) = next {
+                put_running(self.alloc, notes, &self.spots, number)?;
+            }
+        }
+        Ok(())
+    }
+
+    /// Wipes the name of the event that ran.
+    pub(crate) fn wipe_running(&mut self)
+        ensures faults { self.new ≡ self.old }
+    {
+        if let Some(notes) = &mut self.outlet.notes {
+            wipe(notes);
+        }
+    }
+
+    /// Writes a line, where text is asked for.
+    fn put(&mut self, front: &[u8], text: &[u8], back: &[u8]) -> Result<(), PutEnd>
+        ensures faults { self.new ≡ self.old }
+    {
+        if self.outlet.manner.format != Format::Text {
+            return Ok(());
+        }
+        put_line(
+            self.alloc,
+            &mut self.outlet.out,
+            Style::Plain,
+            front,
+            text,
+            back,
+        )
+    }
+
+    fn show_input(&mut self, text: &[u8]) -> Result<(), PutEnd>
+        ensures faults { self.new ≡ self.old }
+    {
+        self.keep_input(text)?;
+        self.put(b"", text, b"\n")
+    }
+
+    fn show_line(&mut self, text: &[u8]) -> Result<(), PutEnd>
+        ensures faults { self.new ≡ self.old }
+    {
+        let record = self.record_of(text)?;
+        let front = front_of(self.alloc, self.outlet.manner, &record)?;
+        let back = back_of(self.alloc, self.outlet.manner, &record)?;
+        self.keep(record)?;
+        self.put(front.as_slice(), text, back.as_slice())
+    }
+
+    fn show(&mut self, line: &[u8]) -> Result<(), PutEnd>
+        ensures faults { self.new ≡ self.old }
+    {
+        self.wipe_running();
+        let text = without_end(line);
+        if begins_with(text, b"  ") {
+            self.show_input(text)?;
+        } else {
+            self.show_line(text)?;
+        }
+        self.name_running()?;
+        Ok(())
+    }
+}
+
+impl<'a, R: Clock, K: Sink + Drop, E: Sink + Drop> Sink for Shown<'a, R, K, E> {
     ghost written = { λ _. None };
 
     ghost faults = { λ s. s };
@@ -188,7 +355,8 @@ impl<K: Sink + Drop> Sink for Shown<K> {
     fn write(&mut self, piece: &[u8]) -> Result<usize, Failed> {
         match self.show(piece) {
             Ok(()) => Ok(piece.len()),
-            Err(_) => {
+            Err(end) => {
+                self.lacks_memory = end == PutEnd::Memory;
                 self.faults = self.faults.saturating_add(1);
                 Err(Failed)
             }
@@ -196,7 +364,7 @@ impl<K: Sink + Drop> Sink for Shown<K> {
     }
 
     fn flush(&mut self) -> Result<(), Failed> {
-        match self.out.flush() {
+        match self.outlet.out.flush() {
             Ok(()) => Ok(()),
             Err(_) => {
                 self.faults = self.faults.saturating_add(1);

@@ -15,23 +15,44 @@ pub(crate) struct Spot {
     pub lines: usize,
 }
 
-/// The names of the texts of a book, and the spot of each item. Behind them stands that of the list's end.
+/// The first word of an item's form, and the name behind it; empty where there is none.
+#[derive(Drop)]
+pub(crate) struct Named {
+    pub kind: Vec<u8>,
+    pub name: Vec<u8>,
+}
+
+/// The names of the texts of a book, and the spot of each item with what it is named. Behind them stands that of the list's end.
 #[derive(Drop)]
 pub(crate) struct Spots {
     pub files: Vec<Vec<u8>>,
     pub items: Vec<Spot>,
+    pub named: Vec<Named>,
     // the numbers of the texts that are open, the last of them last
     open: Vec<usize>,
+}
+
+/// The word that an object is.
+fn word_of<'a>(texts: &'a Texts, tree: &Tree) -> &'a [u8] {
+    match tree.kind() {
+        TreeKind::Symbol(name) => texts.text(name),
+        _ => &[],
+    }
 }
 
 /// The word with which a form begins.
 fn head_of<'a>(texts: &'a Texts, form: &Tree) -> &'a [u8] {
     match form.elements() {
-        [.., head] => match head.kind() {
-            TreeKind::Symbol(name) => texts.text(name),
-            _ => &[],
-        },
+        [.., head] => word_of(texts, head),
         [] => &[],
+    }
+}
+
+/// The word behind the one with which a form begins.
+fn name_of<'a>(texts: &'a Texts, form: &Tree) -> &'a [u8] {
+    match form.elements() {
+        [.., name, _] => word_of(texts, name),
+        _ => &[],
     }
 }
 
@@ -52,6 +73,7 @@ impl Spots {
         let mut spots = Spots {
             files: Vec::new(alloc),
             items: Vec::new(alloc),
+            named: Vec::new(alloc),
             open: Vec::new(alloc),
         };
         spots.enter(name.to_vec(alloc)?)?;
@@ -78,12 +100,26 @@ impl Spots {
         Ok(())
     }
 
-    fn put_form(&mut self, texts: &Texts, form: &Form) -> Result<(), NoMemory> {
-        self.put(form.line, form.column, lines_of(texts, &form.tree))
+    fn put_named(&mut self, alloc: Global, kind: &[u8], name: &[u8]) -> Result<(), NoMemory> {
+        self.named.push(Named {
+            kind: kind.to_vec(alloc)?,
+            name: name.to_vec(alloc)?,
+        })?;
+        Ok(())
+    }
+
+    fn put_form(&mut self, alloc: Global, texts: &Texts, form: &Form) -> Result<(), NoMemory> {
+        self.put(form.line, form.column, lines_of(texts, &form.tree))?;
+        self.put_named(
+            alloc,
+            head_of(texts, &form.tree),
+            name_of(texts, &form.tree),
+        )
     }
 
     fn put_mark(&mut self, alloc: Global, texts: &Texts, mark: Mark) -> Result<(), NoMemory> {
         self.put(0, 0, 1)?;
+        self.put_named(alloc, b"INCLUDE-BOOK", b"")?;
         match mark {
             Mark::Book(name) => self.enter(path_of(alloc, texts, name)?),
             Mark::End(_) => {
@@ -133,7 +169,7 @@ pub(crate) fn spots_of(
     let mut spots = Spots::new(alloc, name)?;
     for i in 0..library.items.len() {
         match library.items.at(i) {
-            Item::Form(form) => spots.put_form(texts, form)?,
+            Item::Form(form) => spots.put_form(alloc, texts, form)?,
             Item::Mark(mark) => spots.put_mark(alloc, texts, *mark)?,
         }
     }

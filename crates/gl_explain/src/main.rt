@@ -1,35 +1,60 @@
 //! `explain [options] BOOK`: a book's transcript with the place of each event, and why a book is refused.
 #![tactic(auto)]
 
+mod complaint;
+mod naming;
 mod words;
 
 use clap::error::ErrorKind as ClapKind;
 use clap::{ArgMatches, Error};
 use command_line::{FileShelf, WordsEnd, WriterSink, limits_of, words_of};
-use explain_text::explain_book;
+use complaint::{complain_of_words, complaint_of};
+use explain_text::{Outlet, explain_book};
 use gl_base::status::Status;
-use std::io;
+use naming::NamingShelf;
+use std::io::{self, IsTerminal, Write};
 use std::process::ExitCode;
-use std::rt::{Env, Files};
+use std::rt::{Clock, Env, Files};
 use std::thread::Threads;
-use words::command;
+use words::{command, manner_of};
+
+/// What is known of the streams of the process: which of them are terminals, and standard error.
+#[derive(Drop)]
+struct Streams<E: Write + Drop> {
+    is_out_terminal: bool,
+    is_error_terminal: bool,
+    error: E,
+}
 
 fn main(rt: HostRuntime) -> ExitCode {
-    ExitCode::from(status_of(&rt).code())
+    let streams = Streams {
+        is_out_terminal: rt.stdout().is_terminal(),
+        is_error_terminal: rt.stderr().is_terminal(),
+        error: rt.stderr(),
+    };
+    ExitCode::from(status_of(&rt, streams).code())
 }
 
 /// Runs the command of the process.
-fn status_of<R: Files + Print + Eprint + Env + AllocGlobal + Threads + Sync>(rt: &R) -> Status {
+fn status_of<
+    R: Files + Print + Eprint + Env + AllocGlobal + Threads + Sync + Clock,
+    E: Write + Drop,
+>(rt: &R, streams: Streams<E>) -> Status {
     let words = match words_of(rt) {
         Ok(words) => words,
         Err(WordsEnd::Memory) => return Status::NoMemory,
-        Err(_) => return Status::Usage,
+        Err(_) => {
+            let _told = rt.eprintln(
+                "explain: a word of the command is no text; see explain --help",
+            );
+            return Status::Usage;
+        }
     };
     let Ok(command) = command(rt.alloc()) else {
         return Status::NoMemory;
     };
     match command.try_get_matches_from(words.as_slice()) {
-        Ok(matches) => run(rt, &matches),
+        Ok(matches) => run(rt, &matches, streams),
         Err(error) => tell(rt, &error),
     }
 }
@@ -48,22 +73,44 @@ fn tell<R: Print + Eprint>(rt: &R, error: &Error) -> Status {
 }
 
 /// Runs the book that words name.
-fn run<R: Files + Print + Eprint + AllocGlobal + Threads + Sync>(
+fn run<R: Files + Print + Eprint + AllocGlobal + Threads + Sync + Clock, E: Write + Drop>(
     rt: &R,
     matches: &ArgMatches,
+    streams: Streams<E>,
 ) -> Status {
-    let Some(limits) = limits_of(matches) else {
-        let _told = rt.eprintln("explain: a number is out of its range; see explain --help");
+    let limits = limits_of(matches);
+    let manner = manner_of(matches, streams.is_out_terminal);
+    let (Some(limits), Some(manner)) = (limits, manner) else {
+        complain_of_words(rt, matches);
         return Status::Usage;
     };
     let Some(name) = matches.get_str("BOOK") else {
         return Status::Usage;
     };
-    let out = WriterSink::new(io::writer(rt));
-    let mut shelf = FileShelf::new(rt);
-    let status = explain_book(rt, rt.alloc(), name, &limits, &mut shelf, out);
-    if status == Status::ReadFault {
-        let _told = eprintln!(rt; "explain: cannot read {name}, or a book that it includes");
-    }
+    let Streams {
+        is_error_terminal,
+        error,
+        ..
+    } = streams;
+    let notes = WriterSink::new(error);
+    let outlet = Outlet {
+        out: WriterSink::new(io::writer(rt)),
+        notes: if is_error_terminal { Some(notes) } else { None },
+        manner,
+    };
+    let mut shelf = NamingShelf::new(rt.alloc(), FileShelf::new(rt));
+    let status = explain_book(rt, rt.alloc(), name, &limits, &mut shelf, outlet);
+    complain(rt, status, shelf.last_name());
     status
+}
+
+/// Says on standard error why a run failed.
+fn complain<R: Eprint>(rt: &R, status: Status, name: &str) {
+    let _told = match status {
+        Status::ReadFault => eprintln!(rt; "explain: cannot read {name}"),
+        _ => match complaint_of(status) {
+            Some(words) => rt.eprintln(words),
+            None => Ok(()),
+        },
+    };
 }

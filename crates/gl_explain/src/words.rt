@@ -1,7 +1,57 @@
 //! The words of the command line.
 
-use clap::{Arg, ArgAction, Command};
+use clap::{Arg, ArgAction, ArgMatches, Command};
+use command_line::text_of;
+use explain_text::{Format, Manner};
 use std::alloc::{AllocError, Global};
+
+/// The formats in which a run is told.
+pub(crate) const FORMATS: [&str; 3] = ["text", "json", "html"];
+
+/// When text has colors.
+pub(crate) const COLORS: [&str; 3] = ["auto", "always", "never"];
+
+/// An option with a number, and its range.
+#[derive(Clone, Copy)]
+pub(crate) struct Range {
+    pub name: &'static str,
+    pub least: u32,
+    pub most: u32,
+}
+
+/// The options with numbers.
+pub(crate) const RANGES: [Range; 6] = [
+    Range {
+        name: "workers",
+        least: 1,
+        most: 8,
+    },
+    Range {
+        name: "steps",
+        least: 1,
+        most: 99_999_999,
+    },
+    Range {
+        name: "cells",
+        least: 1000,
+        most: 4_000_000,
+    },
+    Range {
+        name: "nodes",
+        least: 100,
+        most: 4_000_000,
+    },
+    Range {
+        name: "clauses",
+        least: 1,
+        most: 1_000_000,
+    },
+    Range {
+        name: "enum-bits",
+        least: 0,
+        most: 16,
+    },
+];
 
 fn with_option<'a>(
     alloc: Global,
@@ -13,11 +63,24 @@ fn with_option<'a>(
     command.arg(option.action(ArgAction::Set))
 }
 
-/// The command: the limits of a run, as `gl` has them, and a book.
-pub(crate) fn command<'a>(alloc: Global) -> Result<Command<'a>, AllocError> {
-    let command = Command::new(alloc, "explain").no_binary_name(true).about(
-        "Runs a book as gl does, shows where each event stands, and says why a book is refused",
-    );
+/// With the options of what is told.
+fn with_manner<'a>(alloc: Global, command: Command<'a>) -> Result<Command<'a>, AllocError> {
+    let command = with_option(
+        alloc,
+        command,
+        "format",
+        "What is written: text, json or html",
+    )?;
+    with_option(
+        alloc,
+        command,
+        "color",
+        "Colors, seconds and a summary in text: auto (on a terminal), always or never",
+    )
+}
+
+/// With the limits of a run, as `gl` has them.
+fn with_limits<'a>(alloc: Global, command: Command<'a>) -> Result<Command<'a>, AllocError> {
     let command = with_option(alloc, command, "workers", "Workers at once, 1 to 8")?;
     let command = with_option(
         alloc,
@@ -43,11 +106,47 @@ pub(crate) fn command<'a>(alloc: Global) -> Result<Command<'a>, AllocError> {
         "clauses",
         "Clauses that one search learns, 1 to 1000000",
     )?;
-    let command = with_option(
+    with_option(
         alloc,
         command,
         "enum-bits",
         "Indices of a theorem whose inputs are tried, 0 to 16",
-    )?;
+    )
+}
+
+/// The command: the limits of a run, how it is told, and a book.
+pub(crate) fn command<'a>(alloc: Global) -> Result<Command<'a>, AllocError> {
+    let command = Command::new(alloc, "explain").no_binary_name(true).about(
+        "Runs a book as gl does, shows where each event stands, and says why a book is refused",
+    );
+    let command = with_limits(alloc, command)?;
+    let command = with_manner(alloc, command)?;
     command.arg(Arg::new(alloc, "BOOK").required(true).help("The book"))
+}
+
+/// The format that words ask for.
+fn format_of(matches: &ArgMatches) -> Option<Format> {
+    match text_of(matches, "format") {
+        None | Some("text") => Some(Format::Text),
+        Some("json") => Some(Format::Json),
+        Some("html") => Some(Format::Html),
+        Some(_) => None,
+    }
+}
+
+/// How a run is told, where each word is one that its option takes: on a terminal, and with `--color always`, with seconds; in
+/// colors there, but for `--color never`.
+pub(crate) fn manner_of(matches: &ArgMatches, is_terminal: bool) -> Option<Manner> {
+    let format = format_of(matches)?;
+    let (colors, seconds) = match text_of(matches, "color") {
+        None | Some("auto") => (is_terminal, is_terminal),
+        Some("always") => (true, true),
+        Some("never") => (false, is_terminal),
+        Some(_) => return None,
+    };
+    Some(Manner {
+        format,
+        colors,
+        seconds,
+    })
 }

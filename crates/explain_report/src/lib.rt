@@ -1,0 +1,25 @@
+//! What is told of a run: the lines of its transcript with what is known of each, as lines of JSON, as a page of HTML, and
+//! summed up.
+//!
+//! - `shown`: a line between what stands in front of it and behind, as it is, in a string of JSON or in HTML, from which it
+//!   can be read back;
+//! - `record`: a line, and what is known of it; `report`: what is said, as bytes that grow;
+//! - `json`, `html` with `bases`, and `summary`: the formats.
+//!
+//! Tests: .ci/explain, through the built program.
+#![tactic(auto)]
+
+mod bases;
+mod html;
+mod json;
+mod record;
+mod report;
+mod shown;
+mod summary;
+
+pub use html::put_page;
+pub use json::put_object;
+pub use record::{Record, Verdict, behind_word, first_word, name_in};
+pub use report::Report;
+pub use shown::{PutEnd, Style, append_shown, put_line};
+pub use summary::put_summary;
