@@ -1,6 +1,6 @@
 //! The definitions that are being made.
 
-ghost use Rattle.std.specs.Prelude.{◌≡◌, ◌<◌, [], ◌∷◌, ◌++◌, length, OnOk, OnErr, IfSome};
+ghost use Rattle.std.specs.Prelude.{◌≡◌, ◌<◌, [], ◌∷◌, ◌++◌, length, slice_get, OnOk, OnErr, IfSome, Some};
 ghost use Rattle.gl_logic.specs.Named.{IsFree, place_of};
 ghost use Rattle.gl_translate.specs.Meaning.{count_at, function_names};
 
@@ -59,6 +59,17 @@ impl Owns {
         match self.formals.get_index_of(&name.number) {
             Some(place) => Some(place as u64),
             None => None,
+        }
+    }
+
+    /// The name and the count of formals of the definition at a place, from 0.
+    pub fn at(&self, i: u64) -> (TextId, u32)
+        requires { i < length self.now }
+        ensures { slice_get self.now i ≡ Some (result.0.number, result.1) }
+    {
+        match self.formals.get_index(i as usize) {
+            Some((name, formals)) => (TextId { number: *name }, *formals),
+            None => unreachable!(),
         }
     }
 

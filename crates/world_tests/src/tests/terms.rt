@@ -2,6 +2,7 @@
 
 mod deep;
 mod objects;
+mod own_list;
 mod rows;
 
 use super::reader::form_of;
