@@ -253,6 +253,7 @@ pub(crate) fn decide_parametrised(
         Err(decision) => Some(decision),
         Ok((_env, hyp)) => match parameters(alloc, objs, hyp) {
             Ok(edges) => {
+                // a theorem has at most 1,024 indices
                 let _few = bit_count(&thm.bindings);
                 unless_full(conclude_parametrised(
                     alloc,

@@ -175,6 +175,7 @@ fn by_search(
         return (Decision::Memory, Room::Empty);
     };
     let decision = decide_symbolically(alloc, &mut objs, machine, world, thm, mode);
+    // a store that gave up has learned all its clauses
     let _spent = is_spent(&mut objs);
     (decision, Room::Sat(objs))
 }
