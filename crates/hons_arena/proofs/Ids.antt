@@ -2,18 +2,13 @@
 use Rattle.std.proofs.Common.{◌≡◌, ℕ, List, refl, sym, ◌∙◌}
 use Rattle.gl_logic.specs.Object.{Object}
 use Rattle.hons_arena.specs.declared.id.Id.{Id}
-use Rattle.hons_arena.specs.declared.id.Id.TheVariants as id
 use Rattle.hons_arena.specs.declared.id.IdKind.{IdKind}
 use Rattle.hons_arena.specs.declared.id.IdKind.TheVariants as kind
+use Rattle.hons_arena.specs.HashedIds.{kind_number, kind_from, id_back}
 use Rattle.hons_arena.specs.Ids.{kind_in, number_in, id_numbered, object_at, object_numbered, IsNumberBelow, IsBelow}
 
-id_back : (a : Id) → id_numbered (kind_in a) (number_in a) ≡ a
-id_back (id.Symbol t) = refl
-id_back (id.Text t) = refl
-id_back (id.Cell n) = refl
-
 pub same_id_from : (a b : Id) → kind_in a ≡ kind_in b → number_in a ≡ number_in b → a ≡ b
-same_id_from a b k n = sym (id_back a) ∙ ((λ i. id_numbered (k i) (n i)) ∙ id_back b)
+same_id_from a b k n = sym (id_back a) ∙ ((λ i. id_numbered (kind_from (kind_number (k i))) (n i)) ∙ id_back b)
 
 pub numbered_below : (count : ℕ) (t : IdKind) (n : ℕ) → IsNumberBelow count t n → IsBelow count (id_numbered t n)
 numbered_below count kind.Symbol n h = tt

@@ -3,6 +3,7 @@ pub mod Closed
 pub mod Counting
 pub mod Elements
 pub mod Entering
+pub mod HashedIds
 pub mod Homes
 pub mod Ids
 pub mod Interned

@@ -1,5 +1,6 @@
 pub mod Cells
 pub mod Hash
+pub mod HashedIds
 pub mod Held
 pub mod Ids
 pub mod Parts

@@ -27,6 +27,7 @@
 mod arena;
 mod cell;
 mod hash;
+mod hashed_id;
 mod id;
 pub mod laws;
 mod place;
@@ -35,5 +36,6 @@ mod slots;
 mod tree_of;
 
 pub use arena::HonsArena;
+pub use hashed_id::{HashedId, kind_number};
 pub use id::{Full, Id, IdKind, Kind, Mark};
 pub use tree_of::TreeFault;

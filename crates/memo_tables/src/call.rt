@@ -4,9 +4,8 @@ ghost use Rattle.std.specs.Prelude.{◌≡◌, ◌≤◌, length, IfOk, IsOk};
 ghost use Rattle.std.specs.Cmp.{partial_equiv_from_equiv};
 ghost use Rattle.memo_tables.specs.Keys.{call_eq, call_fed, call_equiv, call_alike};
 
-use crate::argument::Argument;
 use gl_logic::{FnId, NoMemory};
-use hons_arena::Id;
+use hons_arena::{HashedId, Id};
 use smallvec::SmallVec;
 use std::alloc::Global;
 use std::hash::{Hash, Hasher};
@@ -20,7 +19,7 @@ const PLACES: usize = 4;
 #[derive(Drop)]
 pub struct MemoCall {
     function: u64,
-    arguments: SmallVec<Argument, PLACES>,
+    arguments: SmallVec<HashedId, PLACES>,
 }
 
 impl Model for MemoCall {
@@ -39,7 +38,7 @@ impl MemoCall {
     {
         let mut arguments = SmallVec::with_capacity(alloc, args.len())?;
         for id in args {
-            arguments.push_reserved(Argument { id: *id });
+            arguments.push_reserved(HashedId { id: *id });
         }
         Ok(MemoCall {
             function: f.number,

@@ -3,7 +3,6 @@
 //! Tests: the crate `arena_tests`.
 #![tactic(auto)]
 
-mod argument;
 mod call;
 mod tables;
 
