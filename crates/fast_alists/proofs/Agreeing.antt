@@ -10,11 +10,11 @@ use Rattle.hons_arena.specs.Ids.{object_at, IsLive, IsIdOf}
 use Rattle.hons_arena.proofs.Placing.{id_kept}
 use Rattle.fast_alists.specs.declared.extend.Longer.{Longer}
 use Rattle.fast_alists.specs.Alists.{first_pair}
-use Rattle.fast_alists.specs.Keys.{id_eq}
+use Rattle.hons_arena.specs.HashedIds.{id_eq}
 use Rattle.fast_alists.specs.Latest.{HandsOn}
 use Rattle.fast_alists.specs.Longer.{IsLonger}
 use Rattle.fast_alists.specs.Tables.{pair_in, table_in, IsTable, HasTable, Agree, PutsPair, SetsTable, TakesOver}
-use Rattle.fast_alists.proofs.Equal.{id_same, id_itself}
+use Rattle.hons_arena.proofs.HashedIds.{id_same, id_itself}
 use Rattle.fast_alists.proofs.Pairs.{none_some, some_same, cond_true, cond_false}
 use Rattle.fast_alists.proofs.Covering.{OneId, extended, lacks}
 

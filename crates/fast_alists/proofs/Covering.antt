@@ -7,9 +7,9 @@ use Rattle.gl_logic.proofs.Equality.{equal_from, equal_itself}
 use Rattle.hons_arena.specs.declared.id.Id.{Id}
 use Rattle.hons_arena.specs.Ids.{object_at, IsLive, ArePartsOf}
 use Rattle.fast_alists.specs.Alists.{first_pair, has_key, with_pair}
-use Rattle.fast_alists.specs.Keys.{id_eq}
+use Rattle.hons_arena.specs.HashedIds.{id_eq}
 use Rattle.fast_alists.specs.Tables.{pair_in, IsFirst, HasKeyOf, IsTable, Covers, PutsPair}
-use Rattle.fast_alists.proofs.Equal.{id_same, id_itself}
+use Rattle.hons_arena.proofs.HashedIds.{id_same, id_itself}
 use Rattle.fast_alists.proofs.Pairs.{none_some, some_same, cond_true, cond_false, first_here, first_later, first_passed, atom_first}
 
 -- equal objects have one id

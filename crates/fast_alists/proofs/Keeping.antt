@@ -3,10 +3,10 @@ use Rattle.std.proofs.Common.{◌≡◌, ◌∙◌, ap, sym, refl, Bool, true, f
 use Rattle.gl_logic.specs.Object.{Object}
 use Rattle.hons_arena.specs.declared.id.Id.{Id}
 use Rattle.fast_alists.specs.declared.tables.Latest.{Latest}
-use Rattle.fast_alists.specs.Keys.{id_eq, id_equiv}
+use Rattle.hons_arena.specs.HashedIds.{id_eq, id_equiv}
 use Rattle.fast_alists.specs.Latest.{in_front, HandsOn, OthersLack, SameTables}
 use Rattle.fast_alists.specs.Tables.{table_in, Agree, PutsPair, SetsTable}
-use Rattle.fast_alists.proofs.Equal.{id_same, id_itself}
+use Rattle.hons_arena.proofs.HashedIds.{id_same, id_itself}
 use Rattle.fast_alists.proofs.Pairs.{none_some, cond_true, cond_false}
 
 -- ---- a table is taken out

@@ -1,6 +1,5 @@
 pub mod Agreeing
 pub mod Covering
-pub mod Equal
 pub mod Keeping
 pub mod Making
 pub mod Pairs

@@ -1,5 +1,4 @@
 pub mod Alists
-pub mod Keys
 pub mod Latest
 pub mod Longer
 pub mod Makes

@@ -6,7 +6,7 @@ use Rattle.hons_arena.specs.declared.id.Id.{Id}
 use Rattle.hons_arena.specs.Held.{AddsCellsOf}
 use Rattle.hons_arena.specs.Ids.{object_at, IsLive, ArePartsOf}
 use Rattle.fast_alists.specs.Alists.{first_pair}
-use Rattle.fast_alists.specs.Keys.{id_eq}
+use Rattle.hons_arena.specs.HashedIds.{id_eq}
 
 -- the pair that a table has for a key
 abbrev pub pair_in : List (Id × Id) → Id → Option Id

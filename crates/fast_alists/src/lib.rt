@@ -8,7 +8,6 @@ mod alists;
 mod extend;
 mod fault;
 mod fork;
-mod key;
 pub mod laws;
 mod table;
 mod tables;

@@ -3,9 +3,8 @@
 ghost use Rattle.std.specs.Prelude.{◌≡◌, [], OnOk, OnErr};
 ghost use Rattle.fast_alists.specs.Tables.{pair_in, PutsPair};
 
-use crate::key::Key;
 use gl_logic::NoMemory;
-use hons_arena::Id;
+use hons_arena::{HashedId, Id};
 use indexmap::IndexMap;
 use std::alloc::Global;
 use std::marker::Model;
@@ -13,7 +12,7 @@ use std::marker::Model;
 /// The first pairs of a list by their keys. Contracts see the ids of keys and pairs.
 #[derive(Drop)]
 pub struct Table {
-    pairs: IndexMap<Key, Id>,
+    pairs: IndexMap<HashedId, Id>,
 }
 
 impl Model for Table {
@@ -39,7 +38,7 @@ impl Table {
     pub fn pair(&self, key: Id) -> Option<Id>
         ensures { result ≡ pair_in self.now key }
     {
-        self.pairs.get(&Key { id: key }).copied()
+        self.pairs.get(&HashedId { id: key }).copied()
     }
 
     /// Puts a pair in the place of any other with its key.
@@ -47,7 +46,7 @@ impl Table {
         ensures ok { OnOk result (PutsPair self.old self.new key pair) }
         ensures err { OnErr result (self.new ≡ self.old) }
     {
-        self.pairs.insert(Key { id: key }, pair)?;
+        self.pairs.insert(HashedId { id: key }, pair)?;
         Ok(())
     }
 }

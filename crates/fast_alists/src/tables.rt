@@ -6,10 +6,9 @@ ghost use Rattle.gl_logic.specs.Object.{Object};
 ghost use Rattle.fast_alists.specs.Latest.{in_front, HandsOn, SameTables};
 ghost use Rattle.fast_alists.specs.Tables.{Agree, IsTable, SetsTable, table_in};
 
-use crate::key::Key;
 use crate::table::Table;
 use gl_logic::NoMemory;
-use hons_arena::Id;
+use hons_arena::{HashedId, Id};
 use indexmap::IndexMap;
 use std::alloc::Global;
 use std::marker::Model;
@@ -17,7 +16,7 @@ use std::marker::Model;
 /// The table that was kept last, and its list.
 #[derive(Drop)]
 struct Latest {
-    list: Key,
+    list: HashedId,
     table: Table,
 }
 
@@ -26,7 +25,7 @@ struct Latest {
 #[derive(Drop)]
 pub struct Tables {
     latest: Option<Latest>,
-    others: IndexMap<Key, Table>,
+    others: IndexMap<HashedId, Table>,
 }
 
 impl Model for Tables {
@@ -56,7 +55,7 @@ impl Tables {
     pub fn get(&self, list: Id) -> Option<&Table>
         ensures { option_copied result ≡ table_in self.now list }
     {
-        let key = Key { id: list };
+        let key = HashedId { id: list };
         match &self.latest {
             Some(latest) if key == latest.list => Some(&latest.table),
             _ if self.others.is_empty() => None,
@@ -69,7 +68,7 @@ impl Tables {
         ensures table { result ≡ table_in self.old list }
         ensures sets { SetsTable self.old self.new list None }
     {
-        let key = Key { id: list };
+        let key = HashedId { id: list };
         match &self.latest {
             Some(latest) if key == latest.list => self.latest.take().map(|latest| latest.table),
             _ if self.others.is_empty() => None,
@@ -86,7 +85,7 @@ impl Tables {
         let before = self.latest.take();
         put_among(&mut self.others, before)?;
         self.latest = Some(Latest {
-            list: Key { id: list },
+            list: HashedId { id: list },
             table,
         });
         Ok(())
@@ -100,8 +99,8 @@ impl Tables {
         ensures other { IfOk result (λ handed. handed ≡ false → self.new ≡ self.old) }
         ensures err { OnErr result (self.new ≡ self.old) }
     {
-        let shorter = Key { id: list };
-        let longer = Key { id: longer };
+        let shorter = HashedId { id: list };
+        let longer = HashedId { id: longer };
         match &mut self.latest {
             Some(latest) if shorter == latest.list => {
                 latest.table.put(key, pair)?;
@@ -123,7 +122,7 @@ impl Tables {
 }
 
 /// Puts the table that was kept last among the others, which stay as they are after a refusal.
-fn put_among(others: &mut IndexMap<Key, Table>, latest: Option<Latest>) -> Result<(), NoMemory>
+fn put_among(others: &mut IndexMap<HashedId, Table>, latest: Option<Latest>) -> Result<(), NoMemory>
     ensures ok { OnOk result (SameTables (in_front latest others.old.entries) others.new.entries) }
     ensures err { OnErr result (others.new.entries ≡ others.old.entries) }
 {
@@ -134,7 +133,7 @@ fn put_among(others: &mut IndexMap<Key, Table>, latest: Option<Latest>) -> Resul
 }
 
 /// Drops the table that the others have of a list. Nothing is hashed where there are no others.
-fn drop_among(others: &mut IndexMap<Key, Table>, list: Key)
+fn drop_among(others: &mut IndexMap<HashedId, Table>, list: HashedId)
     ensures { SetsTable others.old.entries others.new.entries list None }
 {
     if !others.is_empty() {

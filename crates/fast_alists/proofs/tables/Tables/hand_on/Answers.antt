@@ -1,5 +1,5 @@
 use Rattle.std.proofs.Common.{rules, ◌≡◌, ◌∙◌, ap, sym, subst, true, Some}
-use Rattle.fast_alists.specs.Keys.{id_eq}
+use Rattle.hons_arena.specs.HashedIds.{id_eq}
 use Rattle.fast_alists.specs.Latest.{in_front, OthersLack}
 use Rattle.fast_alists.specs.Tables.{PutsPair}
 use Rattle.fast_alists.proofs.Keeping.{hands_on}

@@ -1,6 +1,6 @@
 use Rattle.std.proofs.Common.{rules, length, ◌≡◌, ◌∙◌, ap, sym, subst, true, false, None, Some, IfSome}
 use Rattle.std.proofs.lemmas.List.{nil_from_length}
-use Rattle.fast_alists.specs.Keys.{id_eq}
+use Rattle.hons_arena.specs.HashedIds.{id_eq}
 use Rattle.fast_alists.specs.Latest.{in_front, OthersLack}
 use Rattle.fast_alists.specs.Tables.{SetsTable, table_in}
 use Rattle.fast_alists.proofs.Keeping.{sets_none, sets_first, sets_other}
