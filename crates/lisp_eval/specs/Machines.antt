@@ -1,12 +1,12 @@
 -- What a machine holds, and what it is for one to fit a world.
-use Rattle.std.specs.Prelude.{◌≡◌, ℕ, zero, suc, ◌<◌, List, length, All, Contains, refl}
+use Rattle.std.specs.Prelude.{◌≡◌, ℕ, ◌<◌, List, length, All, Contains, refl}
 use Rattle.std.specs.Coded.{Coded, code_by, coded×, coded_ℕ, coded_list}
 use Rattle.gl_logic.specs.Object.{Object}
 use Rattle.gl_logic.specs.WorldSeen.{WorldSeen}
 use Rattle.hons_arena.specs.declared.id.Id.{Id}
-use Rattle.hons_arena.specs.declared.id.Id.TheVariants as id
 use Rattle.hons_arena.specs.Held.{Held, coded_held}
-use Rattle.hons_arena.specs.Ids.{number_in, IsLive}
+use Rattle.hons_arena.specs.HashedIds.{coded_id}
+use Rattle.hons_arena.specs.Ids.{IsLive}
 use Rattle.hons_arena.specs.Parts.{AreHeld}
 use Rattle.memo_tables.specs.Calls.{Call}
 use Rattle.lisp_eval.specs.Answers.{FitMemos}
@@ -39,24 +39,6 @@ pub record IsLiveEntry (objects : List Object) (e : Call × Id) : Type 0 where
   pub value : IsLive objects e.1
 
 -- ---- the code
-abbrev pub kind_code : Id → ℕ
-kind_code (id.Symbol t) = 0
-kind_code (id.Text t) = 1
-kind_code (id.Cell n) = 2
-
-abbrev pub id_from : ℕ → ℕ → Id
-id_from zero n = id.Symbol (record { number = n })
-id_from (suc zero) n = id.Text (record { number = n })
-id_from _ n = id.Cell n
-
-abbrev pub id_back : (i : Id) → id_from (kind_code i) (number_in i) ≡ i
-id_back (id.Symbol t) = refl
-id_back (id.Text t) = refl
-id_back (id.Cell n) = refl
-
-abbrev pub coded_id : Coded Id
-coded_id = code_by (ℕ × ℕ) (coded× coded_ℕ coded_ℕ) (λ i. (kind_code i, number_in i)) (λ p. id_from p.0 p.1) id_back
-
 abbrev pub coded_entry : Coded (Call × Id)
 coded_entry =
     code_by ((ℕ × List Id) × Id) (coded× (coded× coded_ℕ (coded_list coded_id)) coded_id) (λ e. ((e.0.function, e.0.arguments), e.1)) (λ p. (record { function = p.0.0; arguments = p.0.1 }, p.1)) (λ _. refl)
