@@ -1,12 +1,11 @@
 -- Constant symbolic objects on their way.
-use Rattle.std.specs.Prelude.{ℕ, zero, suc, Bool, ◌≡◌, List}
+use Rattle.std.specs.Prelude.{ℕ, Bool, ◌≡◌, List}
 use Rattle.bfr_store.specs.declared.meaning.Meaning.{Ghosts}
 use Rattle.gl_logic.specs.Lists.{size_of}
 use Rattle.gl_logic.specs.Object.{Object, Int, Character, Symbol, Text, Cons, nil}
 use Rattle.hons_arena.specs.Ids.{IsLive as IsIdLive, object_at}
 use Rattle.hons_arena.specs.declared.id.Id.{Id}
-use Rattle.hons_arena.specs.declared.id.IdKind.{IdKind}
-use Rattle.hons_arena.specs.declared.id.IdKind.TheVariants as id_kind
+use Rattle.hons_arena.specs.HashedIds.{kind_from}
 use Rattle.hons_arena.specs.Ids.{id_numbered}
 use Rattle.hons_arena.specs.declared.id.Kind.{Kind}
 use Rattle.hons_arena.specs.declared.id.Kind.TheVariants as kind
@@ -37,13 +36,8 @@ object_of_kind (kind.Text t) = Text t.number
 object_of_kind kind.Cons = nil
 
 -- the id that a key means
-abbrev pub kind_at : ℕ → IdKind
-kind_at zero = id_kind.Symbol
-kind_at (suc zero) = id_kind.Text
-kind_at _ = id_kind.Cell
-
 abbrev pub id_of : Key → Id
-id_of k = id_numbered (kind_at k.second) k.first
+id_of k = id_numbered (kind_from k.second) k.first
 
 abbrev pub size_at : List Object → Id → ℕ
 size_at objects id = size_of (object_at objects id)

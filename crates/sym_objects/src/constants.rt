@@ -22,7 +22,7 @@ use super::stack::Stack;
 use super::walk::{Focus, Frame};
 use bfr_store::{Bits, Full};
 use gl_logic::TextId;
-use hons_arena::{HonsArena, Id, IdKind, Kind};
+use hons_arena::{HonsArena, Id, Kind, kind_number};
 use std::alloc::Global;
 
 impl<B: Bits> Sobs<B> {
@@ -55,14 +55,9 @@ impl<B: Bits> Sobs<B> {
 fn key_of(id: Id) -> Key
     ensures { id_of result ≡ id }
 {
-    let second = match id.kind() {
-        IdKind::Symbol => 0,
-        IdKind::Text => 1,
-        IdKind::Cell => 2,
-    };
     Key {
         first: id.number(),
-        second,
+        second: u64::from(kind_number(id.kind())),
     }
 }
 
