@@ -22,12 +22,11 @@ use super::memo::{Memo, key_of};
 use super::nodes::Conses;
 use super::parts::cons;
 use super::simple::simple;
-use super::stack::Stack;
 use super::store_calls::{complement, conjunction, is_unreached};
 use bfr_store::{Bits, Edge};
 use gl_logic::{NoMemory, Prim};
 use std::alloc::Global;
-use sym_objects::{Sob, Sobs};
+use sym_objects::{Sob, Sobs, Stack};
 
 /// The application under another path.
 fn under(task: Task, path: Edge) -> Task

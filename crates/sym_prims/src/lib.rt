@@ -27,7 +27,6 @@ mod operations;
 mod parts;
 mod predicates;
 mod simple;
-mod stack;
 pub mod store_calls;
 mod tests_of_integers;
 
