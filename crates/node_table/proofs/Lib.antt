@@ -1,0 +1,5 @@
+pub mod Buckets
+pub mod Finding
+pub mod Linked
+pub mod Longer
+pub mod Tables
