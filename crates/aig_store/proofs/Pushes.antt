@@ -1,7 +1,7 @@
 -- A node more, and what the store keeps true of its nodes.
-use Rattle.std.proofs.Common.{◌≡◌, ◌≢◌, ◌⊎◌, ℕ, ◌<◌, ◌≤◌, Bool, List, [], ◌∷◌, ◌++◌, length, get_or, refl, ap, ◌∙◌, sym, subst, inl, inr, arith}
-use Rattle.std.proofs.lemmas.List.{get_or_append_left, get_or_push, length_push}
-use Rattle.std.proofs.lemmas.Bool.{cases_lt}
+use Rattle.std.proofs.Common.{◌≡◌, ◌≢◌, ℕ, ◌<◌, ◌≤◌, Bool, List, [], ◌∷◌, ◌++◌, length, refl, ap, ◌∙◌, sym, subst, inl, inr, arith}
+use Rattle.std.proofs.lemmas.List.{length_push}
+use Rattle.node_table.proofs.Longer.{entry-before, entry-last, number_cases, distinct-more}
 use Rattle.bfr_store.specs.declared.edge.Edge.{Edge}
 use Rattle.bfr_store.specs.Edges.{node_of}
 use Rattle.bfr_store.proofs.Values.{truth-append}
@@ -11,41 +11,28 @@ use Rattle.aig_store.specs.Nodes.{Graph, node_at, node_value, truth_of}
 use Rattle.aig_store.specs.Inside.{Extends, IsProper, IsOrdered, IsDistinct}
 
 module _ (nodes : List AigNode) (n : AigNode) where
-  pub node-before : (i : ℕ) → i < length nodes → node_at (nodes ++ n ∷ []) i ≡ node_at nodes i
-  node-before i h = get_or_append_left nodes (n ∷ []) Constant i h
+  node-before : (i : ℕ) → i < length nodes → node_at (nodes ++ n ∷ []) i ≡ node_at nodes i
+  node-before = entry-before Constant nodes n
 
   pub node-last : (i : ℕ) → i ≡ length nodes → node_at (nodes ++ n ∷ []) i ≡ n
-  node-last i h = get_or_push nodes n Constant i (sym h)
+  node-last = entry-last Constant nodes n
 
   pub truth-before : (e : Edge) (a : ℕ → Bool) → node_of e < length nodes → truth_of (nodes ++ n ∷ []) e a ≡ truth_of nodes e a
   unfolding truth_of
   truth-before e a h = truth-append node_value nodes (n ∷ []) e a h
 
-  -- where a number of the longer list lies
-  pub number_cases : (i : ℕ) → i < length (nodes ++ n ∷ []) → (i < length nodes) ⊎ (i ≡ length nodes)
-  number_cases i h = elim (cases_lt i (length nodes)) [ inl below ↦ inl below | inr above ↦ inr (omega (arith, length_push nodes n)) ]
-
   pub ordered-push : (width : ℕ) → IsOrdered nodes width → IsProper width (length nodes) n → IsOrdered (nodes ++ n ∷ []) width
   ordered-push width o p = record {
     some = omega (arith, length_push nodes n);
     first = node-before 0 o.some ∙ o.first;
-    proper = λ i positive within. elim (number_cases i within) [
+    proper = λ i positive within. elim (number_cases nodes n i within) [
       | inl below ↦ subst (IsProper width i) (sym (node-before i below)) (o.proper i positive below)
       | inr last ↦ subst (IsProper width i) (sym (node-last i last)) (subst (λ k. IsProper width k n) (sym last) p)
     ];
   }
 
   pub distinct-push : IsDistinct nodes → ((i : ℕ) → i < length nodes → node_at nodes i ≢ n) → IsDistinct (nodes ++ n ∷ [])
-  distinct-push d absent i j i_in j_in same = elim (number_cases i i_in) [
-    | inl i_below ↦ elim (number_cases j j_in) [
-      | inl j_below ↦ d i j i_below j_below (sym (node-before i i_below) ∙ same ∙ node-before j j_below)
-      | inr j_last ↦ absurd (absent i i_below (sym (node-before i i_below) ∙ same ∙ node-last j j_last))
-    ]
-    | inr i_last ↦ elim (number_cases j j_in) [
-      | inl j_below ↦ absurd (absent j j_below (sym (node-before j j_below) ∙ sym same ∙ node-last i i_last))
-      | inr j_last ↦ i_last ∙ sym j_last
-    ]
-  ]
+  distinct-push = distinct-more Constant nodes n
 
 pub extends-push : (old : Graph) (n : AigNode) → IsOrdered old.nodes old.width → IsDistinct old.nodes → IsProper old.width (length old.nodes) n → ((i : ℕ) → i < length old.nodes → node_at old.nodes i ≢ n) → Extends old (record old { nodes = old.nodes ++ n ∷ [] })
 extends-push old n o d proper absent = record {

@@ -1,6 +1,19 @@
--- Hashes.
-use Rattle.std.specs.Prelude.{ℕ, ◌+◌, ◌*◌, ◌%◌, ◌^◌}
+-- By what a node is found.
+use Rattle.std.specs.Prelude.{ℕ}
+use Rattle.node_table.specs.Hashes.{hash_of}
+use Rattle.aig_store.specs.declared.node.AigNode.{AigNode}
+use Rattle.aig_store.specs.declared.node.AigNode.TheVariants.{Constant, Var, And}
 
--- the hash of two numbers, of 64 bits
-unfoldable pub hash_of : ℕ → ℕ → ℕ
-hash_of first second = (first * 625341585 + second * 1013904223) * 11400714819323198485 % 2 ^ 64
+abbrev pub first_key : AigNode → ℕ
+first_key Constant = 0
+first_key (Var k) = k
+first_key (And x y) = x.number
+
+abbrev pub second_key : AigNode → ℕ
+second_key Constant = 0
+second_key (Var k) = 0
+second_key (And x y) = y.number
+
+-- the hash of a node's words
+unfoldable pub node_hash : AigNode → ℕ
+node_hash n = hash_of (first_key n) (second_key n) 0

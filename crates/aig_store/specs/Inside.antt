@@ -5,7 +5,7 @@ use Rattle.bfr_store.specs.Edges.{node_of}
 use Rattle.aig_store.specs.declared.node.AigNode.{AigNode}
 use Rattle.aig_store.specs.declared.node.AigNode.TheVariants.{Constant, Var, And}
 use Rattle.aig_store.specs.declared.mark.Mark.{Mark}
-use Rattle.aig_store.specs.Nodes.{Graph, IsLive, node_at, truth_of, bucket_of}
+use Rattle.aig_store.specs.Nodes.{Graph, IsLive, node_at, truth_of}
 
 -- the edges of a conjunction that may have this number: neither is constant, the nodes differ, the smaller one is first,
 -- and both have smaller numbers
@@ -39,19 +39,6 @@ pub record Extends (old new : Graph) : Type 0 where
   pub ordered : IsOrdered new.nodes new.width
   pub distinct : IsDistinct new.nodes
 
--- each bucket's chain begins at its greatest node, and leads from each node to the next smaller one of the bucket;
--- 0 ends it
-pub record IsChained (count : ℕ) (nodes : List AigNode) (next heads : List ℕ) : Type 0 where
-  pub one_each : length next ≡ length nodes
-  pub buckets : length heads ≡ count
-  pub some : 0 < count
-  pub from_head : (i : ℕ) → 0 < i → i < length nodes → i ≤ get_or heads (bucket_of count (node_at nodes i)) 0
-  pub from_node : (i j : ℕ) → 0 < i → i < j → j < length nodes → bucket_of count (node_at nodes i) ≡ bucket_of count (node_at nodes j) → i ≤ get_or next j 0
-  pub head_in : (b : ℕ) → b < count → get_or heads b 0 < length nodes
-  pub next_in : (j : ℕ) → 0 < j → j < length nodes → get_or next j 0 < j
-  pub head_bucket : (b : ℕ) → b < count → 0 < get_or heads b 0 → bucket_of count (node_at nodes (get_or heads b 0)) ≡ b
-  pub next_bucket : (j : ℕ) → 0 < j → j < length nodes → 0 < get_or next j 0 → bucket_of count (node_at nodes (get_or next j 0)) ≡ bucket_of count (node_at nodes j)
-
 -- the call of a node's mark
 abbrev pub call_at : List Mark → ℕ → ℕ
 call_at marks i = (get_or marks i (record { call = 0; value = false })).call
@@ -64,10 +51,9 @@ marked_value marks i = (get_or marks i (record { call = 0; value = false })).val
 abbrev pub AreMarkedBy : ℕ → List Mark → Type 0
 AreMarkedBy call marks = (i : ℕ) → i < length marks → call_at marks i ≤ call
 
-pub record IsStore (nodes : List AigNode) (next heads : List ℕ) (marks : List Mark) (calls limit width : ℕ) : Type 0 where
+pub record IsStore (nodes : List AigNode) (marks : List Mark) (calls limit width : ℕ) : Type 0 where
   pub ordered : IsOrdered nodes width
   pub distinct : IsDistinct nodes
-  pub chained : IsChained (length heads) nodes next heads
   pub one_each : length marks ≡ length nodes
   pub marked : AreMarkedBy calls marks
   pub room : length nodes ≤ limit + 1

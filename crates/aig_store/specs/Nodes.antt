@@ -1,11 +1,10 @@
 -- And-inverter graphs: what a node says, and what contracts see of a store.
-use Rattle.std.specs.Prelude.{ℕ, Bool, true, false, ◌&&◌, ◌-◌, ◌*◌, ◌/◌, ◌^◌, ◌≡◌, ◌<◌, ◌⊎◌, List, length, get_or}
+use Rattle.std.specs.Prelude.{ℕ, Bool, true, false, ◌&&◌, ◌-◌, ◌*◌, ◌≡◌, ◌<◌, ◌⊎◌, List, length, get_or}
 use Rattle.bfr_store.specs.declared.edge.Edge.{Edge}
 use Rattle.bfr_store.specs.Edges.{node_of, truth_at}
 use Rattle.bfr_store.specs.Truth.{truth}
 use Rattle.aig_store.specs.declared.node.AigNode.{AigNode}
 use Rattle.aig_store.specs.declared.node.AigNode.TheVariants.{Constant, Var, And}
-use Rattle.aig_store.specs.Hashes.{hash_of}
 
 -- the nodes, of which the first is the constant true; how many there may be besides it; one more than the greatest
 -- variable that was made, or 0
@@ -57,18 +56,3 @@ IsPair x y n = (n ≡ And x y) ⊎ (n ≡ And y x)
 -- no two nodes are the conjunction of the same two edges
 abbrev pub HoldsPairsOnce : List AigNode → Type 0
 HoldsPairsOnce nodes = (x y : Edge) (i j : ℕ) → i < length nodes → j < length nodes → IsPair x y (node_at nodes i) → IsPair x y (node_at nodes j) → i ≡ j
-
--- by what a node is found
-abbrev pub first_key : AigNode → ℕ
-first_key Constant = 0
-first_key (Var k) = k
-first_key (And x y) = x.number
-
-abbrev pub second_key : AigNode → ℕ
-second_key Constant = 0
-second_key (Var k) = 0
-second_key (And x y) = y.number
-
--- the bucket that a node is kept in, of so many
-unfoldable pub bucket_of : ℕ → AigNode → ℕ
-bucket_of count n = hash_of (first_key n) (second_key n) * count / 2 ^ 64

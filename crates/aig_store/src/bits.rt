@@ -42,6 +42,7 @@ impl Aig {
         ensures live { IsLive self.now result }
         ensures truth { (a : ℕ → Bool) → truth_of self.now.nodes result a ≡ b }
     {
+        // Read for what it tells of the nodes: they are in order, and no two are equal.
         let _width = self.width_of();
         if b { TRUE } else { FALSE }
     }
@@ -88,6 +89,7 @@ impl Aig {
         ensures held { (i : ℕ) → i < length self.old.nodes → IsPair x y (node_at self.old.nodes i) → (result ≡ Ok (edge_at i)) × (self.new ≡ self.old) }
         ensures added { IfOk result (λ r. count_of self.old < count_of self.new → IsPair x y (node_at self.new.nodes (node_of r)) × (r ≡ edge_at (node_of r))) }
     {
+        // Read for what it tells of the nodes: they are in order, and no two are equal.
         let _width = self.width_of();
         self.both(x, y)
     }
@@ -101,6 +103,7 @@ impl Aig {
         ensures makes { Makes ⟦<Aig as Meaning>⟧ self.old self.new result (λ a. cond (truth_of self.old.nodes t a) (truth_of self.old.nodes x a) (truth_of self.old.nodes y a)) }
         ensures three_more { count_of self.new ≤ count_of self.old + 3 }
     {
+        // Read for what it tells of the nodes: they are in order, and no two are equal.
         let _width = self.width_of();
         self.choose(t, x, y)
     }
@@ -121,7 +124,6 @@ impl Aig {
         ensures count { result ≡ count_of self.now }
         ensures within { result ≤ self.now.limit }
     {
-        let _limit = self.limit_of();
         self.len() - 1
     }
 
@@ -177,6 +179,7 @@ impl Aig {
         ensures number { result ≡ node_of e }
         ensures within { result ≤ self.now.limit }
     {
+        // Read for what it tells of the count of nodes: it is at most the limit and one.
         let _limit = self.limit_of();
         e.node()
     }

@@ -20,12 +20,10 @@
 #![tactic(auto)]
 
 mod bits;
-pub mod hash;
 pub mod mark;
 pub mod node;
 mod operations;
 pub mod store;
-mod tables;
 pub mod walk;
 
 pub use node::AigNode;

@@ -1,10 +1,9 @@
 //! Nodes of and-inverter graphs.
 
-ghost use Rattle.std.specs.Prelude.{◌≡◌, ◌<◌, ◌↔◌, IsTrue};
-ghost use Rattle.aig_store.specs.Nodes.{bucket_of};
+ghost use Rattle.aig_store.specs.Hashes.{node_hash};
 
-use super::hash::{hash, spread};
 use bfr_store::Edge;
+use node_table::{Interned, hash};
 
 /// The constant true.
 pub const TRUE: Edge = Edge { number: 0 };
@@ -23,11 +22,22 @@ pub enum AigNode {
     And(Edge, Edge),
 }
 
-impl AigNode {
-    /// Whether the two are one.
-    pub fn is(self, other: AigNode) -> bool
-        ensures { IsTrue result ↔ (self ≡ other) }
-    {
+impl Interned for AigNode {
+    ghost hash_of = { node_hash };
+
+    #[inline]
+    #[tactic(auto, unfolding(crate::specs::Hashes::node_hash))]
+    fn hash(self) -> u64 {
+        let (first, second) = match self {
+            AigNode::Constant => (0, 0),
+            AigNode::Var(k) => (k, 0),
+            AigNode::And(x, y) => (x.number, y.number),
+        };
+        hash(first, second, 0)
+    }
+
+    #[inline]
+    fn is(self, other: AigNode) -> bool {
         match (self, other) {
             (AigNode::Constant, AigNode::Constant) => true,
             (AigNode::Var(j), AigNode::Var(k)) => j == k,
@@ -36,21 +46,5 @@ impl AigNode {
             }
             _ => false,
         }
-    }
-
-    /// The bucket that the node is kept in, of `count`.
-    #[inline]
-    #[tactic(auto, unfolding(crate::specs::Nodes::bucket_of))]
-    pub fn bucket(self, count: usize) -> usize
-        requires { 0 < count }
-        ensures bucket { result ≡ bucket_of count self }
-        ensures within { result < count }
-    {
-        let (first, second) = match self {
-            AigNode::Constant => (0, 0),
-            AigNode::Var(k) => (k, 0),
-            AigNode::And(x, y) => (x.number, y.number),
-        };
-        spread(hash(first, second), count)
     }
 }

@@ -51,6 +51,7 @@ impl Aig {
         ensures added { IfOk result (λ r. length self.old.nodes < length self.new.nodes → IsPair x y (node_at self.new.nodes (node_of r)) × (r ≡ edge_at (node_of r))) }
         ensures full { OnErr result (length self.new.nodes ≡ self.new.limit + 1) }
     {
+        // Read for what it tells of the nodes: they are in order, and no two are equal.
         let _width = self.width_of();
         if let Some(known) = conjunction_of(x, y) {
             return Ok(known);
@@ -89,6 +90,7 @@ impl Aig {
         ensures three_more { length self.new.nodes ≤ length self.old.nodes + 3 }
         ensures full { OnErr result (length self.new.nodes ≡ self.new.limit + 1) }
     {
+        // Read for what it tells of the nodes: they are in order, and no two are equal.
         let _width = self.width_of();
         if x.number == y.number {
             return Ok(x);

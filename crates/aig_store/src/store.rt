@@ -4,10 +4,10 @@ ghost use Rattle.std.specs.Prelude.{◌≡◌, ◌≢◌, ◌≤◌, ◌<◌, �
 
 use super::mark::Mark;
 use super::node::AigNode;
-use super::tables::chain;
 use super::walk::{evaluate, next_call};
 use bfr_store::{Edge, Full};
 use gl_logic::{Assignment, NoMemory};
+use node_table::NodeTable;
 use std::alloc::Global;
 use std::marker::Model;
 
@@ -17,11 +17,7 @@ pub struct Aig {
     limit: u32,
     width: u32,
     /// The nodes. The first is the constant true.
-    nodes: Vec<AigNode>,
-    /// For each node the next one of its bucket, or 0.
-    next: Vec<u32>,
-    /// The first node of each bucket, or 0.
-    heads: Vec<u32>,
+    nodes: NodeTable<AigNode>,
     /// For each node what the last walk that came to it found.
     marks: Vec<Mark>,
     /// The nodes that a walk is at.
@@ -31,19 +27,16 @@ pub struct Aig {
 }
 
 impl Model for Aig {
-    ghost use Rattle.std.specs.Prelude.{◌+◌, ◌≤◌, vec_capacity};
+    ghost use Rattle.std.specs.Prelude.{◌≡◌, ◌+◌, ◌≤◌, vec_capacity};
     ghost use Rattle.aig_store.specs.Nodes.{Graph};
     ghost use Rattle.aig_store.specs.Inside.{IsStore};
 
     ghost Value = { Graph };
 
-    ghost view = { λ g. record { nodes = g.nodes.items; limit = g.limit; width = g.width } };
+    ghost view = { λ g. record { nodes = g.nodes.nodes; limit = g.limit; width = g.width } };
 
-    ghost invariant = { λ g. IsStore g.nodes.items g.next.items g.heads.items g.marks.items g.calls g.limit g.width × (g.limit + 1 ≤ vec_capacity g.nodes) × (g.limit + 1 ≤ vec_capacity g.next) × (g.limit + 1 ≤ vec_capacity g.marks) × (g.limit + 1 ≤ vec_capacity g.stack) × (g.limit ≤ 1000000000) };
+    ghost invariant = { λ g. IsStore g.nodes.nodes g.marks.items g.calls g.limit g.width × (g.nodes.room ≡ g.limit + 1) × (g.limit + 1 ≤ vec_capacity g.marks) × (g.limit + 1 ≤ vec_capacity g.stack) × (g.limit ≤ 1000000000) };
 }
-
-/// How many buckets a new store has at most.
-const FIRST_PLACES: usize = 1024;
 
 impl Aig {
     ghost use Rattle.gl_logic.specs.Assignments.{value_at};
@@ -55,21 +48,16 @@ impl Aig {
         requires { limit ≤ 1000000000 }
         ensures { IfOk result (λ g. g ≡ record { nodes = AigNode.Constant ∷ []; limit = limit; width = 0 }) }
     {
+        let mut nodes = NodeTable::new(alloc, limit + 1)?;
+        nodes.push(AigNode::Constant);
         let room = limit as usize + 1;
-        let mut nodes = Vec::with_capacity(alloc, room)?;
-        nodes.push(AigNode::Constant)?;
-        let mut next = Vec::with_capacity(alloc, room)?;
-        let mut heads = Vec::with_capacity(alloc, room)?;
-        chain(&nodes, &mut next, &mut heads, room.min(FIRST_PLACES));
         let mut marks = Vec::with_capacity(alloc, room)?;
-        marks.push(Mark::blank())?;
+        marks.push_reserved(Mark::blank());
         let stack = Vec::with_capacity(alloc, room)?;
         Ok(Aig {
             limit,
             width: 0,
             nodes,
-            next,
-            heads,
             marks,
             stack,
             calls: 0,
@@ -100,9 +88,11 @@ impl Aig {
 
     /// How many nodes there are, with the constant's.
     pub(crate) fn len(&self) -> u32
-        ensures { result ≡ length self.now.nodes }
+        ensures len { result ≡ length self.now.nodes }
+        ensures some { 0 < length self.now.nodes }
+        ensures within { length self.now.nodes ≤ self.now.limit + 1 }
     {
-        self.nodes.len() as u32
+        self.nodes.len()
     }
 
     /// The node of this number.
@@ -111,7 +101,7 @@ impl Aig {
         ensures node { result ≡ node_at self.now.nodes number }
         ensures ordered { IsOrdered self.now.nodes self.now.width }
     {
-        self.nodes[number as usize]
+        self.nodes.node(number)
     }
 
     /// The number of a node that is not the constant's.
@@ -120,14 +110,7 @@ impl Aig {
         ensures found { IfSome result (λ n. (0 < n) × (n < length self.now.nodes) × (node_at self.now.nodes n ≡ node)) }
         ensures absent { IfNone result ((i : ℕ) → i < length self.now.nodes → node_at self.now.nodes i ≢ node) }
     {
-        let mut at = self.heads[node.bucket(self.heads.len())];
-        while at != 0 {
-            if self.nodes[at as usize].is(node) {
-                return Some(at);
-            }
-            at = self.next[at as usize];
-        }
-        None
+        self.nodes.find(node)
     }
 
     /// Adds a node, for which there is room and which is not there.
@@ -138,44 +121,9 @@ impl Aig {
         ensures number { result ≡ length self.old.nodes }
         ensures added { self.new ≡ record self.old { nodes = self.old.nodes ++ node ∷ [] } }
     {
-        self.grow_where_full();
-        let number = self.nodes.len() as u32;
-        let bucket = node.bucket(self.heads.len());
-        let head = self.heads[bucket];
-        match self.nodes.push(node) {
-            Ok(()) => {}
-            Err(_) => unreachable!(),
-        }
-        match self.next.push(head) {
-            Ok(()) => {}
-            Err(_) => unreachable!(),
-        }
-        match self.marks.push(Mark::blank()) {
-            Ok(()) => {}
-            Err(_) => unreachable!(),
-        }
-        self.heads[bucket] = number;
+        let number = self.nodes.push(node);
+        self.marks.push_reserved(Mark::blank());
         number
-    }
-
-    /// Keeps the chains short: there are no more nodes than buckets.
-    #[inline]
-    fn grow_where_full(&mut self)
-        ensures { self.new ≡ self.old }
-    {
-        if self.nodes.len() >= self.heads.len() {
-            self.grow();
-        }
-    }
-
-    /// Makes the buckets twice as many, as far as their room goes.
-    #[cold]
-    fn grow(&mut self)
-        ensures { self.new ≡ self.old }
-    {
-        let twice = self.heads.len().saturating_mul(2);
-        let buckets = twice.min(self.heads.capacity());
-        chain(&self.nodes, &mut self.next, &mut self.heads, buckets);
     }
 
     /// The number of this node, which is added where it is not there.
@@ -218,7 +166,7 @@ impl Aig {
     {
         self.calls = next_call(&mut self.marks, self.calls);
         let says = evaluate(
-            &self.nodes,
+            self.nodes.as_slice(),
             &mut self.marks,
             &mut self.stack,
             self.calls,

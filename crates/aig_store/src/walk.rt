@@ -100,10 +100,7 @@ fn advance(
             marks[number as usize] = Mark { call, value };
             let _top = stack.pop();
         }
-        Step::Below(below) => match stack.push(below) {
-            Ok(()) => {}
-            Err(_) => unreachable!(),
-        },
+        Step::Below(below) => stack.push_reserved(below),
     }
 }
 
@@ -129,10 +126,7 @@ pub fn evaluate(
     ensures room { vec_capacity stack.old ≤ vec_capacity stack.new }
 {
     stack.clear();
-    match stack.push(root) {
-        Ok(()) => {}
-        Err(_) => unreachable!(),
-    }
+    stack.push_reserved(root);
     while !stack.is_empty() {
         advance(nodes, marks, stack, call, a);
     }

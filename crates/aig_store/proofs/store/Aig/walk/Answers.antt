@@ -10,7 +10,7 @@ pub returns-clause-truth : goal.returns-clause-truth
 unfolding truth_of
 returns-clause-truth c =
     let a = value_at c.args.a.now in
-    let nodes_are : c.deref.result.now ≡ c.args.self.now.nodes = c.deref.ensures.value ∙ ap (λ (s : Graph). s.nodes) c.self.view_is in
+    let nodes_are : c.as_slice.result.now ≡ c.args.self.now.nodes = c.as_slice.ensures ∙ ap (λ (s : Graph). s.nodes) c.self.view_is in
     let says : c.evaluate-says.result ≡ value_of c.args.self.now.nodes a (node_of c.args.e) = c.evaluate-says.ensures.value ∙ (λ j. value_of (nodes_are j) a (c.node.ensures j)) in
     elim c.if-is_complemented.branch [
       | then-is_complemented w ↦ w.result-is ∙ ap not says ∙ ap (λ f. xor f (value_of c.args.self.now.nodes a (node_of c.args.e))) (sym w.if-is_complemented.true ∙ c.is_complemented.ensures)
