@@ -1,5 +1,4 @@
 pub mod Canonical
-pub mod Chains
 pub mod Dependence
 pub mod Drawn
 pub mod Finished
@@ -8,6 +7,5 @@ pub mod Nodes
 pub mod Plans
 pub mod Pushes
 pub mod Room
-pub mod Spread
 pub mod Stores
 pub mod Tests

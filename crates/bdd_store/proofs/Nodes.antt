@@ -1,6 +1,6 @@
 -- What a node of an ordered store says.
 use Rattle.std.proofs.Common.{◌≡◌, ◌≢◌, ℕ, ◌+◌, ◌*◌, ◌%◌, ◌<◌, Bool, true, false, cond, eqb, List, [], length, get_or, take, drop, refl, ap, ◌∙◌, sym, subst, inl, inr, arith, eq-eqb, eqb-true}
-use Rattle.std.proofs.lemmas.List.{get_or_read, take-append-drop, length-take}
+use Rattle.std.proofs.lemmas.List.{take-append-drop, length-take}
 use Rattle.std.proofs.lemmas.Bool.{cases_eq, false≢true}
 use Rattle.std.proofs.lemmas.Bool.Decides.{nat_tests}
 use Rattle.bfr_store.specs.declared.edge.Edge.{Edge}
@@ -75,11 +75,6 @@ positive_from_top nodes width o e h = elim (cases_eq (node_of e) 0) [ inl is ↦
 pub same_top : (nodes : List Node) (d e : Edge) → node_of d ≡ node_of e → top_of nodes d ≡ top_of nodes e
 unfolding top_of
 same_top nodes d e is = ap (λ i. (node_at nodes i).variable) is
-
--- what a read of the nodes gives
-pub read_node : (items nodes : List Node) (i : ℕ) (e : Edge) (n : Node) → items ≡ nodes → i ≡ node_of e → node_of e < length nodes → n ≡ get_or items i n → n ≡ node_at nodes (node_of e)
-read_node items nodes i e n is at within read =
-    get_or_read items i n (omega (arith, ap length is)) read constant_node ∙ (λ j. node_at (is j) (at j))
 
 -- at a variable past which the edge's node is, the edge is its own branch
 pub same_branches : (b t : Bool) → t ≡ cond b t t

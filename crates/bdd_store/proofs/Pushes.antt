@@ -1,7 +1,7 @@
 -- A node more, and what the store keeps true of its nodes and tables.
-use Rattle.std.proofs.Common.{◌≡◌, ◌≢◌, ◌⊎◌, ℕ, ◌<◌, ◌≤◌, Bool, cond, List, [], ◌∷◌, ◌++◌, length, get_or, refl, ap, ◌∙◌, sym, subst, inl, inr, arith}
-use Rattle.std.proofs.lemmas.List.{get_or_append_left, get_or_push, length_push}
-use Rattle.std.proofs.lemmas.Bool.{cases_lt}
+use Rattle.std.proofs.Common.{◌≡◌, ◌≢◌, ℕ, ◌<◌, ◌≤◌, Bool, cond, List, [], ◌∷◌, ◌++◌, length, get_or, refl, ap, ◌∙◌, sym, subst, inl, inr, arith}
+use Rattle.std.proofs.lemmas.List.{length_push}
+use Rattle.node_table.proofs.Longer.{entry-before, entry-last, number_cases, distinct-more}
 use Rattle.bfr_store.specs.declared.edge.Edge.{Edge}
 use Rattle.bfr_store.specs.Edges.{node_of}
 use Rattle.bfr_store.proofs.Values.{truth-append}
@@ -11,11 +11,11 @@ use Rattle.bdd_store.specs.Nodes.{Diagrams, past, constant_node, node_at, node_v
 use Rattle.bdd_store.specs.Inside.{Extends, IsBranch, IsOrdered, IsDistinct, IsAnswer, IsComputed}
 
 module _ (nodes : List Node) (n : Node) where
-  pub node-before : (i : ℕ) → i < length nodes → node_at (nodes ++ n ∷ []) i ≡ node_at nodes i
-  node-before i h = get_or_append_left nodes (n ∷ []) constant_node i h
+  node-before : (i : ℕ) → i < length nodes → node_at (nodes ++ n ∷ []) i ≡ node_at nodes i
+  node-before = entry-before constant_node nodes n
 
   pub node-last : (i : ℕ) → i ≡ length nodes → node_at (nodes ++ n ∷ []) i ≡ n
-  node-last i h = get_or_push nodes n constant_node i (sym h)
+  node-last = entry-last constant_node nodes n
 
   pub top-before : (e : Edge) → node_of e < length nodes → top_of (nodes ++ n ∷ []) e ≡ top_of nodes e
   unfolding top_of
@@ -24,10 +24,6 @@ module _ (nodes : List Node) (n : Node) where
   pub truth-before : (e : Edge) (a : ℕ → Bool) → node_of e < length nodes → truth_of (nodes ++ n ∷ []) e a ≡ truth_of nodes e a
   unfolding truth_of
   truth-before e a h = truth-append node_value nodes (n ∷ []) e a h
-
-  -- where a number of the longer list lies
-  pub number_cases : (i : ℕ) → i < length (nodes ++ n ∷ []) → (i < length nodes) ⊎ (i ≡ length nodes)
-  number_cases i h = elim (cases_lt i (length nodes)) [ inl below ↦ inl below | inr above ↦ inr (omega (arith, length_push nodes n)) ]
 
   pub branch-before : (width i : ℕ) (m : Node) → i ≤ length nodes → IsBranch nodes width i m → IsBranch (nodes ++ n ∷ []) width i m
   branch-before width i m h b = record {
@@ -44,7 +40,7 @@ module _ (nodes : List Node) (n : Node) where
   ordered-push width o b = record {
     some = omega (arith, length_push nodes n);
     first = node-before 0 o.some ∙ o.first;
-    branches = λ i positive within. elim (number_cases i within) [
+    branches = λ i positive within. elim (number_cases nodes n i within) [
       | inl below ↦ subst (λ m. IsBranch (nodes ++ n ∷ []) width i m) (sym (node-before i below)) (branch-before width i (node_at nodes i) (omega arith) (o.branches i positive below))
       | inr last ↦ subst (λ m. IsBranch (nodes ++ n ∷ []) width i m) (sym (node-last i last)) (branch-before width i n (omega arith) (subst (λ k. IsBranch nodes width k n) (sym last) b))
     ];
@@ -52,16 +48,7 @@ module _ (nodes : List Node) (n : Node) where
   }
 
   pub distinct-push : IsDistinct nodes → ((i : ℕ) → i < length nodes → node_at nodes i ≢ n) → IsDistinct (nodes ++ n ∷ [])
-  distinct-push d absent i j i_in j_in same = elim (number_cases i i_in) [
-    | inl i_below ↦ elim (number_cases j j_in) [
-      | inl j_below ↦ d i j i_below j_below (sym (node-before i i_below) ∙ same ∙ node-before j j_below)
-      | inr j_last ↦ absurd (absent i i_below (sym (node-before i i_below) ∙ same ∙ node-last j j_last))
-    ]
-    | inr i_last ↦ elim (number_cases j j_in) [
-      | inl j_below ↦ absurd (absent j j_below (sym (node-before j j_below) ∙ sym same ∙ node-last i i_last))
-      | inr j_last ↦ i_last ∙ sym j_last
-    ]
-  ]
+  distinct-push = distinct-more constant_node nodes n
 
   pub answer-push : (e : Entry) → IsAnswer nodes e → IsAnswer (nodes ++ n ∷ []) e
   answer-push e p = record {

@@ -1,6 +1,8 @@
--- Hashes.
-use Rattle.std.specs.Prelude.{ℕ, ◌+◌, ◌*◌, ◌%◌, ◌^◌}
+-- By what a node is found.
+use Rattle.std.specs.Prelude.{ℕ}
+use Rattle.node_table.specs.Hashes.{hash_of}
+use Rattle.bdd_store.specs.declared.node.Node.{Node}
 
--- the hash of three numbers, of 64 bits
-unfoldable pub hash_of : ℕ → ℕ → ℕ → ℕ
-hash_of first second third = (first * 625341585 + second * 1013904223 + third * 521288629) * 11400714819323198485 % 2 ^ 64
+-- the hash of a node's words
+unfoldable pub node_hash : Node → ℕ
+node_hash n = hash_of n.variable n.high.number n.low.number

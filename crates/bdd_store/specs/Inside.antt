@@ -1,10 +1,9 @@
 -- What a store keeps true of its nodes and its tables.
-use Rattle.std.specs.Prelude.{ℕ, Bool, cond, min, ◌+◌, ◌*◌, ◌/◌, ◌%◌, ◌^◌, ◌≡◌, ◌≢◌, ◌≤◌, ◌<◌, List, length, get_or}
+use Rattle.std.specs.Prelude.{ℕ, Bool, cond, min, ◌+◌, ◌%◌, ◌≡◌, ◌≢◌, ◌≤◌, ◌<◌, List, length, get_or}
 use Rattle.bfr_store.specs.declared.edge.Edge.{Edge}
 use Rattle.bfr_store.specs.Edges.{node_of}
 use Rattle.bdd_store.specs.declared.node.Node.{Node}
 use Rattle.bdd_store.specs.declared.entry.Entry.{Entry}
-use Rattle.bdd_store.specs.Hashes.{hash_of}
 use Rattle.bdd_store.specs.Nodes.{Diagrams, IsLive, past, constant_node, node_at, top_of, truth_of}
 
 -- a node that may have this number: its edges differ, its high edge is not complemented, and both lead to nodes with
@@ -39,23 +38,6 @@ pub record Extends (old new : Diagrams) : Type 0 where
   pub ordered : IsOrdered new.nodes new.width
   pub distinct : IsDistinct new.nodes
 
--- the bucket that a node is kept in, of so many
-unfoldable pub bucket_of : ℕ → Node → ℕ
-bucket_of count n = hash_of n.variable n.high.number n.low.number * count / 2 ^ 64
-
--- each bucket's chain begins at its greatest node, and leads from each node to the next smaller one of the bucket;
--- 0 ends it
-pub record IsChained (count : ℕ) (nodes : List Node) (next heads : List ℕ) : Type 0 where
-  pub one_each : length next ≡ length nodes
-  pub buckets : length heads ≡ count
-  pub some : 0 < count
-  pub from_head : (i : ℕ) → 0 < i → i < length nodes → i ≤ get_or heads (bucket_of count (node_at nodes i)) 0
-  pub from_node : (i j : ℕ) → 0 < i → i < j → j < length nodes → bucket_of count (node_at nodes i) ≡ bucket_of count (node_at nodes j) → i ≤ get_or next j 0
-  pub head_in : (b : ℕ) → b < count → get_or heads b 0 < length nodes
-  pub next_in : (j : ℕ) → 0 < j → j < length nodes → get_or next j 0 < j
-  pub head_bucket : (b : ℕ) → b < count → 0 < get_or heads b 0 → bucket_of count (node_at nodes (get_or heads b 0)) ≡ b
-  pub next_bucket : (j : ℕ) → 0 < j → j < length nodes → 0 < get_or next j 0 → bucket_of count (node_at nodes (get_or next j 0)) ≡ bucket_of count (node_at nodes j)
-
 -- the entry's answer is its high edge where its test is true, and its low edge elsewhere
 pub record IsAnswer (nodes : List Node) (e : Entry) : Type 0 where
   pub test_live : node_of e.test < length nodes
@@ -72,9 +54,8 @@ pub record IsComputed (nodes : List Node) (entries : List Entry) : Type 0 where
   pub some : 0 < length entries
   pub answers : AreAnswers nodes entries
 
-pub record IsStore (nodes : List Node) (next heads : List ℕ) (entries : List Entry) (limit width : ℕ) : Type 0 where
+pub record IsStore (nodes : List Node) (entries : List Entry) (limit width : ℕ) : Type 0 where
   pub ordered : IsOrdered nodes width
   pub distinct : IsDistinct nodes
-  pub chained : IsChained (length heads) nodes next heads
   pub computed : IsComputed nodes entries
   pub room : length nodes ≤ limit + 1

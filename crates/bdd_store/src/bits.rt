@@ -53,6 +53,7 @@ impl Bits for Bdd {
         ensures truth { (a : ℕ → Bool) → truth_of self.now.nodes result a ≡ b }
         ensures only { IsOnlyEdge self.now result }
     {
+        // Read for what it tells of the nodes: they are in order, and no two are equal.
         let _width = self.width_of();
         if b { TRUE } else { FALSE }
     }
@@ -64,6 +65,7 @@ impl Bits for Bdd {
         ensures truth { (a : ℕ → Bool) → truth_of self.now.nodes result a ≡ not (truth_of self.now.nodes x a) }
         ensures only { IsOnlyEdge self.now result }
     {
+        // Read for what it tells of the nodes: they are in order, and no two are equal.
         let _width = self.width_of();
         x.complement()
     }
@@ -134,6 +136,7 @@ impl Bits for Bdd {
         ensures bits { length out.new ≡ length out.old }
         ensures untouched { result ≢ Ok Decision.Sometimes → out.new ≡ out.old }
     {
+        // Read for what it tells of the nodes: they are in order, and no two are equal.
         let _width = self.width_of();
         if e.number == 1 {
             return Ok(Decision::Never);
@@ -147,7 +150,6 @@ impl Bits for Bdd {
     }
 
     fn count(&self) -> u32 {
-        let _limit = self.limit_of();
         self.len() - 1
     }
 

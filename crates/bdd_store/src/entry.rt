@@ -1,11 +1,11 @@
 //! Entries of the table of finished calls.
 
-ghost use Rattle.std.specs.Prelude.{◌≡◌, ◌<◌, ◌*◌, ◌/◌, ◌^◌, ◌↔◌, IsTrue};
-ghost use Rattle.bdd_store.specs.Hashes.{hash_of};
+ghost use Rattle.std.specs.Prelude.{◌≡◌, ◌<◌, ◌↔◌, IsTrue};
+ghost use Rattle.node_table.specs.Hashes.{bucket_of, hash_of};
 
-use super::hash::{hash, spread};
 use super::node::TRUE;
 use bfr_store::Edge;
+use node_table::{hash, spread};
 
 /// A finished call: `answer` is `high` where `test` is true, and `low` elsewhere.
 #[derive(Clone, Copy)]
@@ -45,7 +45,7 @@ impl Entry {
 /// The place that a call's entry has in a table of `count`.
 pub fn place_of(count: usize, test: Edge, high: Edge, low: Edge) -> usize
     requires { 0 < count }
-    ensures place { result ≡ hash_of test.number high.number low.number * count / 2 ^ 64 }
+    ensures place { result ≡ bucket_of count (hash_of test.number high.number low.number) }
     ensures within { result < count }
 {
     spread(hash(test.number, high.number, low.number), count)

@@ -51,7 +51,6 @@
 
 mod bits;
 pub mod entry;
-pub mod hash;
 pub mod node;
 mod operations;
 pub mod parts;

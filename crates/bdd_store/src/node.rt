@@ -1,11 +1,11 @@
 //! Nodes of decision diagrams.
 
-ghost use Rattle.std.specs.Prelude.{◌≡◌, ◌<◌, ◌↔◌, IsTrue};
+ghost use Rattle.std.specs.Prelude.{◌≡◌};
+ghost use Rattle.bdd_store.specs.Hashes.{node_hash};
 ghost use Rattle.bdd_store.specs.Nodes.{constant_node};
-ghost use Rattle.bdd_store.specs.Inside.{bucket_of};
 
-use super::hash::{hash, spread};
 use bfr_store::Edge;
+use node_table::{Interned, hash};
 
 /// The constant true.
 pub const TRUE: Edge = Edge { number: 0 };
@@ -32,27 +32,21 @@ impl Node {
             low: TRUE,
         }
     }
+}
 
-    /// Whether the two are one.
-    pub fn is(self, other: Node) -> bool
-        ensures { IsTrue result ↔ (self ≡ other) }
-    {
+impl Interned for Node {
+    ghost hash_of = { node_hash };
+
+    #[inline]
+    #[tactic(auto, unfolding(crate::specs::Hashes::node_hash))]
+    fn hash(self) -> u64 {
+        hash(self.variable, self.high.number, self.low.number)
+    }
+
+    #[inline]
+    fn is(self, other: Node) -> bool {
         self.variable == other.variable
             && self.high.number == other.high.number
             && self.low.number == other.low.number
-    }
-
-    /// The bucket that the node is kept in, of `count`.
-    #[inline]
-    #[tactic(auto, unfolding(crate::specs::Inside::bucket_of))]
-    pub fn bucket(self, count: usize) -> usize
-        requires { 0 < count }
-        ensures bucket { result ≡ bucket_of count self }
-        ensures within { result < count }
-    {
-        spread(
-            hash(self.variable, self.high.number, self.low.number),
-            count,
-        )
     }
 }

@@ -48,6 +48,7 @@ impl Bdd {
         ensures unheld { OnErr result (¬ IsHeld self.new (λ a. cond (a variable) (truth_of self.old.nodes high a) (truth_of self.old.nodes low a))) }
         ensures full { OnErr result (length self.new.nodes ≡ self.new.limit + 1) }
     {
+        // Read for what it tells of the nodes: they are in order, and no two are equal.
         let _width = self.width_of();
         if high.number == low.number {
             return Ok(high);
@@ -74,6 +75,7 @@ impl Bdd {
         ensures unheld { OnErr result (¬ IsHeld self.new (λ a. truth_of self.old.nodes x a && truth_of self.old.nodes y a)) }
         ensures full { OnErr result (length self.new.nodes ≡ self.new.limit + 1) }
     {
+        // Read for what it tells of the nodes: they are in order, and no two are equal.
         let _width = self.width_of();
         if let Some(known) = conjunction_of(x, y) {
             return Ok(known);
@@ -124,6 +126,7 @@ impl Bdd {
         ensures unheld { OnErr result (¬ IsHeld self.new (λ a. cond (truth_of self.old.nodes t a) (truth_of self.old.nodes x a) (truth_of self.old.nodes y a))) }
         ensures full { OnErr result (length self.new.nodes ≡ self.new.limit + 1) }
     {
+        // Read for what it tells of the nodes: they are in order, and no two are equal.
         let _width = self.width_of();
         match plan_of(t, x, y) {
             Plan::Known(known) => Ok(known),

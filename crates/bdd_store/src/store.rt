@@ -5,9 +5,10 @@ ghost use Rattle.bfr_store.specs.Edges.{node_of};
 
 use super::entry::{Entry, place_of};
 use super::node::{Node, TRUE};
-use super::tables::{chain, widen};
+use super::tables::widen;
 use bfr_store::{Edge, Full};
 use gl_logic::NoMemory;
+use node_table::NodeTable;
 use std::alloc::Global;
 use std::marker::Model;
 
@@ -17,28 +18,24 @@ pub struct Bdd {
     limit: u32,
     width: u32,
     /// The nodes. The first is the constant true.
-    nodes: Vec<Node>,
-    /// For each node the next one of its bucket, or 0.
-    next: Vec<u32>,
-    /// The first node of each bucket, or 0.
-    heads: Vec<u32>,
+    nodes: NodeTable<Node>,
     /// Finished calls. A new one takes the place of an older one.
     computed: Vec<Entry>,
 }
 
 impl Model for Bdd {
-    ghost use Rattle.std.specs.Prelude.{◌+◌, ◌≤◌, vec_capacity};
+    ghost use Rattle.std.specs.Prelude.{◌≡◌, ◌+◌, ◌≤◌};
     ghost use Rattle.bdd_store.specs.Nodes.{Diagrams};
     ghost use Rattle.bdd_store.specs.Inside.{IsStore};
 
     ghost Value = { Diagrams };
 
-    ghost view = { λ b. record { nodes = b.nodes.items; limit = b.limit; width = b.width } };
+    ghost view = { λ b. record { nodes = b.nodes.nodes; limit = b.limit; width = b.width } };
 
-    ghost invariant = { λ b. IsStore b.nodes.items b.next.items b.heads.items b.computed.items b.limit b.width × (b.limit + 1 ≤ vec_capacity b.nodes) × (b.limit + 1 ≤ vec_capacity b.next) × (b.limit ≤ 1000000000) };
+    ghost invariant = { λ b. IsStore b.nodes.nodes b.computed.items b.limit b.width × (b.nodes.room ≡ b.limit + 1) × (b.limit ≤ 1000000000) };
 }
 
-/// How many buckets a new store has at most, and how many finished calls it keeps.
+/// How many finished calls a new store keeps at most.
 const FIRST_PLACES: usize = 1024;
 
 /// How many finished calls a store keeps at most.
@@ -53,20 +50,15 @@ impl Bdd {
         requires { limit ≤ 1000000000 }
         ensures { IfOk result (λ b. b ≡ record { nodes = constant_node ∷ []; limit = limit; width = 0 }) }
     {
+        let mut nodes = NodeTable::new(alloc, limit + 1)?;
+        nodes.push(Node::constant());
         let room = limit as usize + 1;
-        let mut nodes = Vec::with_capacity(alloc, room)?;
-        nodes.push(Node::constant())?;
-        let mut next = Vec::with_capacity(alloc, room)?;
-        let mut heads = Vec::with_capacity(alloc, room)?;
-        chain(&nodes, &mut next, &mut heads, room.min(FIRST_PLACES));
         let mut computed = Vec::with_capacity(alloc, room.min(MOST_ENTRIES))?;
         widen(&mut computed, room.min(FIRST_PLACES));
         Ok(Bdd {
             limit,
             width: 0,
             nodes,
-            next,
-            heads,
             computed,
         })
     }
@@ -93,9 +85,11 @@ impl Bdd {
 
     /// How many nodes there are, with the constant's.
     pub(crate) fn len(&self) -> u32
-        ensures { result ≡ length self.now.nodes }
+        ensures len { result ≡ length self.now.nodes }
+        ensures some { 0 < length self.now.nodes }
+        ensures within { length self.now.nodes ≤ self.now.limit + 1 }
     {
-        self.nodes.len() as u32
+        self.nodes.len()
     }
 
     /// The variable that the edge's node tests; that of a constant is past every other.
@@ -104,7 +98,7 @@ impl Bdd {
         ensures top { result ≡ top_of self.now.nodes e }
         ensures in_width { 0 < node_of e → result < self.now.width }
     {
-        self.nodes[e.node() as usize].variable
+        self.node_of(e).variable
     }
 
     /// The node of an edge.
@@ -114,7 +108,7 @@ impl Bdd {
         ensures ordered { IsOrdered self.now.nodes self.now.width }
         ensures distinct { IsDistinct self.now.nodes }
     {
-        self.nodes[e.node() as usize]
+        self.nodes.node(e.node())
     }
 
     /// What the edge says where the variable is true, and what it says elsewhere. The variable is not past the edge's.
@@ -129,7 +123,7 @@ impl Bdd {
         ensures differ { variable ≡ top_of self.now.nodes e → result.0.number ≢ result.1.number }
         ensures truth { (a : ℕ → Bool) → truth_of self.now.nodes e a ≡ cond (a variable) (truth_of self.now.nodes result.0 a) (truth_of self.now.nodes result.1 a) }
     {
-        let node = self.nodes[e.node() as usize];
+        let node = self.node_of(e);
         if node.variable != variable {
             return (e, e);
         }
@@ -145,6 +139,7 @@ impl Bdd {
         ensures top { top_of self.now.nodes result ≡ (node_at self.now.nodes number).variable }
         ensures truth { (a : ℕ → Bool) → truth_of self.now.nodes result a ≡ cond (a (node_at self.now.nodes number).variable) (truth_of self.now.nodes (node_at self.now.nodes number).high a) (truth_of self.now.nodes (node_at self.now.nodes number).low a) }
     {
+        // Read for what it tells of the nodes: they are in order, and no two are equal.
         let _ = &self.limit;
         Edge::regular(number)
     }
@@ -155,14 +150,7 @@ impl Bdd {
         ensures found { IfSome result (λ n. (0 < n) × (n < length self.now.nodes) × (node_at self.now.nodes n ≡ node)) }
         ensures absent { IfNone result ((i : ℕ) → i < length self.now.nodes → node_at self.now.nodes i ≢ node) }
     {
-        let mut at = self.heads[node.bucket(self.heads.len())];
-        while at != 0 {
-            if self.nodes[at as usize].is(node) {
-                return Some(at);
-            }
-            at = self.next[at as usize];
-        }
-        None
+        self.nodes.find(node)
     }
 
     /// Adds a node, for which there is room and which is not there.
@@ -174,39 +162,24 @@ impl Bdd {
         ensures added { self.new ≡ record self.old { nodes = self.old.nodes ++ node ∷ [] } }
     {
         self.grow_where_full();
-        let number = self.nodes.len() as u32;
-        let bucket = node.bucket(self.heads.len());
-        let head = self.heads[bucket];
-        match self.nodes.push(node) {
-            Ok(()) => {}
-            Err(_) => unreachable!(),
-        }
-        match self.next.push(head) {
-            Ok(()) => {}
-            Err(_) => unreachable!(),
-        }
-        self.heads[bucket] = number;
-        number
+        self.nodes.push(node)
     }
 
-    /// Keeps the chains short: there are no more nodes than buckets.
+    /// The places of finished calls become more with the buckets of the nodes.
     #[inline]
     fn grow_where_full(&mut self)
         ensures { self.new ≡ self.old }
     {
-        if self.nodes.len() >= self.heads.len() {
+        if self.nodes.is_crowded() {
             self.grow();
         }
     }
 
-    /// Makes the buckets twice as many, and the places of finished calls, as far as their room goes.
+    /// Makes the places of finished calls twice as many, as far as their room goes.
     #[cold]
     fn grow(&mut self)
         ensures { self.new ≡ self.old }
     {
-        let twice = self.heads.len().saturating_mul(2);
-        let buckets = twice.min(self.heads.capacity());
-        chain(&self.nodes, &mut self.next, &mut self.heads, buckets);
         let twice = self.computed.len().saturating_mul(2);
         let places = twice.min(self.computed.capacity());
         widen(&mut self.computed, places);

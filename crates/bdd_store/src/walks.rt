@@ -17,6 +17,7 @@ impl Bdd {
         requires width { length a.now ≡ self.now.width }
         ensures { result ≡ truth_of self.now.nodes e (value_at a.now) }
     {
+        // Read for what it tells of the nodes: they are in order, and no two are equal.
         let _width = self.width_of();
         let mut at = e;
         while at.node() != 0 {
@@ -36,6 +37,7 @@ impl Bdd {
         ensures truth { truth_of self.now.nodes e (value_at out.new) ≡ true }
         ensures bits { length out.new ≡ length out.old }
     {
+        // Read for what it tells of the nodes: they are in order, and no two are equal.
         let _width = self.width_of();
         let mut at = e;
         while at.node() != 0 {

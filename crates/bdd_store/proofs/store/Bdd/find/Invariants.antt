@@ -1,9 +1,0 @@
-use Rattle.std.proofs.Common.{length}
-use Rattle.bdd_store.proofs.Chains.{IsPassed}
-use Rattle.bdd_store.proofs.store.Bdd.find.Given as goal
-
-abbrev pub invariant-loop-at : goal.invariant-loop-at
-invariant-loop-at l = IsPassed (length l.self-inside.heads.items) l.self-inside.nodes.items l.node l.at
-
-abbrev pub decreases-loop-at : goal.decreases-loop-at
-decreases-loop-at l = l.at
