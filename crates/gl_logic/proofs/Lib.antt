@@ -40,3 +40,7 @@ pub mod Beside
 pub mod PartsOfWalks
 pub mod CallsAreParts
 pub mod CellCounts
+pub mod NameSets
+pub mod ProperLists
+pub mod TermLists
+pub mod EqualTerms

@@ -42,6 +42,8 @@ pub mod NewNames
 pub mod WorldSeen
 pub mod DefinitionOf
 pub mod Different
+pub mod Wording
+pub mod NameSets
 pub mod Parts
 pub mod Counts
 pub mod CellCounts
