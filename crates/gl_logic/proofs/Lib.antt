@@ -44,3 +44,4 @@ pub mod NameSets
 pub mod ProperLists
 pub mod TermLists
 pub mod EqualTerms
+pub mod GrownTables

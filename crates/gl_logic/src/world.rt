@@ -168,10 +168,8 @@ impl World {
         self.definitions.push(def)?;
         self.cell_bound = self.cell_bound.saturating_add(cells);
         self.definition_index.put(name, number);
-        match self.cliques.push(1) {
-            Ok(()) => Ok(FnId { number }),
-            Err(_) => unreachable!(),
-        }
+        self.cliques.push_reserved(1);
+        Ok(FnId { number })
     }
 
     /// Adds definitions that may call one another. They get numbers from the count of those before on, in
@@ -195,12 +193,10 @@ impl World {
         self.cell_bound = self.cell_bound.saturating_add(cells);
         self.definition_index
             .put_all(self.definitions.as_slice(), first);
-        match self.cliques.push(count) {
-            Ok(()) => Ok(FnId {
-                number: first as u64,
-            }),
-            Err(_) => unreachable!(),
-        }
+        self.cliques.push_reserved(count);
+        Ok(FnId {
+            number: first as u64,
+        })
     }
 
     /// The definition of a name. Takes no memory.

@@ -55,13 +55,13 @@ invariant_of-self-2 c =
     let given : c.args.defs ≡ map definition_of members = sym c.into_items-members.ensures in
     let count : c.len-count.result ≡ length members = search rules in
     let counted : c.len-count.result ≡ length (map definition_of members) = count ∙ sym (length-map members definition_of) in
-    let cliques : c.push.new.self.items ≡ c.self.inside.cliques.items ++ length (map definition_of members) ∷ [] = c.in-Ok.ensures.items ∙ (λ i. c.reserve.ensures.items i ++ counted i ∷ []) in
+    let cliques : c.push_reserved.new.self.items ≡ c.self.inside.cliques.items ++ length (map definition_of members) ∷ [] = c.push_reserved.ensures.items ∙ (λ i. c.reserve.ensures.items i ++ counted i ∷ []) in
     let clique = subst (λ (es : List Definition). IsClique ds es) given (subst (λ (es : List Definition). IsClique es c.args.defs) view c.requires.clique) in
     let more = more_definitions (record { definitions = ds; cliques = c.self.inside.cliques.items; constants = c.self.inside.constants; events = c.self.inside.events })
-    (record { definitions = map definition_of items; cliques = c.push.new.self.items; constants = c.self.inside.constants; events = c.self.inside.events }) (map definition_of members) after refl in
+    (record { definitions = map definition_of items; cliques = c.push_reserved.new.self.items; constants = c.self.inside.constants; events = c.self.inside.events }) (map definition_of members) after refl in
     let cells : c.cells_of_bodies-cells.result ≡ u64_saturate (length (flat_map cells_in (in_bodies (map definition_of members)))) = c.cells_of_bodies-cells.ensures ∙ ap (λ (es : List Def). u64_saturate (length (flat_map cells_in (in_bodies (map definition_of es))))) c.as_slice.ensures.value in
     record {
       index = λ name. c.put_all.ensures name ∙ ap (λ (ns : List ℕ). place_of ns name) (ap numbers_of slice ∙ sym (names_are items));
-      world = subst (λ (es : List Definition). IsWorld es c.push.new.self.items) (sym after) (subst (λ (ns : List ℕ). IsWorld (ds ++ map definition_of members) ns) (sym cliques) (world_push ds c.self.inside.cliques.items (map definition_of members) c.self.invariant.world clique));
+      world = subst (λ (es : List Definition). IsWorld es c.push_reserved.new.self.items) (sym after) (subst (λ (ns : List ℕ). IsWorld (ds ++ map definition_of members) ns) (sym cliques) (world_push ds c.self.inside.cliques.items (map definition_of members) c.self.invariant.world clique));
       cells = omega (arith, more, c.self.invariant.cells, cells, c.saturating_add-self-inside.ensures);
     }
