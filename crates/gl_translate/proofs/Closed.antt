@@ -14,10 +14,12 @@ use Rattle.gl_translate.specs.declared.fault.TermFault.{TermFault}
 use Rattle.gl_translate.specs.declared.fault.TermFault.TheVariants as term_fault
 use Rattle.gl_translate.specs.declared.macros.Macro.{Macro}
 use Rattle.gl_translate.specs.declared.macros.Macro.TheVariants as macro
-use Rattle.gl_translate.specs.Setting.{Setting, has_mark, is_legal, unnamed, spells, spelling}
+use Rattle.gl_translate.specs.Setting.{Setting, is_legal, unnamed, spells, spelling}
+use Rattle.gl_logic.specs.Wording.{has_mark}
 use Rattle.gl_translate.specs.Meaning.{Meaning, fault, literal, symbol, if_form, prim_form, call_form, let_form, prim_call, call_with, count_at, numbered_call, place_call, number_named, named_call}
 use Rattle.gl_translate.specs.Parts.{Part, Binding, all_means}
-use Rattle.gl_translate.specs.Macros.{number, prim1, prim2, of_one, of_two, and_form, or_form, clause_form, cond_form, nested, nested_or, sum_form, list_form, minus_form, append_call, member_call, path_form, option_fault, member_form, the_form, mbe_form, Choice, choice_of, choice_before, is_empty, joined, choices_of, key_test, choices_form, chosen, case_form, matches_all, bound_by, all_bound, are_different, is_declare, body_of, let_bound, let_parts, let_call, let_one, one_after_another, let_star_parts, let_star_call, macro_form}
+use Rattle.gl_translate.specs.Macros.{number, prim1, prim2, of_one, of_two, and_form, or_form, clause_form, cond_form, nested, nested_or, sum_form, list_form, minus_form, append_call, member_call, path_form, option_fault, member_form, the_form, mbe_form, Choice, is_key, choice_of, choice_before, is_empty, joined, choices_of, key_test, choices_form, chosen, case_form, matches_all, bound_by, all_bound, is_declare, body_of, let_bound, let_parts, let_call, let_one, one_after_another, let_star_parts, let_star_call, macro_form}
+use Rattle.gl_logic.specs.NameSets.{are_different}
 use Rattle.gl_translate.specs.Steps.{part_of, binding_of, choice_form, choice_forms}
 use Rattle.gl_translate.specs.Words.{macro_named, prim_named, is_path, letters_of}
 use Rattle.gl_translate.specs.Translation.{meaning, meanings, bindings, parts, if_call, quote_call, of_prim, of_function, of_macro, headed, head_name, list_meaning}
@@ -195,7 +197,7 @@ module _ (s : Setting) (IsFine : Object → Type 0) (P : Meaning → Type 0) (k 
   choice_gives (Cons key rest) None g h = tt
   choice_gives (Cons key rest) (Some []) g h = tt
   choice_gives (Cons key rest) (Some (a ∷ [])) g h = tt
-  choice_gives (Cons key rest) (Some (a ∷ v ∷ [])) g h = elim (is_nil key || has_mark key) as (λ b. IfSome (cond b None (Some (key, v))) ChoiceHas) [ true ↦ tt | false ↦ ((k.fine_parts key rest g).0, h.1.0) ]
+  choice_gives (Cons key rest) (Some (a ∷ v ∷ [])) g h = elim (is_key key) as (λ b. IfSome (cond b (Some (key, v)) None) ChoiceHas) [ true ↦ ((k.fine_parts key rest g).0, h.1.0) | false ↦ tt ]
   choice_gives (Cons key rest) (Some (a ∷ v ∷ w ∷ ms)) g h = tt
 
   joined_choices : (last : Bool) (o : Option Choice) (os : Option (List Choice)) → IfSome o ChoiceHas → IfSome os (Every ChoiceHas) → IfSome (joined (choice_before s last) o os) (Every ChoiceHas)

@@ -12,7 +12,8 @@ use Rattle.gl_translate.specs.declared.form.Step.{Step}
 use Rattle.gl_translate.specs.Setting.{Setting}
 use Rattle.gl_translate.specs.Meaning.{Meaning}
 use Rattle.gl_translate.specs.Parts.{Part, Binding, all_means}
-use Rattle.gl_translate.specs.Macros.{elements, nested_or, sum_form, prim2, joined, bound_by, all_bound}
+use Rattle.gl_translate.specs.Macros.{nested_or, sum_form, prim2, joined, bound_by, all_bound}
+use Rattle.gl_logic.specs.Wording.{elements}
 use Rattle.gl_translate.specs.Translation.{meaning, meanings, bindings, parts}
 use Rattle.gl_translate.specs.Steps.{part_of, parts_of, means_of, binding_of, bindings_of, Takes, weight}
 

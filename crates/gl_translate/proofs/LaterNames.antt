@@ -20,10 +20,12 @@ use Rattle.gl_translate.specs.declared.fault.TermFault.TheVariants as term_fault
 use Rattle.gl_translate.specs.declared.macros.Macro.{Macro}
 use Rattle.gl_translate.specs.declared.macros.Macro.TheVariants as macro
 use Rattle.gl_translate.specs.declared.scope.Scope.{Scope}
-use Rattle.gl_translate.specs.Setting.{Setting, spelling, first_byte, is_keyword, has_mark, is_mark, is_starred, is_legal, unnamed, spells}
+use Rattle.gl_translate.specs.Setting.{Setting, spelling, is_keyword, is_legal, unnamed, spells}
+use Rattle.gl_logic.specs.Wording.{first_byte, has_mark, is_mark, is_starred}
 use Rattle.gl_translate.specs.Meaning.{Meaning, fault, within, constant_or, literal, symbol, if_form, let_form}
 use Rattle.gl_translate.specs.Parts.{Part, Binding, all_means}
-use Rattle.gl_translate.specs.Macros.{of_one, path_form, prim2, member_call, is_keyword_object, option_fault, member_form, mbe_form, Choice, choice_of, choice_before, is_empty, joined, matches_all, choices_of, key_test, choices_form, chosen, case_form, bound_by, all_bound, elements, declared_in, is_declared, declare_in, is_declare, body_of, let_bound, let_parts, let_call, let_one, one_after_another, let_star_parts, let_star_call, macro_form}
+use Rattle.gl_translate.specs.Macros.{of_one, path_form, prim2, member_call, is_keyword_object, option_fault, member_form, mbe_form, Choice, is_key, choice_of, choice_before, is_empty, joined, matches_all, choices_of, key_test, choices_form, chosen, case_form, bound_by, all_bound, declared_in, is_declared, declare_in, is_declare, body_of, let_bound, let_parts, let_call, let_one, one_after_another, let_star_parts, let_star_call, macro_form}
+use Rattle.gl_logic.specs.Wording.{elements}
 use Rattle.gl_translate.specs.Words.{macro_named, prim_named, is_path, letters_of}
 use Rattle.gl_translate.specs.Translation.{if_call, of_prim, meaning, meanings, bindings, parts, quote_call, of_function, of_macro, headed, head_name, list_meaning, translation, setting_of, are_in}
 use Rattle.gl_translate.specs.Steps.{part_of, binding_of}
@@ -116,7 +118,7 @@ module _ (names more : List (List ℕ)) (constants : List (ℕ × Object)) (func
   choice_known (Cons key rest) None h = tt
   choice_known (Cons key rest) (Some []) h = tt
   choice_known (Cons key rest) (Some (a ∷ [])) h = tt
-  choice_known (Cons key rest) (Some (a ∷ v ∷ [])) h = elim (is_nil key || has_mark key) as (λ b. IfSome {T = Choice} (cond b None (Some (key, v))) ChoiceKnown) [ true ↦ tt | false ↦ h.0 ]
+  choice_known (Cons key rest) (Some (a ∷ v ∷ [])) h = elim (is_key key) as (λ b. IfSome {T = Choice} (cond b (Some (key, v)) None) ChoiceKnown) [ true ↦ h.0 | false ↦ tt ]
   choice_known (Cons key rest) (Some (a ∷ v ∷ w ∷ ms)) h = tt
 
   joined_same : (last : Bool) (o : Option Choice) (os : Option (List Choice)) → IfSome o ChoiceKnown → joined (choice_before new last) o os ≡ joined (choice_before old last) o os

@@ -1,12 +1,10 @@
 pub mod WholeLists
 pub mod Clauses
-pub mod Bound
 pub mod Sizes
 pub mod Searches
 pub mod Forward
 pub mod Worked
 pub mod Closed
-pub mod Counts
 pub mod Deep
 pub mod Outcomes
 pub mod Pushed

@@ -3,9 +3,6 @@ use Rattle.std.proofs.Common.{◌≡◌, ◌∙◌, ap, sym, refl, ℕ, suc, ◌
 use Rattle.std.specs.Prelude.{bytes_eq}
 use Rattle.std.specs.List.{find, list_any, list_all, position_or_len}
 use Rattle.std.proofs.lemmas.List.{at_drop_more, at_drop_all, reverse-append}
-use Rattle.gl_logic.specs.Object.{Object, Int, Character, Symbol, Text, Cons}
-use Rattle.gl_logic.specs.Lists.{elements_of, tail_of, size_of}
-use Rattle.gl_translate.specs.Setting.{has_mark}
 
 pub find_next : {A : Type 0} (p : A → Bool) (xs : List A) (i : ℕ) (d : A) → i < length xs → p (get_or xs i d) ≡ false → find p (drop i xs) ≡ find p (drop (i + 1) xs)
 find_next p xs i d l e = at_drop_more (find p) xs i d l ∙ ap (λ b. cond b (Some (get_or xs i d)) (find p (drop (i + 1) xs))) e
@@ -21,16 +18,6 @@ pub all_at_end : {A : Type 0} (p : A → Bool) (xs : List A) (i : ℕ) → lengt
 all_at_end p xs i l = at_drop_all (list_all p) xs i l
 
 -- ---- tests
-or_assoc : (a b c : Bool) → (a || (b || c)) ≡ ((b || a) || c)
-or_assoc true true c = refl
-or_assoc true false c = refl
-or_assoc false true c = refl
-or_assoc false false c = refl
-
-pub any_push : {A : Type 0} (p : A → Bool) (xs : List A) (x : A) → list_any p (xs ++ x ∷ []) ≡ (list_any p xs || p x)
-any_push p [] x = elim (p x) as (λ b. (b || false) ≡ b) [ true ↦ refl | false ↦ refl ]
-any_push p (y ∷ ys) x = elim (p y) as (λ b. (b || list_any p (ys ++ x ∷ [])) ≡ ((b || list_any p ys) || p x)) [ true ↦ refl | false ↦ any_push p ys x ]
-
 pub all_push : {A : Type 0} (p : A → Bool) (xs : List A) (x : A) → list_all p (xs ++ x ∷ []) ≡ (list_all p xs && p x)
 all_push p [] x = elim (p x) as (λ b. (b && true) ≡ b) [ true ↦ refl | false ↦ refl ]
 all_push p (y ∷ ys) x = elim (p y) as (λ b. (b && list_all p (ys ++ x ∷ [])) ≡ ((b && list_all p ys) && p x)) [ true ↦ all_push p ys x | false ↦ refl ]
@@ -44,11 +31,3 @@ and_comm false false = refl
 pub all_reverse : {A : Type 0} (p : A → Bool) (xs : List A) → list_all p (reverse xs) ≡ list_all p xs
 all_reverse p [] = refl
 all_reverse p (x ∷ xs) = ap (list_all p) (reverse-append (x ∷ []) xs) ∙ (all_push p (reverse xs) x ∙ (ap (λ b. b && p x) (all_reverse p xs) ∙ and_comm (list_all p xs) (p x)))
-
--- ---- marks in a list's elements and its tail
-pub marks_whole : (x : Object) → has_mark x ≡ (list_any has_mark (elements_of x) || has_mark (tail_of x))
-marks_whole (Int z) = refl
-marks_whole (Character n) = refl
-marks_whole (Symbol n) = refl
-marks_whole (Text n) = refl
-marks_whole (Cons a d) = ap (λ b. has_mark a || b) (marks_whole d) ∙ (or_assoc (has_mark a) (list_any has_mark (elements_of d)) (has_mark (tail_of d)) ∙ ap (λ b. b || has_mark (tail_of d)) (sym (any_push has_mark (elements_of d) a)))

@@ -61,17 +61,3 @@ abbrev mutual
 -- a table gains this text, where it is new, or nothing
 abbrev pub GainsAtMost : List ℕ → List (List ℕ) → List (List ℕ) → Type 0
 GainsAtMost name old new = (new ≡ with_name old name) ⊎ (new ≡ old)
-
--- how many subterms a term has, each place counted
-abbrev mutual
-  pub subterms : Exp → ℕ
-  subterms (Var v) = 1
-  subterms (Const x) = 1
-  subterms (If a b c) = subterms a + (subterms b + subterms c) + 1
-  subterms (Prim p ts) = subterms_of ts + 1
-  subterms (Call f ts) = subterms_of ts + 1
-  subterms (Let vs ts b) = subterms_of ts + subterms b + 1
-
-  pub subterms_of : Exps → ℕ
-  subterms_of Last = 0
-  subterms_of (More t ts) = subterms t + subterms_of ts

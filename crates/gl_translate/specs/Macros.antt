@@ -1,17 +1,19 @@
 -- What each macro means, from its arguments.
 use Rattle.std.specs.Prelude.{ℕ, zero, Bool, true, false, ◌&&◌, ◌||◌, ◌==◌, eqb, nat_lt, if◌then◌else◌, List, [], ◌∷◌, length, map, codes, Option, Some, None, ℤ, pos, negsuc, not}
 use Rattle.std.specs.List.{list_any, list_all}
-use Rattle.std.specs.Option.{option_map}
+use Rattle.std.specs.Option.{option_map, is_some}
 use Rattle.gl_logic.specs.Object.{Object, Int, Symbol, Cons, nil, true_object}
 use Rattle.gl_logic.specs.ObjectEq.{is_nil}
 use Rattle.gl_logic.specs.declared.prim.Primitive.{Primitive}
 use Rattle.gl_logic.specs.declared.prim.Primitive.TheVariants as prim
 use Rattle.gl_logic.specs.PrimValue.{is_cons}
+use Rattle.gl_logic.specs.Wording.{has_mark, elements}
+use Rattle.gl_logic.specs.NameSets.{are_different}
 use Rattle.gl_translate.specs.declared.fault.TermFault.{TermFault}
 use Rattle.gl_translate.specs.declared.fault.TermFault.TheVariants as term_fault
 use Rattle.gl_translate.specs.declared.macros.Macro.{Macro}
 use Rattle.gl_translate.specs.declared.macros.Macro.TheVariants as macro
-use Rattle.gl_translate.specs.Setting.{Setting, is_keyword, has_mark, is_legal, unnamed, spells}
+use Rattle.gl_translate.specs.Setting.{Setting, is_keyword, is_legal, unnamed, spells}
 use Rattle.gl_translate.specs.Meaning.{Meaning, fault, literal, symbol, if_form, prim_form, let_form, numbered_call}
 use Rattle.gl_translate.specs.Parts.{Part, Binding, all_means}
 
@@ -115,12 +117,16 @@ mbe_form s (logic ∷ a ∷ exec ∷ b ∷ []) = if spells s (codes ":LOGIC") lo
 mbe_form s _ = fault term_fault.WrongCount
 
 -- ---- `case`
+-- an atom other than NIL, or a proper list; no mark stands in it
+abbrev pub is_key : Object → Bool
+is_key key = (not (is_cons key) || is_some (elements key)) && not (is_nil key || has_mark key)
+
 -- a key and what it gives
 abbrev pub Choice : Type 0
 Choice = Object × Meaning
 
 abbrev pub choice_of : Object → Option (List Meaning) → Option Choice
-choice_of (Cons key rest) (Some (k ∷ v ∷ [])) = if is_nil key || has_mark key then None else Some (key, v)
+choice_of (Cons key rest) (Some (k ∷ v ∷ [])) = if is_key key then Some (key, v) else None
 choice_of _ _ = None
 
 -- T or OTHERWISE
@@ -168,17 +174,6 @@ bound_by s _ _ = None
 abbrev pub all_bound : Setting → List Binding → Option (List (ℕ × Meaning))
 all_bound s [] = Some []
 all_bound s (b ∷ bs) = joined (λ p ps. Some (p ∷ ps)) (bound_by s b.object b.inside) (all_bound s bs)
-
--- no variable is bound twice
-abbrev pub are_different : List ℕ → Bool
-are_different [] = true
-are_different (v ∷ vs) = not (list_any (eqb v) vs) && are_different vs
-
--- the elements of a proper list
-abbrev pub elements : Object → Option (List Object)
-elements (Symbol zero) = Some []
-elements (Cons x rest) = option_map (λ xs. x ∷ xs) (elements rest)
-elements _ = None
 
 -- `(ignore ..)`, `(ignorable ..)` or `(type ..)`
 abbrev pub declared_in : Setting → Option (List Object) → Bool

@@ -13,7 +13,8 @@ use Rattle.gl_translate.specs.declared.form.Form.{Form}
 use Rattle.gl_translate.specs.declared.form.Form.TheVariants as form
 use Rattle.gl_translate.specs.declared.form.Step.{Step}
 use Rattle.gl_translate.specs.declared.form.Step.TheVariants as step
-use Rattle.gl_translate.specs.Setting.{Setting, has_mark}
+use Rattle.gl_translate.specs.Setting.{Setting}
+use Rattle.gl_logic.specs.Wording.{has_mark}
 use Rattle.gl_translate.specs.Meaning.{Meaning, and_then, fault, literal, symbol, symbol_inside, every_part, if_form, if_parts, prim_form, call_form, let_form, let_inside}
 use Rattle.gl_translate.specs.Parts.{Part, Binding, all_means}
 use Rattle.gl_translate.specs.Macros.{Choice, and_form, or_form, cond_form, list_form, nested_or, path_form, prim1, prim2, number, append_call, choice_of, matches_all, key_test, one_after_another}

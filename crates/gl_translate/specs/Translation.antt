@@ -10,7 +10,8 @@ use Rattle.gl_logic.specs.declared.prim.Primitive.{Primitive}
 use Rattle.gl_translate.specs.declared.fault.TermFault.TheVariants as term_fault
 use Rattle.gl_translate.specs.declared.macros.Macro.{Macro}
 use Rattle.gl_translate.specs.declared.scope.Scope.{Scope}
-use Rattle.gl_translate.specs.Setting.{Setting, spelling, is_mark, has_mark}
+use Rattle.gl_translate.specs.Setting.{Setting, spelling}
+use Rattle.gl_logic.specs.Wording.{is_mark, has_mark}
 use Rattle.gl_translate.specs.Meaning.{Meaning, Outcome, fault, literal, symbol, if_form, prim_call, named_call}
 use Rattle.gl_translate.specs.Parts.{Part, Binding, all_means}
 use Rattle.gl_translate.specs.Words.{macro_named, prim_named, is_path, letters_of}

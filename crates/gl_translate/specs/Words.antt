@@ -7,7 +7,7 @@ use Rattle.gl_logic.specs.declared.prim.Primitive.{Primitive}
 use Rattle.gl_logic.specs.declared.prim.Primitive.TheVariants as prim
 use Rattle.gl_translate.specs.declared.macros.Macro.{Macro}
 use Rattle.gl_translate.specs.declared.macros.Macro.TheVariants as macro
-use Rattle.gl_translate.specs.Setting.{first_byte, last_byte}
+use Rattle.gl_logic.specs.Wording.{first_byte, last_byte}
 
 abbrev pub macro_word : Macro → List ℕ
 macro_word macro.And = codes "AND"

@@ -4,14 +4,15 @@ ghost use Rattle.std.specs.Prelude.{◌≡◌, ◌&&◌, ◌==◌, not, ℕ, IfO
 ghost use Rattle.std.specs.Option.{option_map, is_some};
 ghost use Rattle.gl_logic.specs.PrimValue.{is_cons};
 ghost use Rattle.gl_translate.specs.Setting.{Setting};
-ghost use Rattle.gl_translate.specs.Macros.{cond_form, clause_form, choice_of, choices_of};
+ghost use Rattle.gl_translate.specs.Macros.{cond_form, clause_form, is_key as key_is, choice_of, choices_of};
 ghost use Rattle.gl_translate.specs.Translation.{meaning, meanings};
 ghost use Rattle.gl_translate.specs.Steps.{Takes, IsBelow, means_of, parts_of as parts_in, form_means, weight};
 
-use super::context::{Context, MEMBER_EQUAL, has_mark};
+use super::context::{Context, MEMBER_EQUAL};
 use super::fault::TermFault;
 use super::form::{Form, Step};
 use super::steps::{one, one_name, parts_of, two};
+use gl_logic::wording::has_mark;
 use gl_logic::{Prim, Tree, TreeKind};
 
 /// `(cond ..)`, of these clauses.
@@ -37,12 +38,23 @@ fn clause_step<'f>(clause: &'f Tree, rest: &'f [Tree]) -> Result<Step<'f>, TermF
     }
 }
 
-/// The key of a clause of `case` and the form behind it. NIL is no key, and no mark stands in one.
+/// Whether an object may be a key of `case`: an atom other than NIL, or a proper list. No mark stands in
+/// one.
+fn is_key(object: &Tree) -> bool
+    ensures { result ≡ key_is object.now }
+{
+    if is_list(object) && parts_of(object).is_none() {
+        return false;
+    }
+    !object.is_nil() && !has_mark(object)
+}
+
+/// The key of a clause of `case` and the form behind it.
 fn choice(clause: &Tree) -> Option<(&Tree, &Tree)>
     ensures { (s : Setting) → option_map (λ c. (c.0.now, meaning s c.1.now)) result ≡ choice_of clause.now (meanings s clause.now) }
 {
     match parts_of(clause) {
-        Some([value, key]) if !key.is_nil() && !has_mark(key) => Some((key, value)),
+        Some([value, key]) if is_key(key) => Some((key, value)),
         _ => None,
     }
 }

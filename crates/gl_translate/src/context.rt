@@ -1,15 +1,15 @@
 //! What stays the same while a form is translated.
 
 ghost use Rattle.std.specs.Prelude.{◌≡◌, ◌+◌, ◌^◌, ◌<◌, bytes_eq, List, [], ◌∷◌, ◌++◌, map, length, Some, IfSome, OnOk, IfErr};
-ghost use Rattle.std.specs.List.{position_or_len, list_any};
+ghost use Rattle.std.specs.List.{position_or_len};
 ghost use Rattle.std.specs.Option.{option_map};
 ghost use Rattle.gl_logic.specs.Names.{number_of};
 ghost use Rattle.gl_translate.specs.Translation.{head_name};
-ghost use Rattle.gl_translate.specs.Setting.{first_byte as first_of, last_byte as last_of, is_starred as starred, is_mark as mark_is, has_mark as mark_in};
 
 use super::fault::TermFault;
 use super::own_definitions::Owns;
 use super::scope::Scope;
+use gl_logic::wording::{self, is_mark};
 use gl_logic::{FnId, TextId, Texts, Tree, TreeKind, World};
 use std::alloc::Global;
 
@@ -81,7 +81,7 @@ impl Context<'_> {
     pub(crate) fn is_keyword(&self, name: TextId) -> bool
         ensures { result ≡ keyword_is (setting_in self.now) name.number }
     {
-        first_byte(self.texts.text(name)) == b':'
+        wording::is_keyword(self.texts, name)
     }
 
     /// Whether a symbol is NIL, T or a keyword.
@@ -95,17 +95,14 @@ impl Context<'_> {
     pub(crate) fn is_legal(&self, name: TextId) -> bool
         ensures { result ≡ legal_is (setting_in self.now) name.number }
     {
-        name.number >= 4 && !self.is_keyword(name) && !is_starred(self.texts.text(name))
+        wording::is_legal(self.texts, name)
     }
 
     /// Whether an object is the symbol with this text.
     pub(crate) fn spells(&self, word: &[u8], object: &Tree) -> bool
         ensures { result ≡ is_spelled (setting_in self.now) word.now object.now }
     {
-        match object.kind() {
-            TreeKind::Symbol(name) => self.texts.text(name) == word,
-            _ => false,
-        }
+        wording::spells(self.texts, word, object)
     }
 
     /// The number of the definition of a name: the world's, or else one that is being made.
@@ -170,38 +167,6 @@ impl Context<'_> {
     }
 }
 
-/// The first byte, and 0 where there is none.
-fn first_byte(bytes: &[u8]) -> u8
-    ensures { result ≡ first_of bytes.now }
-{
-    if bytes.is_empty() { 0 } else { bytes[0] }
-}
-
-/// The last byte, and 0 where there is none.
-fn last_byte(bytes: &[u8]) -> u8
-    ensures { result ≡ last_of bytes.now }
-{
-    if bytes.is_empty() {
-        0
-    } else {
-        bytes[bytes.len() - 1]
-    }
-}
-
-/// Whether a name both begins and ends with `*`.
-fn is_starred(bytes: &[u8]) -> bool
-    ensures { result ≡ starred bytes.now }
-{
-    first_byte(bytes) == b'*' && last_byte(bytes) == b'*'
-}
-
-/// Whether a symbol is the mark of backquote or of comma.
-fn is_mark(name: TextId) -> bool
-    ensures { result ≡ mark_is name.number }
-{
-    name.number == 2 || name.number == 3
-}
-
 /// The name of a form's head; None where it is no symbol or a mark.
 pub(crate) fn head_of(head: &Tree) -> Option<TextId>
     ensures { option_map (λ t. t.number) result ≡ head_name head.now }
@@ -210,28 +175,4 @@ pub(crate) fn head_of(head: &Tree) -> Option<TextId>
         TreeKind::Symbol(name) => { if is_mark(name) { None } else { Some(name) } }
         _ => None,
     }
-}
-
-/// Whether a mark stands anywhere inside an object.
-#[cycle(marks)]
-pub(crate) fn has_mark(object: &Tree) -> bool
-    ensures { result ≡ mark_in object.now }
-{
-    match object.kind() {
-        TreeKind::Symbol(name) => is_mark(name),
-        TreeKind::List => have_marks(object.elements()) || has_mark(object.tail()),
-        _ => false,
-    }
-}
-
-#[cycle(marks)]
-fn have_marks(objects: &[Tree]) -> bool
-    ensures { result ≡ list_any mark_in objects.now }
-{
-    for object in objects {
-        if has_mark(object) {
-            return true;
-        }
-    }
-    false
 }

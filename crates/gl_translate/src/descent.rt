@@ -7,12 +7,12 @@ ghost use Rattle.gl_translate.specs.Meaning.{symbol_inside};
 ghost use Rattle.gl_translate.specs.Translation.{are_in};
 ghost use Rattle.gl_translate.specs.declared.form.Step.TheVariants as step;
 ghost use Rattle.gl_translate.specs.Steps.{IsBelow};
-ghost use Rattle.gl_translate.specs.Answers.{Gives, subterms, subterms_of};
+ghost use Rattle.gl_translate.specs.Answers.{Gives};
 
 use super::context::Context;
 use super::fault::TermFault;
 use super::form::{Form, Step};
-use super::walk::Walk;
+use gl_logic::name_set::NameSet;
 use gl_logic::{Names, NoMemory, Term, TextId, Tree};
 
 /// How many forms may stand around a form.
@@ -27,38 +27,40 @@ impl Context<'_> {
         &'f self,
         form: Form<'f>,
         around: u32,
-        walk: &mut Walk,
+        bound: &mut NameSet,
     ) -> Result<Term, TermFault>
         requires { around ≤ 2000 }
-        ensures meant { Gives term_of (form_in self.now form.entry walk.old.bound around) result }
-        ensures bound { OnOk result (walk.new.bound ≡ walk.old.bound) }
-        ensures left { IfOk result (λ t. walk.new.left + subterms (term_of t) ≡ walk.old.left) }
+        ensures meant { Gives term_of (form_in self.now form.entry bound.old around) result }
+        ensures bound { OnOk result (bound.new ≡ bound.old) }
     {
         if around >= DEPTH {
             return Err(TermFault::TooDeep);
         }
         let step = self.step(form)?;
-        walk.count(1)?;
-        self.taken(step, around + 1, walk)
+        self.taken(step, around + 1, bound)
     }
 
     /// The term of a step whose parts stand inside so many forms.
     #[cycle(translate)]
-    fn taken<'f>(&'f self, step: Step<'f>, around: u32, walk: &mut Walk) -> Result<Term, TermFault>
+    fn taken<'f>(
+        &'f self,
+        step: Step<'f>,
+        around: u32,
+        bound: &mut NameSet,
+    ) -> Result<Term, TermFault>
         requires depth { around ≤ 2000 }
         requires other { IsBelow 0 step }
-        ensures meant { Gives term_of (step_in self.now step.entry walk.old.bound around) result }
-        ensures bound { OnOk result (walk.new.bound ≡ walk.old.bound) }
-        ensures left { IfOk result (λ t. walk.new.left + subterms (term_of t) ≡ walk.old.left + 1) }
+        ensures meant { Gives term_of (step_in self.now step.entry bound.old around) result }
+        ensures bound { OnOk result (bound.new ≡ bound.old) }
     {
         match step {
             Step::Constant(object) => Ok(Term::Const(object)),
-            Step::Symbol(name) => self.symbol(name, walk),
-            Step::If(a, b, c) => self.conditional(a, b, c, around, walk),
-            Step::Or(a, b) => self.either(a, b, around, walk),
-            Step::Prim(prim, forms) => Ok(Term::Prim(prim, self.terms(forms, around, walk)?)),
-            Step::Call(f, forms) => Ok(Term::Call(f, self.terms(forms, around, walk)?)),
-            Step::Let(names, values, body) => self.binding(names, values, body, around, walk),
+            Step::Symbol(name) => self.symbol(name, bound),
+            Step::If(a, b, c) => self.conditional(a, b, c, around, bound),
+            Step::Or(a, b) => self.either(a, b, around, bound),
+            Step::Prim(prim, forms) => Ok(Term::Prim(prim, self.terms(forms, around, bound)?)),
+            Step::Call(f, forms) => Ok(Term::Call(f, self.terms(forms, around, bound)?)),
+            Step::Let(names, values, body) => self.binding(names, values, body, around, bound),
             Step::Same(_) => unreachable!(),
         }
     }
@@ -69,16 +71,15 @@ impl Context<'_> {
         &'f self,
         forms: Vec<Form<'f>>,
         around: u32,
-        walk: &mut Walk,
+        bound: &mut NameSet,
     ) -> Result<Vec<Term>, TermFault>
         requires { around ≤ 2000 }
-        ensures meant { Gives (λ ts. map term_of ts.items) (forms_in self.now forms.entry.items walk.old.bound around) result }
-        ensures bound { OnOk result (walk.new.bound ≡ walk.old.bound) }
-        ensures left { IfOk result (λ ts. walk.new.left + subterms_of (terms_of ts.items) ≡ walk.old.left) }
+        ensures meant { Gives (λ ts. map term_of ts.items) (forms_in self.now forms.entry.items bound.old around) result }
+        ensures bound { OnOk result (bound.new ≡ bound.old) }
     {
         let mut terms = Vec::new(self.alloc);
         for form in &forms {
-            terms.push(self.term(*form, around, walk)?)?;
+            terms.push(self.term(*form, around, bound)?)?;
         }
         Ok(terms)
     }
@@ -91,16 +92,15 @@ impl Context<'_> {
         b: Form<'f>,
         c: Form<'f>,
         around: u32,
-        walk: &mut Walk,
+        bound: &mut NameSet,
     ) -> Result<Term, TermFault>
         requires { around ≤ 2000 }
-        ensures meant { Gives term_of (step_in self.now (step.If a.entry b.entry c.entry) walk.old.bound around) result }
-        ensures bound { OnOk result (walk.new.bound ≡ walk.old.bound) }
-        ensures left { IfOk result (λ t. walk.new.left + subterms (term_of t) ≡ walk.old.left + 1) }
+        ensures meant { Gives term_of (step_in self.now (step.If a.entry b.entry c.entry) bound.old around) result }
+        ensures bound { OnOk result (bound.new ≡ bound.old) }
     {
-        let test = self.term(a, around, walk)?;
-        let then = self.term(b, around, walk)?;
-        let otherwise = self.term(c, around, walk)?;
+        let test = self.term(a, around, bound)?;
+        let then = self.term(b, around, bound)?;
+        let otherwise = self.term(c, around, bound)?;
         Ok(self.if_term(test, then, otherwise)?)
     }
 
@@ -112,18 +112,15 @@ impl Context<'_> {
         a: Form<'f>,
         b: Form<'f>,
         around: u32,
-        walk: &mut Walk,
+        bound: &mut NameSet,
     ) -> Result<Term, TermFault>
         requires { around ≤ 2000 }
-        ensures meant { Gives term_of (step_in self.now (step.Or a.entry b.entry) walk.old.bound around) result }
-        ensures bound { OnOk result (walk.new.bound ≡ walk.old.bound) }
-        ensures left { IfOk result (λ t. walk.new.left + subterms (term_of t) ≡ walk.old.left + 1) }
+        ensures meant { Gives term_of (step_in self.now (step.Or a.entry b.entry) bound.old around) result }
+        ensures bound { OnOk result (bound.new ≡ bound.old) }
     {
-        let before = walk.left;
-        let test = self.term(a, around, walk)?;
-        walk.count(before - walk.left)?;
+        let test = self.term(a, around, bound)?;
         let then = test.copy(self.alloc)?;
-        let otherwise = self.term(b, around, walk)?;
+        let otherwise = self.term(b, around, bound)?;
         Ok(self.if_term(test, then, otherwise)?)
     }
 
@@ -135,26 +132,24 @@ impl Context<'_> {
         values: Vec<Form<'f>>,
         body: Form<'f>,
         around: u32,
-        walk: &mut Walk,
+        bound: &mut NameSet,
     ) -> Result<Term, TermFault>
         requires { around ≤ 2000 }
-        ensures meant { Gives term_of (step_in self.now (step.Let names values.entry body.entry) walk.old.bound around) result }
-        ensures bound { OnOk result (walk.new.bound ≡ walk.old.bound) }
-        ensures left { IfOk result (λ t. walk.new.left + subterms (term_of t) ≡ walk.old.left + 1) }
+        ensures meant { Gives term_of (step_in self.now (step.Let names values.entry body.entry) bound.old around) result }
+        ensures bound { OnOk result (bound.new ≡ bound.old) }
     {
-        let terms = self.terms(values, around, walk)?;
-        let count = walk.bound.len();
-        walk.bind(&names)?;
-        let body = self.term(body, around, walk)?;
-        walk.bound.truncate(count);
+        let terms = self.terms(values, around, bound)?;
+        let count = bound.len();
+        bound.insert_all(&names)?;
+        let body = self.term(body, around, bound)?;
+        bound.truncate(count);
         Ok(self.let_term(names, terms, body)?)
     }
 
     /// NIL, T and keywords stand for themselves, a constant for its value, a variable in scope for
     /// itself.
-    fn symbol(&self, name: TextId, walk: &Walk) -> Result<Term, TermFault>
-        ensures meant { Gives term_of (symbol_inside (setting_in self.now) name.number (are_in walk.now.bound)) result }
-        ensures one { IfOk result (λ t. subterms (term_of t) ≡ 1) }
+    fn symbol(&self, name: TextId, bound: &NameSet) -> Result<Term, TermFault>
+        ensures meant { Gives term_of (symbol_inside (setting_in self.now) name.number (are_in bound.now)) result }
     {
         if self.stands_for_itself(name) {
             return Ok(Term::Const(Tree::symbol(name)));
@@ -162,7 +157,7 @@ impl Context<'_> {
         match self.world.constant(name) {
             Some(value) => Ok(Term::Const(value.copy(self.alloc)?)),
             None => {
-                if walk.bound.contains(name) || (self.every && self.is_legal(name)) {
+                if bound.contains(name) || (self.every && self.is_legal(name)) {
                     Ok(Term::Var(name))
                 } else {
                     Err(TermFault::UnboundVariable)

@@ -18,7 +18,7 @@ pub enum TermFault {
     BadUse,
     /// V12: a form stands inside 2,000 others.
     TooDeep,
-    /// Memory was refused, or the term would have more than 16,777,216 subterms.
+    /// Memory was refused.
     Memory,
 }
 

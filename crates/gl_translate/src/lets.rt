@@ -4,32 +4,16 @@ ghost use Rattle.std.specs.Prelude.{◌≡◌, ℕ, ◌+◌, ◌<◌, map, rever
 ghost use Rattle.std.specs.List.{list_all};
 ghost use Rattle.std.specs.Option.{option_map};
 ghost use Rattle.gl_logic.specs.Lists.{size_of};
-ghost use Rattle.gl_translate.specs.Macros.{are_different};
 ghost use Rattle.gl_translate.specs.Translation.{meaning, meanings};
 ghost use Rattle.gl_translate.specs.Steps.{Takes, IsBelow, parts_of as parts_in, bindings_of, form_means, weight};
 
 use super::context::Context;
 use super::fault::TermFault;
 use super::form::{Form, Step};
-use super::name_set::NameSet;
 use super::steps::{one, one_name, parts_of};
+use gl_logic::name_set::are_different;
 use gl_logic::{Names, NoMemory, TextId, Tree, TreeKind};
 use std::alloc::Global;
-
-/// Whether no name stands twice in a list.
-fn differ(alloc: Global, names: &Names) -> Result<bool, NoMemory>
-    ensures { IfOk result (λ b. b ≡ are_different names.now) }
-{
-    let mut seen = NameSet::new(alloc);
-    let mut left = names.len();
-    while left > 0 {
-        left -= 1;
-        if !seen.insert(*names.at(left))? {
-            return Ok(false);
-        }
-    }
-    Ok(true)
-}
 
 impl Context<'_> {
     ghost use Rattle.gl_translate.specs.Macros.{let_call, let_star_call, bound_by as bound_in, all_bound, let_bound, one_after_another, body_of as body_in, is_declare as declare_is, is_declared as declared_is};
@@ -56,7 +40,7 @@ impl Context<'_> {
     {
         match self.all_bound(bindings)? {
             Some((names, values)) => {
-                if differ(self.alloc, &names)? {
+                if are_different(self.alloc, &names)? {
                     Ok(Step::Let(names, values, Form::Book(body)))
                 } else {
                     Err(TermFault::BadUse)

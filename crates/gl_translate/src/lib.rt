@@ -20,13 +20,11 @@ mod form;
 mod form_steps;
 mod lets;
 mod macros;
-mod name_set;
 mod own_definitions;
 mod scope;
 mod steps;
 mod translate;
-mod walk;
-mod words;
+pub mod words;
 
 pub use fault::TermFault;
 pub use macros::Macro;

@@ -8,13 +8,14 @@ ghost use Rattle.gl_logic.specs.declared.prim.Primitive.TheVariants as prim;
 ghost use Rattle.gl_translate.specs.declared.fault.TermFault.TheVariants as term_fault;
 ghost use Rattle.gl_translate.specs.Setting.{Setting};
 ghost use Rattle.gl_translate.specs.Meaning.{prim_call, literal, fault};
-ghost use Rattle.gl_translate.specs.Macros.{and_form, or_form, list_form, path_form, of_one, the_form, sum_form, nested_or, prim1, prim2, elements as elements_in};
+ghost use Rattle.gl_translate.specs.Macros.{and_form, or_form, list_form, path_form, of_one, the_form, sum_form, nested_or, prim1, prim2};
+ghost use Rattle.gl_logic.specs.Wording.{elements as elements_in};
 ghost use Rattle.gl_translate.specs.Translation.{meaning, meanings, bindings, parts, if_call, quote_call};
 ghost use Rattle.gl_translate.specs.Steps.{Takes, IsBelow, means_of, parts_of as parts_in, bindings_of, weight, form_means};
 
-use super::context::has_mark;
 use super::fault::TermFault;
 use super::form::{Form, Step};
+use gl_logic::wording::has_mark;
 use gl_logic::{Names, NoMemory, Prim, TextId, Tree};
 use std::alloc::Global;
 

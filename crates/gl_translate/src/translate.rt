@@ -5,21 +5,21 @@ ghost use Rattle.gl_logic.specs.Names.{Extends, with_name};
 ghost use Rattle.gl_logic.specs.Numbered.{IsNumbered};
 ghost use Rattle.gl_logic.specs.TermOf.{term_of};
 ghost use Rattle.gl_translate.specs.Translation.{translation};
-ghost use Rattle.gl_translate.specs.Answers.{Gives, IsTermWith, HasVariablesOf, IsNarrow, AreNarrow, HasNarrowConstants, GainsAtMost, subterms};
+ghost use Rattle.gl_translate.specs.Answers.{Gives, IsTermWith, HasVariablesOf, IsNarrow, AreNarrow, HasNarrowConstants, GainsAtMost};
 
 use super::context::Context;
 use super::fault::TermFault;
 use super::form::Form;
 use super::scope::Scope;
-use super::walk::Walk;
+use gl_logic::name_set::NameSet;
 use gl_logic::{Term, Texts, Tree, World};
 use std::alloc::Global;
 
 /// The term that a form means in a world and a scope, or its first fault, from the outside in and from
 /// left to right. The macros are those of ACL2's manual; a form inside 2,000 others is too deep.
 ///
-/// Memory is also the answer where the term would have more than 16,777,216 subterms. The table gains
-/// the empty name, which the variable of a `case` has. Recurses at most 2,000 deep.
+/// The table gains the empty name, which the variable of a `case` has. The first part of an `or` stands
+/// in its term twice, so a short form can mean a term of any size. Recurses at most 2,000 deep.
 pub fn term(
     alloc: Global,
     form: &Tree,
@@ -39,13 +39,12 @@ pub fn term(
     ensures variables { IfOk result (λ t. HasVariablesOf texts.new world.now scope.now (term_of t)) }
     ensures narrow { IsNarrow form.now → AreNarrow world.now.constants
         → IfOk result (λ t. HasNarrowConstants (term_of t)) }
-    ensures size { IfOk result (λ t. subterms (term_of t) ≤ 16777216) }
 {
     let unnamed = texts.id_of(b"")?;
-    let mut walk = Walk::new(alloc);
-    walk.bind(&scope.vars)?;
+    let mut bound = NameSet::new(alloc);
+    bound.insert_all(&scope.vars)?;
     match Context::new(alloc, world, scope, texts, unnamed) {
-        Some(context) => context.term(Form::Book(form), 0, &mut walk),
+        Some(context) => context.term(Form::Book(form), 0, &mut bound),
         None => Err(TermFault::Memory),
     }
 }

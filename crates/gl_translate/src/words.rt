@@ -108,7 +108,7 @@ fn macro_word(named: Macro) -> &'static [u8]
     }
 }
 
-pub(crate) fn prim_word(named: Prim) -> &'static [u8]
+pub fn prim_word(named: Prim) -> &'static [u8]
     ensures { result.now ≡ word_of_prim named }
 {
     match named {
@@ -145,7 +145,7 @@ pub(crate) fn prim_word(named: Prim) -> &'static [u8]
 }
 
 /// The macro that a word names.
-pub(crate) fn macro_named(word: &[u8]) -> Option<Macro>
+pub fn macro_named(word: &[u8]) -> Option<Macro>
     ensures { result ≡ named_macro word.now }
 {
     for found in &MACROS {
@@ -157,7 +157,7 @@ pub(crate) fn macro_named(word: &[u8]) -> Option<Macro>
 }
 
 /// The primitive that a word names.
-pub(crate) fn prim_named(word: &[u8]) -> Option<Prim>
+pub fn prim_named(word: &[u8]) -> Option<Prim>
     ensures { result ≡ named_prim word.now }
 {
     for found in &PRIMS {
@@ -169,7 +169,7 @@ pub(crate) fn prim_named(word: &[u8]) -> Option<Prim>
 }
 
 /// Whether a word is one of CAAR to CDDDDR.
-pub(crate) fn is_path(word: &[u8]) -> bool
+pub fn is_path(word: &[u8]) -> bool
     ensures { result ≡ path_is word.now }
 {
     if word.len() < 4 || word.len() > 6 || word[0] != b'C' || word[word.len() - 1] != b'R' {

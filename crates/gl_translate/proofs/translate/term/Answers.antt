@@ -14,8 +14,8 @@ use Rattle.gl_translate.proofs.translate.term.Goals as goal
 pub returns-in-Some-clause-meant : goal.returns-in-Some-clause-meant
 returns-in-Some-clause-meant c =
     let place = setting_of c.id_of.new.self c.args.world.now c.args.scope.now.every c.args.scope.now.own in
-    gives_at term_of (form_means (setting_in c.in-Some.context) (form.Book c.args.form) (are_in c.bind.new.self.bound) 0) (translation c.id_of.new.self c.args.world.now c.args.scope.now c.args.form.now) c.term.result
-    (whole (setting_in c.in-Some.context) place c.args.form.now c.bind.new.self.bound c.args.scope.now.vars c.new-walk.result.bound c.in-Some.ensures.setting c.new-walk.ensures.bound c.in_ok-bind.ensures.bound)
+    gives_at term_of (form_means (setting_in c.in-Some.context) (form.Book c.args.form) (are_in c.insert_all.new.self) 0) (translation c.id_of.new.self c.args.world.now c.args.scope.now c.args.form.now) c.term.result
+    (whole (setting_in c.in-Some.context) place c.args.form.now c.insert_all.new.self c.args.scope.now.vars c.new-bound.result c.in-Some.ensures.setting c.new-bound.ensures c.in_ok-insert_all.ensures.all)
     c.term.ensures.meant
 
 pub returns-in-Some-clause-later : goal.returns-in-Some-clause-later
