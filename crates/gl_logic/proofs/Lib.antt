@@ -45,3 +45,4 @@ pub mod ProperLists
 pub mod TermLists
 pub mod EqualTerms
 pub mod GrownTables
+pub mod TermForms
