@@ -7,9 +7,11 @@ use Rattle.gl_logic.specs.IsAdmissible.{IsAdmissible, is_step, is_member, calls_
 use Rattle.gl_logic.specs.declared.def.Measure.{Measure}
 use Rattle.admission.specs.Signatures.{signature, signature_at}
 use Rattle.admission.specs.Callers.{caller_of}
-use Rattle.admission.specs.Numbers.{behind}
+use Rattle.admission.specs.Numbers.{behind, Counts}
+use Rattle.admission.specs.declared.fault.AdmitFault.{AdmitFault}
+use Rattle.admission.specs.declared.fault.AdmitFault.TheVariants as fault
 use Rattle.admission.specs.Refused.{first_no_step, first_refused}
-use Rattle.admission.specs.Admitted.{settled, settled_measure, with_measures}
+use Rattle.admission.specs.Admitted.{settled, settled_measure, with_measures, TellsRefused}
 use Rattle.admission.proofs.ActualTerms.{drop_get}
 use Rattle.admission.proofs.Numbered.{numbered, body_is, every_step}
 
@@ -46,6 +48,12 @@ pub member_refused : (first : ℕ) (ds : List Definition) (i : ℕ) (d : Definit
     → r ≡ behind (signature_at first (map signature (map settled ds))) d.body (caller_of (settled_measure d) [] []) next → r ≡ Err n
     → refused_from first (map settled ds) i next ≡ whole → Some n ≡ whole
 member_refused first ds i d next n r whole e h q w = sym (member_more first ds i d next r e h ∙ ap (λ (x : Result ℕ ℕ). numbered x (λ k. refused_from first (map settled ds) (i + 1) k)) q) ∙ w
+
+pub member_stops : (first : ℕ) (ds : List Definition) (i : ℕ) (d : Definition) (next : ℕ) (x : AdmitFault) (whole : Option ℕ) → slice_get ds i ≡ Some d
+    → Counts (behind (signature_at first (map signature (map settled ds))) d.body (caller_of (settled_measure d) [] []) next) (Err x)
+    → refused_from first (map settled ds) i next ≡ whole → TellsRefused {A = Unit {0}} (Unit {0}) whole (Err x)
+member_stops first ds i d next (fault.NotAdmitted n) whole e h w = sym (member_refused first ds i d next n (Err n) whole e (sym h) refl w)
+member_stops first ds i d next fault.Memory whole e h w = tt
 
 -- ---- lists that grow member by member
 map_one : {A B : Type 0} (f : A → B) (xs : List A) (i : ℕ) (x : A) → slice_get xs i ≡ Some x → map f (take (suc i) xs) ≡ map f (take i xs) ++ f x ∷ []

@@ -1,8 +1,7 @@
-pub mod TermLists
 pub mod Arguments
 pub mod ActualTerms
-pub mod EqualTerms
 pub mod KnownAt
 pub mod Numbered
+pub mod Counted
 pub mod LoneDefinitions
 pub mod Cliques

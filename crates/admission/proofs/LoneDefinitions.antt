@@ -1,6 +1,6 @@
 -- A definition alone: its verdict, by the numbers of refused calls.
-use Rattle.std.proofs.Common.{◌≡◌, ◌∙◌, ap, sym, refl, ℕ, ◌+◌, List, [], ◌∷◌, ◌++◌, map, drop, Bool, true, false, Option, Some, None, Result, Ok, slice_get}
-use Rattle.std.specs.Prelude.{unwrap_or}
+use Rattle.std.proofs.Common.{◌≡◌, ◌∙◌, ◌↔◌, ap, sym, refl, subst, ℕ, ◌+◌, ◌≤◌, ◌^◌, List, [], ◌∷◌, ◌++◌, map, drop, Bool, true, false, Option, Some, None, Result, Ok, Err, slice_get}
+use Rattle.std.specs.Prelude.{unwrap_or, IfOk}
 use Rattle.gl_logic.specs.Every.{Every}
 use Rattle.gl_logic.specs.Exp.{Exp}
 use Rattle.gl_logic.specs.Definition.{Definition}
@@ -9,11 +9,15 @@ use Rattle.gl_logic.specs.IsAdmissible.{IsAdmissible, Recursive, is_step, is_mem
 use Rattle.gl_logic.specs.declared.def.Measure.{Measure}
 use Rattle.admission.specs.Signatures.{signature_at}
 use Rattle.admission.specs.Callers.{caller_of}
-use Rattle.admission.specs.Numbers.{behind}
-use Rattle.admission.specs.Refused.{after, first_no_step, first_refused}
-use Rattle.admission.specs.Admitted.{count_of, definition, refused_alone, judged, first_formal, number_for_first, measured, verdict}
+use Rattle.admission.specs.Numbers.{behind, come_to, Counts}
+use Rattle.admission.specs.declared.caller.Caller.{Caller}
+use Rattle.admission.specs.declared.fault.AdmitFault.{AdmitFault}
+use Rattle.admission.specs.declared.fault.AdmitFault.TheVariants as fault
+use Rattle.admission.specs.Refused.{first_no_step, first_refused}
+use Rattle.admission.specs.Admitted.{count_of, definition, lone_calls, refused_alone, judged, first_formal, number_for_first, measured, verdict, HasNoCalls, IsAdmissibleAlone, IsBeyond, Tells, TellsRefused}
 use Rattle.admission.proofs.ActualTerms.{drop_get}
 use Rattle.admission.proofs.Numbered.{numbered, body_is, every_step}
+use Rattle.admission.proofs.Counted.{beyond}
 
 -- ---- the number that the program counts to, under any name
 named_number : (f name : ℕ) (formals : List ℕ) (body : Exp) (m : Option Measure) → first_refused f (definition name formals body m ∷ []) ≡ numbered (behind (signature_at f ((formals, m) ∷ [])) body (caller_of m [] []) 1) (λ k. None)
@@ -43,17 +47,14 @@ nothing_mapped : (cs : List Governed) → Every (λ (r : Recursive). r.0 ≡ Non
 nothing_mapped [] = tt
 nothing_mapped (c ∷ cs) = (refl, nothing_mapped cs)
 
-some_refused : (f : ℕ) (ds : List Definition) (rs : List Recursive) → Every (λ r. r.0 ≡ None) rs → first_no_step (is_step f ds) 1 rs ≡ None → rs ≡ []
-some_refused f ds [] h e = refl
-some_refused f ds (r ∷ rs) h e = let q = refuse_first (is_step f ds r) 1 (first_no_step (is_step f ds) (after 1) rs) (unmeasured_at f ds r.0 r.1 h.0) in absurd cc
-
-abbrev pub lone_calls : ℕ → List ℕ → Exp → List Recursive
-lone_calls f formals body = recursive_calls f (definition 0 formals body None ∷ [])
+all_refused : (f : ℕ) (ds : List Definition) (rs : List Recursive) → Every (λ r. r.0 ≡ None) rs → first_no_step (is_step f ds) 1 rs ≡ None → rs ≡ []
+all_refused f ds [] h e = refl
+all_refused f ds (r ∷ rs) h e = let q = refuse_first (is_step f ds r) 1 (first_no_step (is_step f ds) 2 rs) (unmeasured_at f ds r.0 r.1 h.0) in absurd cc
 
 pub no_calls : (f : ℕ) (formals : List ℕ) (body : Exp) → refused_alone f formals body None ≡ None → lone_calls f formals body ≡ []
 no_calls f formals body e =
     let ds = definition 0 formals body None ∷ [] in
-    some_refused f ds (recursive_calls f ds) (nothing_mapped (calls_in (is_member f ds) [] [] body)) e
+    all_refused f ds (recursive_calls f ds) (nothing_mapped (calls_in (is_member f ds) [] [] body)) e
 
 pub has_calls : (f : ℕ) (formals : List ℕ) (body : Exp) (n : ℕ) → refused_alone f formals body None ≡ Some n → lone_calls f formals body ≡ [] → ⊥
 has_calls f formals body n e h =
@@ -107,3 +108,37 @@ formal_hit refused n formals i v whole e h w =
 pub formal_miss : (refused : Option Measure → Option ℕ) (n : ℕ) (formals : List ℕ) (i v k : ℕ) (whole : Result (Option Measure) ℕ) → slice_get formals i ≡ Some v → refused (count_of v) ≡ Some k → first_formal refused n (drop i formals) ≡ whole → first_formal refused n (drop (i + 1) formals) ≡ whole
 formal_miss refused n formals i v k whole e h w =
     sym (formal_here refused n formals i v e ∙ ap (λ (o : Option ℕ). elim o as (λ _. Result (Option Measure) ℕ) [ None ↦ Ok (count_of v) | Some j ↦ first_formal refused n (drop (i + 1) formals) ]) h) ∙ w
+
+-- ---- what is told
+module _ (f : ℕ) (formals : List ℕ) (body : Exp) where
+  abbrev counted : Option Measure → Caller → Result ℕ ℕ
+  counted m s = behind (signature_at f ((formals, m) ∷ [])) body s 1
+
+  pub lone_ok : (m : Option Measure) (s : Caller) (n : ℕ) → s ≡ caller_of m [] [] → counted m s ≡ Ok n → refused_alone f formals body m ≡ None
+  lone_ok m s n e h = sym (lone_number f formals body m (Ok n) (sym h ∙ ap (counted m) e))
+
+  pub lone_err : (m : Option Measure) (s : Caller) (x : AdmitFault) → s ≡ caller_of m [] [] → Counts (counted m s) (Err x) → TellsRefused {A = Unit {0}} (IsBeyond f formals body) (refused_alone f formals body m) (Err x)
+  lone_err m s (fault.NotAdmitted i) e h = sym (lone_number f formals body m (Err i) (sym h ∙ ap (counted m) e))
+  lone_err m s fault.Memory e h = beyond f formals body m (subst (λ (c : Caller). 2 ^ 64 ≤ come_to (counted m c)) e h)
+
+  pub some_refused : (o : Option ℕ) (x : AdmitFault) (k : ℕ) → x ≡ fault.NotAdmitted k → TellsRefused {A = Unit {0}} (IsBeyond f formals body) o (Err x) → o ≡ Some k
+  some_refused o x k e h = subst (λ (y : AdmitFault). TellsRefused {A = Unit {0}} (IsBeyond f formals body) o (Err y)) e h
+
+  pub first_told : (o : Option ℕ) (n : ℕ) (x : AdmitFault) → n ≡ unwrap_or o 1 → TellsRefused {A = Unit {0}} (IsBeyond f formals body) o (Err x) → Tells (IsBeyond f formals body) (Err n) (Err x)
+  first_told o n (fault.NotAdmitted i) e h = ap Err (e ∙ ap (λ (p : Option ℕ). unwrap_or p 1) h)
+  first_told o n fault.Memory e h = h
+
+  module _ (stated : Option Measure) (k : ℕ) (has : refused_alone f formals body None ≡ Some k) where
+    abbrev IsTold : Result (Option Measure) AdmitFault → Type 0
+    IsTold r = Tells (IsBeyond f formals body) (measured (refused_alone f formals body) formals stated) r
+
+    pub told_none : (r : Result (Option Measure) AdmitFault) → IsTold r → IfOk r (λ m. (m ≡ None) ↔ HasNoCalls f formals body)
+    told_none (Ok m) h = let found = measured_found (refused_alone f formals body) formals stated m h in (λ e. absurd (found.1 e), λ e. absurd (has_calls f formals body k has e))
+    told_none (Err x) h = tt
+
+    pub told_admissible : (r : Result (Option Measure) AdmitFault) → IsTold r → IfOk r (λ m. IsAdmissibleAlone f formals body m)
+    told_admissible (Ok m) h = let found = measured_found (refused_alone f formals body) formals stated m h in λ name. none_refused f name formals body m found.0
+    told_admissible (Err x) h = tt
+
+    pub told_verdict : (r : Result (Option Measure) AdmitFault) → IsTold r → Tells (IsBeyond f formals body) (verdict f formals body stated) r
+    told_verdict r h = subst (λ (v : Result (Option Measure) ℕ). Tells (IsBeyond f formals body) v r) (sym (verdict_measured f formals body stated k has)) h

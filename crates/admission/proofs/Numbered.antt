@@ -1,5 +1,5 @@
 -- The number that the program counts to is that of the first call that is refused.
-use Rattle.std.proofs.Common.{◌≡◌, ◌∙◌, ap, sym, refl, ℕ, ◌-◌, List, [], ◌∷◌, ◌++◌, map, Bool, true, false, cond, ltb, Option, Some, None, Result, Ok, Err, slice_get, if◌then◌else◌}
+use Rattle.std.proofs.Common.{◌≡◌, ◌∙◌, ap, sym, refl, ℕ, ◌-◌, ◌+◌, ◌≤◌, arith, length, List, [], ◌∷◌, ◌++◌, map, Bool, true, false, cond, ltb, Option, Some, None, Result, Ok, Err, slice_get, if◌then◌else◌}
 use Rattle.std.specs.Option.{is_some, option_map}
 use Rattle.std.proofs.lemmas.Option.{slice_get-map}
 use Rattle.gl_logic.specs.Every.{Every}
@@ -11,14 +11,14 @@ use Rattle.gl_logic.specs.IsAdmissible.{member_at, is_member, Recursive, calls_o
 use Rattle.gl_logic.specs.declared.def.Measure.{Measure}
 use Rattle.admission.specs.Signatures.{Signature, signature, signature_at}
 use Rattle.admission.specs.Callers.{caller_of, caller_steps}
-use Rattle.admission.specs.Refused.{after, first_no_step}
-use Rattle.admission.specs.Numbers.{go_on, behind_call, behind, behind_all}
+use Rattle.admission.specs.Refused.{first_no_step}
+use Rattle.admission.specs.Numbers.{come_to, go_on, behind_call, behind, behind_all}
 use Rattle.admission.proofs.KnownAt.{caller_noted_is, caller_below_is, caller_steps_is}
 
 -- ---- through a list of calls
 abbrev pub walked : (Governed → Bool) → ℕ → List Governed → Result ℕ ℕ
 walked step n [] = Ok n
-walked step n (c ∷ cs) = elim (step c) [ true ↦ walked step (after n) cs | false ↦ Err n ]
+walked step n (c ∷ cs) = elim (step c) [ true ↦ walked step (n + 1) cs | false ↦ Err n ]
 
 pick_on : (b : Bool) (n : ℕ) (x : Result ℕ ℕ) (f : ℕ → Result ℕ ℕ) → elim b as (λ _. Result ℕ ℕ) [ true ↦ go_on x f | false ↦ Err n ] ≡ go_on (elim b as (λ _. Result ℕ ℕ) [ true ↦ x | false ↦ Err n ]) f
 pick_on true n x f = refl
@@ -26,7 +26,14 @@ pick_on false n x f = refl
 
 walked_append : (s : Governed → Bool) (n : ℕ) (xs ys : List Governed) → walked s n (xs ++ ys) ≡ go_on (walked s n xs) (λ k. walked s k ys)
 walked_append s n [] ys = refl
-walked_append s n (x ∷ xs) ys = (λ i. elim (s x) as (λ _. Result ℕ ℕ) [ true ↦ walked_append s (after n) xs ys i | false ↦ Err n ]) ∙ pick_on (s x) n (walked s (after n) xs) (λ k. walked s k ys)
+walked_append s n (x ∷ xs) ys = (λ i. elim (s x) as (λ _. Result ℕ ℕ) [ true ↦ walked_append s (n + 1) xs ys i | false ↦ Err n ]) ∙ pick_on (s x) n (walked s (n + 1) xs) (λ k. walked s k ys)
+
+pub walked_within : (s : Governed → Bool) (n : ℕ) (cs : List Governed) → come_to (walked s n cs) ≤ n + length cs
+walked_within s n [] = omega arith
+walked_within s n (c ∷ cs) = elim (s c) as (λ b. come_to (elim b as (λ _. Result ℕ ℕ) [ true ↦ walked s (n + 1) cs | false ↦ Err n ]) ≤ n + length (c ∷ cs)) [
+  | true ↦ omega (arith, walked_within s (n + 1) cs)
+  | false ↦ omega arith
+]
 
 goes_same : (x : Result ℕ ℕ) (f g : ℕ → Result ℕ ℕ) → ((n : ℕ) → f n ≡ g n) → go_on x f ≡ go_on x g
 goes_same (Ok n) f g h = h n
@@ -38,8 +45,8 @@ module _ (at : ℕ → Option Signature) (is_one : ℕ → Bool) (m : Option Mea
   call_at : (o : Option Signature) (c : Governed) (n : ℕ) (cs : List Governed) → at c.callee ≡ o → go_on (behind_call o c.actuals (caller_of m c.bound c.facts) n) (λ k. walked s k cs) ≡ walked s n (cond (is_one c.callee) (c ∷ []) [] ++ cs)
   call_at None c n cs e = λ i. walked s n (cond (sym (ones c.callee ∙ ap is_some e) i) (c ∷ []) [] ++ cs)
   call_at (Some g) c n cs e =
-      sym (pick_on (caller_steps (caller_of m c.bound c.facts) g.1 g.0 c.actuals) n (Ok (after n)) (λ k. walked s k cs))
-      ∙ ((λ i. elim (sym (steps c g e ∙ caller_steps_is m g.1 g.0 c) i) as (λ _. Result ℕ ℕ) [ true ↦ walked s (after n) cs | false ↦ Err n ])
+      sym (pick_on (caller_steps (caller_of m c.bound c.facts) g.1 g.0 c.actuals) n (Ok (n + 1)) (λ k. walked s k cs))
+      ∙ ((λ i. elim (sym (steps c g e ∙ caller_steps_is m g.1 g.0 c) i) as (λ _. Result ℕ ℕ) [ true ↦ walked s (n + 1) cs | false ↦ Err n ])
       ∙ (λ i. walked s n (cond (sym (ones c.callee ∙ ap is_some e) i) (c ∷ []) [] ++ cs)))
 
   mutual
@@ -85,8 +92,8 @@ pick_number false n x f = refl
 number_is : (p : Recursive → Bool) (m : Option Measure) (cs : List Governed) (rest : List Recursive) (n : ℕ) → first_no_step p n (map (λ c. (m, c)) cs ++ rest) ≡ numbered (walked (λ c. p (m, c)) n cs) (λ k. first_no_step p k rest)
 number_is p m [] rest n = refl
 number_is p m (c ∷ cs) rest n =
-    (λ i. elim (p (m, c)) as (λ _. Option ℕ) [ true ↦ number_is p m cs rest (after n) i | false ↦ Some n ])
-    ∙ pick_number (p (m, c)) n (walked (λ g. p (m, g)) (after n) cs) (λ k. first_no_step p k rest)
+    (λ i. elim (p (m, c)) as (λ _. Option ℕ) [ true ↦ number_is p m cs rest (n + 1) i | false ↦ Some n ])
+    ∙ pick_number (p (m, c)) n (walked (λ g. p (m, g)) (n + 1) cs) (λ k. first_no_step p k rest)
 
 -- ---- a member, and what its callers see of it
 map_else : (b : Bool) (o : Option Definition) → option_map signature (if b then None else o) ≡ (if b then None else option_map signature o)
@@ -104,16 +111,19 @@ step_seen : (o : Option Definition) (m : Option Measure) (c : Governed) (g : Sig
 step_seen None m c g e = absurd cc
 step_seen (Some d) m c g e = let q : signature d ≡ g = cc in λ i. measure_steps m (q i).1 (q i).0 c
 
+pub behind_walked : (first : ℕ) (ds : List Definition) (d : Definition) (n : ℕ) → behind (signature_at first (map signature ds)) d.body (caller_of d.measure [] []) n ≡ walked (λ c. is_step first ds (d.measure, c)) n (calls_in (is_member first ds) [] [] d.body)
+behind_walked first ds d n =
+    behind_is (signature_at first (map signature ds)) (is_member first ds) d.measure (λ c. is_step first ds (d.measure, c))
+    (λ f. some_seen (member_at first ds f) ∙ ap is_some (sym (seen_at first ds f)))
+    (λ c g e. step_seen (member_at first ds c.callee) d.measure c g (sym (seen_at first ds c.callee) ∙ e))
+    d.body [] [] n
+
 -- a body's calls, and then the rest
 pub body_is : (first : ℕ) (ds : List Definition) (d : Definition) (rest : List Recursive) (n : ℕ)
     → first_no_step (is_step first ds) n (calls_of (is_member first ds) d ++ rest) ≡ numbered (behind (signature_at first (map signature ds)) d.body (caller_of d.measure [] []) n) (λ k. first_no_step (is_step first ds) k rest)
 body_is first ds d rest n =
     number_is (is_step first ds) d.measure (calls_in (is_member first ds) [] [] d.body) rest n
-    ∙ ap (λ (x : Result ℕ ℕ). numbered x (λ k. first_no_step (is_step first ds) k rest))
-    (sym (behind_is (signature_at first (map signature ds)) (is_member first ds) d.measure (λ c. is_step first ds (d.measure, c))
-    (λ f. some_seen (member_at first ds f) ∙ ap is_some (sym (seen_at first ds f)))
-    (λ c g e. step_seen (member_at first ds c.callee) d.measure c g (sym (seen_at first ds c.callee) ∙ e))
-    d.body [] [] n))
+    ∙ ap (λ (x : Result ℕ ℕ). numbered x (λ k. first_no_step (is_step first ds) k rest)) (sym (behind_walked first ds d n))
 
 -- ---- none is refused where each is a step
 every_at : (b : Bool) (P : Type 0) (n : ℕ) (o : Option ℕ) → (o ≡ None → P) → elim b as (λ _. Option ℕ) [ true ↦ o | false ↦ Some n ] ≡ None → (b ≡ true) × P
@@ -122,4 +132,4 @@ every_at false P n o h e = absurd cc
 
 pub every_step : (p : Recursive → Bool) (n : ℕ) (rs : List Recursive) → first_no_step p n rs ≡ None → Every (λ r. p r ≡ true) rs
 every_step p n [] e = tt
-every_step p n (r ∷ rs) e = every_at (p r) (Every (λ r. p r ≡ true) rs) n (first_no_step p (after n) rs) (every_step p (after n) rs) e
+every_step p n (r ∷ rs) e = every_at (p r) (Every (λ r. p r ≡ true) rs) n (first_no_step p (n + 1) rs) (every_step p (n + 1) rs) e

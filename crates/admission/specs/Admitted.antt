@@ -1,8 +1,8 @@
 -- What admission comes to.
-use Rattle.std.specs.Prelude.{◌≡◌, ℕ, List, [], ◌∷◌, unwrap_or, Option, Some, None, Result, Ok, Err}
+use Rattle.std.specs.Prelude.{◌≡◌, ◌≤◌, ◌+◌, ◌^◌, ℕ, length, List, [], ◌∷◌, unwrap_or, Option, Some, None, Result, Ok, Err}
 use Rattle.gl_logic.specs.Exp.{Exp}
 use Rattle.gl_logic.specs.Definition.{Definition}
-use Rattle.gl_logic.specs.IsAdmissible.{IsAdmissible, recursive_calls}
+use Rattle.gl_logic.specs.IsAdmissible.{IsAdmissible, Recursive, recursive_calls}
 use Rattle.gl_logic.specs.declared.def.Measure.{Measure}
 use Rattle.gl_logic.specs.declared.def.Measure.TheVariants as measure
 use Rattle.admission.specs.Refused.{first_refused}
@@ -29,18 +29,19 @@ abbrev pub with_measures : List Definition → List (Option Measure) → List De
 with_measures (d ∷ ds) (m ∷ ms) = record d { measure = m } ∷ with_measures ds ms
 with_measures _ _ = []
 
--- the answer tells this number, and is Ok where there is none. It may also be that memory was refused
-abbrev pub TellsRefused : {A : Type 0} → Option ℕ → Result A AdmitFault → Type 0
-TellsRefused o (Ok m) = o ≡ None
-TellsRefused o (Err (fault.NotAdmitted i)) = o ≡ Some i
-TellsRefused o (Err fault.Memory) = Unit {0}
-
 -- ---- a definition alone
 abbrev pub definition : ℕ → List ℕ → Exp → Option Measure → Definition
 definition name formals body m = record { name = name; formals = formals; body = body; measure = m }
 
+abbrev pub lone_calls : ℕ → List ℕ → Exp → List Recursive
+lone_calls f formals body = recursive_calls f (definition 0 formals body None ∷ [])
+
 abbrev pub HasNoCalls : ℕ → List ℕ → Exp → Type 0
-HasNoCalls f formals body = recursive_calls f (definition 0 formals body None ∷ []) ≡ []
+HasNoCalls f formals body = lone_calls f formals body ≡ []
+
+-- there are more recursive calls than 64 bits number
+abbrev pub IsBeyond : ℕ → List ℕ → Exp → Type 0
+IsBeyond f formals body = 2 ^ 64 ≤ length (lone_calls f formals body) + 1
 
 -- whatever its name
 abbrev pub IsAdmissibleAlone : ℕ → List ℕ → Exp → Option Measure → Type 0
@@ -70,12 +71,19 @@ measured refused formals None = first_formal refused (number_for_first refused f
 
 -- no measure where there is no recursive call
 abbrev pub verdict : ℕ → List ℕ → Exp → Option Measure → Result (Option Measure) ℕ
-verdict f formals body stated = elim (recursive_calls f (definition 0 formals body None ∷ [])) [
+verdict f formals body stated = elim (lone_calls f formals body) [
   | [] ↦ Ok None
   | r ∷ rs ↦ measured (refused_alone f formals body) formals stated
 ]
 
-abbrev pub Tells : Result (Option Measure) ℕ → Result (Option Measure) AdmitFault → Type 0
-Tells v (Ok m) = v ≡ Ok m
-Tells v (Err (fault.NotAdmitted i)) = v ≡ Err i
-Tells v (Err fault.Memory) = ⊥
+-- the answer tells it, and memory is wanted only where this holds
+abbrev pub Tells : Type 0 → Result (Option Measure) ℕ → Result (Option Measure) AdmitFault → Type 0
+Tells Beyond v (Ok m) = v ≡ Ok m
+Tells Beyond v (Err (fault.NotAdmitted i)) = v ≡ Err i
+Tells Beyond v (Err fault.Memory) = Beyond
+
+-- the answer is Ok where no call is refused, or tells the number of the first that is; memory is wanted only where this holds
+abbrev pub TellsRefused : {A : Type 0} → Type 0 → Option ℕ → Result A AdmitFault → Type 0
+TellsRefused Beyond o (Ok a) = o ≡ None
+TellsRefused Beyond o (Err (fault.NotAdmitted i)) = o ≡ Some i
+TellsRefused Beyond o (Err fault.Memory) = Beyond

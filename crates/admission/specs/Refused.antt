@@ -1,16 +1,12 @@
 -- Which recursive call of a clique is the first that is refused.
-use Rattle.std.specs.Prelude.{ℕ, ◌+◌, Bool, true, false, ltb, if◌then◌else◌, List, [], ◌∷◌, Option, Some, None}
+use Rattle.std.specs.Prelude.{ℕ, ◌+◌, Bool, true, false, List, [], ◌∷◌, Option, Some, None}
 use Rattle.gl_logic.specs.Definition.{Definition}
 use Rattle.gl_logic.specs.IsAdmissible.{Recursive, recursive_calls, is_step}
-
--- the number behind this one. It stands still at the end of 32 bits
-abbrev pub after : ℕ → ℕ
-after n = if ltb n 4294967295 then n + 1 else n
 
 -- the number of the first that is no step, where they are numbered from `next` on
 abbrev pub first_no_step : (Recursive → Bool) → ℕ → List Recursive → Option ℕ
 first_no_step is_one next [] = None
-first_no_step is_one next (r ∷ rs) = elim (is_one r) [ true ↦ first_no_step is_one (after next) rs | false ↦ Some next ]
+first_no_step is_one next (r ∷ rs) = elim (is_one r) [ true ↦ first_no_step is_one (next + 1) rs | false ↦ Some next ]
 
 -- of a clique whose first member has this number, under the members' measures
 abbrev pub first_refused : ℕ → List Definition → Option ℕ

@@ -1,26 +1,26 @@
 //! The recursive calls of a body, in their order.
 
-ghost use Rattle.std.specs.Prelude.{◌≡◌, map};
+ghost use Rattle.std.specs.Prelude.{◌+◌, map, Ok};
 ghost use Rattle.gl_logic.specs.TermOf.{term_of, terms_of};
 ghost use Rattle.admission.specs.Signatures.{signature_of, signature_at};
-ghost use Rattle.admission.specs.Refused.{after as number_after};
-ghost use Rattle.admission.specs.Numbers.{behind, behind_all, behind_call};
+ghost use Rattle.admission.specs.Numbers.{behind, behind_all, behind_call, Counts};
 
 use super::caller::Caller;
+use super::fault::AdmitFault;
 use super::member::{Member, find};
 use gl_logic::Term;
 
-/// The number behind the last call of a member in a term, where `next` is the first one's. The fault is the
-/// number of the first call that is no step.
+/// The number behind the last call of a member in a term, where `next` is the first one's. The fault has the
+/// number of the first call that is no step. Takes no memory: that is the answer where 64 bits do not hold a number.
 #[cycle(calls)]
 pub(crate) fn calls(
     term: &Term,
     members: &[Member],
     first: u64,
     caller: Caller,
-    next: u32,
-) -> Result<u32, u32>
-    ensures { result ≡ behind (signature_at first (map signature_of members.now)) (term_of term.now) caller next }
+    next: u64,
+) -> Result<u64, AdmitFault>
+    ensures { Counts (behind (signature_at first (map signature_of members.now)) (term_of term.now) caller next) result }
 {
     match term {
         Term::Var(_) => Ok(next),
@@ -48,9 +48,9 @@ fn calls_in_all(
     members: &[Member],
     first: u64,
     caller: Caller,
-    next: u32,
-) -> Result<u32, u32>
-    ensures { result ≡ behind_all (signature_at first (map signature_of members.now)) (terms_of terms.now) caller next }
+    next: u64,
+) -> Result<u64, AdmitFault>
+    ensures { Counts (behind_all (signature_at first (map signature_of members.now)) (terms_of terms.now) caller next) result }
 {
     let mut reached = next;
     for term in terms {
@@ -66,24 +66,29 @@ fn call(
     f: u64,
     actuals: &[Term],
     caller: Caller,
-    next: u32,
-) -> Result<u32, u32>
-    ensures { result ≡ behind_call (signature_at first (map signature_of members.now) f) (terms_of actuals.now) caller next }
+    next: u64,
+) -> Result<u64, AdmitFault>
+    ensures { Counts (behind_call (signature_at first (map signature_of members.now) f) (terms_of actuals.now) caller next) result }
 {
     match find(members, first, f) {
         None => Ok(next),
         Some(callee) => {
             if caller.steps(callee.measure, callee.formals, actuals) {
-                Ok(after(next))
+                after(next)
             } else {
-                Err(next)
+                Err(AdmitFault::NotAdmitted(next))
             }
         }
     }
 }
 
-fn after(n: u32) -> u32
-    ensures { result ≡ number_after n }
+/// The next number.
+fn after(n: u64) -> Result<u64, AdmitFault>
+    ensures { Counts (Ok (n + 1)) result }
 {
-    if n < u32::MAX { n + 1 } else { n }
+    if n < u64::MAX {
+        Ok(n + 1)
+    } else {
+        Err(AdmitFault::Memory)
+    }
 }

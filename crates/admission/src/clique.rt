@@ -20,15 +20,15 @@ use std::alloc::Global;
 pub fn admit_clique(alloc: Global, first: FnId, members: &Defs) -> Result<Measures, AdmitFault>
     ensures measures { IfOk result (λ m. m ≡ map settled_measure members.now) }
     ensures admissible { IfOk result (λ m. IsAdmissible first.number (with_measures members.now m)) }
-    ensures refused { TellsRefused (refused_told first.number (map settled members.now)) result }
+    ensures refused { TellsRefused (Unit {0}) (refused_told first.number (map settled members.now)) result }
 {
     let signatures = match signatures(alloc, members) {
         Ok(signatures) => signatures,
         Err(_) => return Err(AdmitFault::Memory),
     };
     match first_refused(members, signatures.as_slice(), first.number) {
-        Some(number) => Err(AdmitFault::NotAdmitted(number)),
-        None => match measures(alloc, members) {
+        Err(fault) => Err(fault),
+        Ok(()) => match measures(alloc, members) {
             Ok(measures) => Ok(measures),
             Err(_) => Err(AdmitFault::Memory),
         },
@@ -77,10 +77,10 @@ fn measure_of(def: &Def) -> Option<Measure>
     }
 }
 
-/// The number of the first call of a member in the members' bodies that is no step.
-fn first_refused(members: &Defs, signatures: &[Member], first: u64) -> Option<u32>
+/// Whether each call of a member in the members' bodies is a step, or the number of the first that is none.
+fn first_refused(members: &Defs, signatures: &[Member], first: u64) -> Result<(), AdmitFault>
     requires { map signature_of signatures.now ≡ map signature (map settled members.now) }
-    ensures { result ≡ refused_told first (map settled members.now) }
+    ensures { TellsRefused (Unit {0}) (refused_told first (map settled members.now)) result }
 {
     let mut next = 1;
     for i in 0..members.len() {
@@ -93,8 +93,8 @@ fn first_refused(members: &Defs, signatures: &[Member], first: u64) -> Option<u3
             next,
         ) {
             Ok(behind) => next = behind,
-            Err(number) => return Some(number),
+            Err(fault) => return Err(fault),
         }
     }
-    None
+    Ok(())
 }

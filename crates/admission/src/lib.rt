@@ -19,7 +19,6 @@ mod known;
 mod member;
 mod part;
 mod rows;
-mod same;
 mod single_definition;
 mod variables;
 

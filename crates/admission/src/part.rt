@@ -6,8 +6,8 @@ ghost use Rattle.admission.specs.Parts.{is_bound, part_of, part_with_fact, part_
 
 use super::known::{Known, KnownGap};
 use super::rows::{count_row, gap_row, gap_stays, len_row, nat_row, stays_row};
-use super::same::are_same;
 use super::variables::is_nil;
+use gl_logic::same_terms::are_same;
 use gl_logic::{Names, Natural, Prim, Term, TextId};
 
 /// A natural measure, and what is known of its variables at a place.
