@@ -168,7 +168,7 @@ fn names(alloc: Global, text: &str) -> Result<Names, NoMemory> {
 
 /// What an admission comes to: the measure, or the number of the first call that is no step, from 1; 0 where memory was
 /// refused.
-fn judged(formals: &Names, body: &Term, stated: Option<Measure>) -> Result<Option<Measure>, u32> {
+fn judged(formals: &Names, body: &Term, stated: Option<Measure>) -> Result<Option<Measure>, u64> {
     match admit(F, formals, body, stated) {
         Ok(measure) => Ok(measure),
         Err(AdmitFault::NotAdmitted(number)) => Err(number),
@@ -181,7 +181,7 @@ type Row = (
     &'static str,
     Option<Measure>,
     &'static str,
-    Result<Option<Measure>, u32>,
+    Result<Option<Measure>, u64>,
 );
 
 fn try_rows(rt: &impl Abort, alloc: Global, rows: &[Row]) -> Result<(), NoMemory> {
@@ -316,7 +316,7 @@ type Member = (&'static str, Option<Measure>, &'static str);
 type Pair = (
     Member,
     Member,
-    Result<(Option<Measure>, Option<Measure>), u32>,
+    Result<(Option<Measure>, Option<Measure>), u64>,
 );
 
 const CLIQUES: [Pair; 5] = [
@@ -362,7 +362,7 @@ fn clique(alloc: Global, first: Member, second: Member) -> Result<Defs, NoMemory
 }
 
 /// What the admission of two members comes to.
-fn both_judged(alloc: Global, defs: &Defs) -> Result<(Option<Measure>, Option<Measure>), u32> {
+fn both_judged(alloc: Global, defs: &Defs) -> Result<(Option<Measure>, Option<Measure>), u64> {
     match admit_clique(alloc, F, defs) {
         Ok(measures) if measures.len() == 2 => Ok((*measures.at(0), *measures.at(1))),
         Err(AdmitFault::NotAdmitted(number)) => Err(number),
