@@ -10,7 +10,7 @@ ghost use Rattle.book_shelf.specs.Flat.{Book, IsFlat, Rest, is_among, most_texts
 ghost use Rattle.book_shelf.specs.Loads.{Goes, IsCounted, IsNumberedForm, Loads};
 ghost use Rattle.book_shelf.specs.NumberedItems.{IsNumberedItem};
 ghost use Rattle.gl_logic.specs.Every.{Every};
-ghost use Rattle.shape_spec.specs.Wording.{text_of};
+ghost use Rattle.gl_logic.specs.Wording.{text_of};
 ghost use Rattle.std.specs.Str.{IsAscii};
 ghost use Rattle.std.specs.List.{AllByRecursion};
 

@@ -7,7 +7,8 @@ use Rattle.std.proofs.lemmas.Bool.{lt-ltb, ltb-true}
 use Rattle.std.proofs.lemmas.List.Recursion.{is_sum_by}
 use Rattle.shape_spec.specs.ShapeSeen.{ShapeSeen, Boolean, Integer, Choice, Constant, Pair}
 use Rattle.shape_spec.specs.Indices.{IsNotIn, AreApart, AllBelow, IsShape}
-use Rattle.shape_spec.specs.BindingsMeant.{are_different, are_below, is_shape}
+use Rattle.shape_spec.specs.BindingsMeant.{are_below, is_shape}
+use Rattle.gl_logic.specs.NameSets.{are_different}
 use Rattle.shape_spec.proofs.Fits.{bool_cases, true_false, and_first, and_second, and_both, leb_le, le_leb}
 
 -- ---- lists one after the other

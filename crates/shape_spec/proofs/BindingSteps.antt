@@ -1,6 +1,6 @@
 -- The meaning of bindings, a variable at a time.
 use Rattle.std.proofs.Common.{◌≡◌, ◌∙◌, ap, sym, refl, subst, ℕ, ◌+◌, ◌-◌, ◌<◌, ◌≤◌, Bool, true, false, cond, ◌&&◌, leb, ltb, eqb, List, [], ◌∷◌, ◌++◌, map, reverse, take, drop, length, get_or, Option, Some, None, arith}
-use Rattle.std.specs.Prelude.{codes}
+use Rattle.std.specs.Prelude.{codes, Err}
 use Rattle.std.specs.List.{list_any, list_all}
 use Rattle.std.specs.Option.{option_map, option_and_then}
 use Rattle.std.proofs.lemmas.List.{map-append, length-append, take_more, take-append-drop, length-reverse}
@@ -13,15 +13,15 @@ use Rattle.gl_logic.specs.declared.tree.TreeKind.{TreeKind}
 use Rattle.gl_logic.specs.declared.tree.TreeKind.TheVariants as kind
 use Rattle.shape_spec.specs.ShapeSeen.{ShapeSeen}
 use Rattle.shape_spec.specs.Indices.{variables_of, shapes_of, indices_in, indices_of, width_of, AreApart, AreShapes, IsBindings}
-use Rattle.shape_spec.specs.Wording.{is_legal, spells, elements, all_meant}
+use Rattle.gl_logic.specs.Wording.{is_legal, spells, elements, all_meant}
 use Rattle.shape_spec.specs.ItemsMeant.{Slotted, in_sequence, item_meant, items_meant, placed}
-use Rattle.shape_spec.specs.BindingsMeant.{are_different, is_shape, are_below, are_bindings, checked, entry_of, entry_meant, quoted, bound, is_backquote, bindings_meant}
-use Rattle.std.specs.Prelude.{Err}
+use Rattle.shape_spec.specs.BindingsMeant.{is_shape, are_below, are_bindings, checked, entry_of, entry_meant, quoted, bound, is_backquote, bindings_meant}
+use Rattle.gl_logic.specs.NameSets.{are_different}
 use Rattle.shape_spec.specs.declared.fault.BindFault.{BindFault}
 use Rattle.shape_spec.specs.declared.fault.BindFault.TheVariants as fault
 use Rattle.shape_spec.specs.declared.item_form.ItemVariable.{ItemVariable}
 use Rattle.shape_spec.specs.Gives.{Adds, Refuses, variable_of, fits, taken, entry_within, all_within, slots_in}
-use Rattle.shape_spec.proofs.Proper.{elements_conses, conses-last}
+use Rattle.gl_logic.proofs.ProperLists.{elements_conses, conses-last}
 use Rattle.shape_spec.proofs.InReverse.{left_of, read_more, read_none}
 use Rattle.shape_spec.proofs.Fits.{not_true, true_false, and_first, and_second, and_both, leb_le, le_leb, some_same, IsFit, fit_from, fit_to, taken_some, taken_none}
 use Rattle.shape_spec.proofs.Apart.{apart_left, last_not_in, different_apart, apart_different, below_to, shape_to, any_not}

@@ -9,7 +9,7 @@ use Rattle.shape_spec.specs.ShapeSeen.{ShapeSeen, Integer, Choice, Constant, Pai
 use Rattle.shape_spec.specs.Indices.{indices_in}
 use Rattle.shape_spec.specs.ShapeMeant.{index_meant, choice_of, stepped}
 use Rattle.shape_spec.specs.BindingsMeant.{is_shape, are_below}
-use Rattle.shape_spec.specs.Wording.{both, all_meant}
+use Rattle.gl_logic.specs.Wording.{both, all_meant}
 use Rattle.shape_spec.specs.Gives.{Gives, Refuses, fits, taken, small, small_index, all_small}
 use Rattle.shape_spec.specs.declared.fault.BindFault.{BindFault}
 use Rattle.shape_spec.specs.declared.fault.BindFault.TheVariants as fault

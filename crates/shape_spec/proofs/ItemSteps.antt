@@ -8,7 +8,7 @@ use Rattle.std.proofs.lemmas.List.Elements.{filter-append}
 use Rattle.std.proofs.lemmas.Grind.{flat_map-append}
 use Rattle.gl_logic.specs.Object.{Object, Int, Character, Symbol, Text, Cons, nil}
 use Rattle.gl_logic.specs.Lists.{conses, size_of, size-conses}
-use Rattle.shape_spec.specs.Wording.{elements, both, all_meant}
+use Rattle.gl_logic.specs.Wording.{elements, both, all_meant}
 use Rattle.shape_spec.specs.Heads.{item_of}
 use Rattle.shape_spec.specs.ItemsMeant.{Slotted, number_item, boolean_item, in_sequence, first_count, have_count, slots_at, interleaved, mixed, itemized, item_meant, items_meant}
 use Rattle.shape_spec.specs.Gives.{within, all_within, slots_in}
@@ -17,7 +17,7 @@ use Rattle.shape_spec.specs.declared.words.ItemWord.TheVariants as item
 use Rattle.shape_spec.proofs.Fits.{and_first, and_second, leb_le, le_leb, not_true, some_same}
 use Rattle.shape_spec.proofs.InReverse.{left_of}
 use denote.Param.Weighed.{most}
-use Rattle.shape_spec.proofs.Proper.{elements_conses, conses-last, front_size}
+use Rattle.gl_logic.proofs.ProperLists.{elements_conses, conses-last, front_size}
 
 -- ---- lists of items
 no_rest : {A B C : Type 0} (f : A → B → C) (o : Option A) → both f o None ≡ None

@@ -1,4 +1,3 @@
-pub mod Proper
 pub mod InReverse
 pub mod Fits
 pub mod ShapeSteps

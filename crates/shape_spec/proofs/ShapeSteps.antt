@@ -8,10 +8,10 @@ use Rattle.gl_logic.specs.Lists.{conses, IsAtom}
 use Rattle.shape_spec.specs.ShapeSeen.{ShapeSeen, Pair}
 use Rattle.shape_spec.specs.Indices.{indices_in}
 use Rattle.shape_spec.specs.Heads.{head_of, is_plain}
-use Rattle.shape_spec.specs.Wording.{both, elements}
+use Rattle.gl_logic.specs.Wording.{both, elements}
 use Rattle.shape_spec.specs.ShapeMeant.{index_meant, atom_meant, shape_meant, choice_meant, test_meant, choice_of, headed, comma_of, call_of, boolean_call, integer_call}
 use Rattle.shape_spec.specs.Gives.{taken, before_meant}
-use Rattle.shape_spec.proofs.Proper.{conses-last, elements_conses}
+use Rattle.gl_logic.proofs.ProperLists.{conses-last, elements_conses}
 use Rattle.shape_spec.proofs.Fits.{IsFit, taken_not, taken_none, pair_first, pair_second, some_same, and_first, and_second}
 
 -- ---- what a cons is not

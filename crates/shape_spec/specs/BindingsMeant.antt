@@ -3,9 +3,10 @@ use Rattle.std.specs.Prelude.{ℕ, Bool, true, false, not, ◌&&◌, ◌==◌, l
 use Rattle.std.specs.List.{list_any, list_all}
 use Rattle.std.specs.Option.{option_map, option_and_then}
 use Rattle.gl_logic.specs.Object.{Object, Symbol, Cons}
+use Rattle.gl_logic.specs.NameSets.{are_different}
 use Rattle.shape_spec.specs.ShapeSeen.{ShapeSeen, Boolean, Integer, Choice, Constant, Pair}
 use Rattle.shape_spec.specs.Indices.{variables_of, shapes_of, indices_of, width_of}
-use Rattle.shape_spec.specs.Wording.{is_legal, spells, elements, all_meant}
+use Rattle.gl_logic.specs.Wording.{is_legal, spells, elements, all_meant}
 use Rattle.shape_spec.specs.ShapeMeant.{shape_meant}
 use Rattle.shape_spec.specs.ItemsMeant.{Slotted, items_meant, in_sequence, placed}
 
@@ -42,10 +43,6 @@ listed names (Cons k d) =
 listed names _ = None
 
 -- ---- the conditions on them all
-abbrev pub are_different : List ℕ → Bool
-are_different [] = true
-are_different (x ∷ xs) = not (list_any (eqb x) xs) && are_different xs
-
 -- each integer has 1 to 128 indices
 abbrev pub is_shape : ShapeSeen → Bool
 is_shape (Boolean i) = true

@@ -10,7 +10,7 @@ use Rattle.shape_spec.specs.declared.item_form.ItemVariable.{ItemVariable}
 use Rattle.shape_spec.specs.ShapeOf.{shape_of}
 use Rattle.shape_spec.specs.Indices.{indices_in}
 use Rattle.shape_spec.specs.ItemsMeant.{Slotted}
-use Rattle.shape_spec.specs.Wording.{is_legal}
+use Rattle.gl_logic.specs.Wording.{is_legal}
 use Rattle.shape_spec.specs.BindingsMeant.{is_shape, are_below, are_bindings}
 use Rattle.gl_logic.specs.declared.ids.TextId.{TextId}
 use Rattle.shape_spec.specs.declared.shape.Shape.{Shape}

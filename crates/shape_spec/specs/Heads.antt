@@ -1,7 +1,7 @@
 -- The words with which shapes and items begin.
 use Rattle.std.specs.Prelude.{ℕ, Bool, true, false, ◌==◌, if◌then◌else◌, List, take, codes, bytes_eq, Option, Some, None}
 use Rattle.gl_logic.specs.Object.{Object, Symbol}
-use Rattle.shape_spec.specs.Wording.{text_of}
+use Rattle.gl_logic.specs.Wording.{text_of}
 use Rattle.shape_spec.specs.declared.words.Head.{Head}
 use Rattle.shape_spec.specs.declared.words.Head.TheVariants as head
 use Rattle.shape_spec.specs.declared.words.ItemWord.{ItemWord}

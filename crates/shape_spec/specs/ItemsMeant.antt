@@ -4,7 +4,7 @@ use Rattle.std.specs.List.{flat_map, list_all, filter, range_with_len}
 use Rattle.std.specs.Option.{option_map}
 use Rattle.gl_logic.specs.Object.{Object, Int, Symbol, Cons}
 use Rattle.shape_spec.specs.ShapeSeen.{ShapeSeen, Boolean, Integer}
-use Rattle.shape_spec.specs.Wording.{elements, both}
+use Rattle.gl_logic.specs.Wording.{elements, both}
 use Rattle.shape_spec.specs.Heads.{item_of}
 use Rattle.shape_spec.specs.declared.words.ItemWord.{ItemWord}
 use Rattle.shape_spec.specs.declared.words.ItemWord.TheVariants as item

@@ -4,7 +4,6 @@ pub mod Indices
 pub mod InputMeant
 pub mod Theorems
 pub mod BindingOf
-pub mod Wording
 pub mod Heads
 pub mod ShapeMeant
 pub mod ItemsMeant

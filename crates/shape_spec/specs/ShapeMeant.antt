@@ -3,7 +3,7 @@ use Rattle.std.specs.Prelude.{ℕ, zero, suc, ◌+◌, Bool, ◌&&◌, leb, if�
 use Rattle.std.specs.Option.{option_map, option_and_then}
 use Rattle.gl_logic.specs.Object.{Object, Int, Symbol, Cons}
 use Rattle.shape_spec.specs.ShapeSeen.{ShapeSeen, Boolean, Integer, Choice, Constant, Pair}
-use Rattle.shape_spec.specs.Wording.{is_mark, has_mark, elements, both, all_meant, spells}
+use Rattle.gl_logic.specs.Wording.{is_mark, has_mark, elements, both, all_meant, spells}
 use Rattle.shape_spec.specs.Heads.{head_of, is_plain, is_boolean}
 use Rattle.shape_spec.specs.declared.words.Head.{Head}
 use Rattle.shape_spec.specs.declared.words.Head.TheVariants as head

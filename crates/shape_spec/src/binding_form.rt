@@ -8,7 +8,7 @@ ghost use Rattle.gl_logic.specs.Lists.{conses};
 ghost use Rattle.shape_spec.specs.ShapeOf.{shape_of};
 ghost use Rattle.shape_spec.specs.Indices.{variables_of, width_of, IsBindings};
 ghost use Rattle.shape_spec.specs.ItemsMeant.{shape_at, placed as placed_meant, in_sequence, item_meant};
-ghost use Rattle.shape_spec.specs.Wording.{all_meant, is_legal as legal_is};
+ghost use Rattle.gl_logic.specs.Wording.{all_meant, is_legal as legal_is};
 ghost use Rattle.shape_spec.specs.BindingsMeant.{checked, bound, entry_of, entry_meant, quoted as quoted_meant, is_backquote as backquote_is, bindings_meant};
 ghost use Rattle.shape_spec.specs.Gives.{Gives, fits, taken, shape_left, Adds, entry_within, entry_left, slotted_of};
 
@@ -16,10 +16,10 @@ use super::binding_list::{Bindings, bit_count};
 use super::fault::BindFault;
 use super::index_form::{boolean, integer};
 use super::item_form::{Items, all_items, places_of, sequence};
-use super::name_set::NameSet;
 use super::shape::Shape;
 use super::shape_form::Setting;
-use super::words::{is_legal, parts_of, spells};
+use gl_logic::name_set::NameSet;
+use gl_logic::wording::{is_legal, parts_of, spells};
 use gl_logic::{TextId, Texts, Tree, TreeKind};
 use std::alloc::Global;
 

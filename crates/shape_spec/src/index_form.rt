@@ -3,7 +3,7 @@
 ghost use Rattle.std.specs.Prelude.{◌≡◌, ◌<◌, ◌^◌, [], ◌∷◌, ◌++◌, reverse, Some, IfSome};
 ghost use Rattle.std.specs.Option.{option_map};
 ghost use Rattle.shape_spec.specs.ShapeSeen.{Integer, Boolean};
-ghost use Rattle.shape_spec.specs.Wording.{all_meant};
+ghost use Rattle.gl_logic.specs.Wording.{all_meant};
 ghost use Rattle.shape_spec.specs.ShapeMeant.{index_meant, stepped as stepped_from, progression as progression_meant};
 ghost use Rattle.shape_spec.specs.Gives.{Gives, taken, small, small_index, all_small, shape_left};
 ghost use Rattle.shape_spec.specs.BindingsMeant.{are_below as below_all};

@@ -3,13 +3,14 @@
 ghost use Rattle.std.specs.Prelude.{◌≡◌, ◌≤◌, [], ◌∷◌, ◌++◌, if◌then◌else◌, map, length, reverse, IfOk, OnOk, Some};
 ghost use Rattle.gl_logic.specs.Object.{nil};
 ghost use Rattle.gl_logic.specs.Lists.{conses};
-ghost use Rattle.shape_spec.specs.Wording.{all_meant};
+ghost use Rattle.gl_logic.specs.Wording.{all_meant};
 ghost use Rattle.shape_spec.specs.ItemsMeant.{own_slots, number_item, boolean_item, all_variables, in_sequence, mixed as mixed_items, have_count as have_slots, slots_at, places_of as places_meant, item_meant};
 ghost use Rattle.shape_spec.specs.Gives.{Gives, within, all_within, slotted_of, variable_of};
 
 use super::fault::BindFault;
 use super::index_form::natural_of;
-use super::words::{ItemWord, item_of, parts_of};
+use super::words::{ItemWord, item_of};
+use gl_logic::wording::parts_of;
 use gl_logic::{NoMemory, TextId, Texts, Tree, TreeKind};
 use std::alloc::Global;
 

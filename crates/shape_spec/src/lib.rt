@@ -15,7 +15,6 @@ mod index_form;
 pub mod input_laws;
 mod inputs;
 mod item_form;
-mod name_set;
 mod numbers;
 mod objects;
 mod order;

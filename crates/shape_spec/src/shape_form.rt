@@ -10,14 +10,15 @@ ghost use Rattle.shape_spec.specs.ShapeOf.{shape_of};
 ghost use Rattle.shape_spec.specs.Indices.{indices_in};
 ghost use Rattle.shape_spec.specs.Heads.{head_of as head_in, is_plain};
 ghost use Rattle.shape_spec.specs.ShapeMeant.{index_meant, indices_meant, test_meant, atom_meant, shape_meant, choice_meant, comma_of, call_of, boolean_call, integer_call};
-ghost use Rattle.shape_spec.specs.Wording.{elements as elements_in, has_mark as mark_in};
+ghost use Rattle.gl_logic.specs.Wording.{elements as elements_in, has_mark as mark_in};
 ghost use Rattle.shape_spec.specs.Gives.{Gives, fits, taken, small, shape_left, before_meant};
 
 use super::fault::BindFault;
 use super::index_form::{boolean, index_of, indices_of, integer, natural_of, progression};
 use super::shape::Shape;
 use super::trees::listed_tree;
-use super::words::{Head, has_mark, have_marks, head_of, is_mark, parts_of, spells};
+use super::words::{Head, head_of};
+use gl_logic::wording::{has_mark, have_marks, is_mark, parts_of, spells};
 use gl_logic::{Texts, Tree, TreeKind};
 use std::alloc::Global;
 

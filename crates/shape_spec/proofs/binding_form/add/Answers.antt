@@ -5,7 +5,7 @@ use Rattle.std.proofs.lemmas.List.{map-append}
 use Rattle.shape_spec.specs.ShapeSeen.{ShapeSeen}
 use Rattle.shape_spec.specs.ShapeOf.{shape_of}
 use Rattle.shape_spec.specs.Indices.{variables_of, indices_in, width_of}
-use Rattle.shape_spec.specs.Wording.{is_legal}
+use Rattle.gl_logic.specs.Wording.{is_legal}
 use Rattle.shape_spec.specs.BindingOf.{Pushes}
 use Rattle.shape_spec.specs.BindingsMeant.{are_bindings}
 use Rattle.shape_spec.specs.Gives.{Adds, Refuses}

@@ -4,7 +4,7 @@ use Rattle.std.proofs.lemmas.Result.{err_from_is_err_and}
 use Rattle.shape_spec.specs.ShapeSeen.{ShapeSeen}
 use Rattle.shape_spec.specs.ShapeOf.{shape_of}
 use Rattle.shape_spec.specs.Indices.{variables_of, width_of, IsBindings}
-use Rattle.shape_spec.specs.Wording.{is_legal}
+use Rattle.gl_logic.specs.Wording.{is_legal}
 use Rattle.shape_spec.specs.BindingsMeant.{entry_meant, checked}
 use Rattle.shape_spec.specs.Gives.{fits, entry_within, entry_left}
 use Rattle.shape_spec.proofs.InReverse.{started, read_more, read_all, left_of}

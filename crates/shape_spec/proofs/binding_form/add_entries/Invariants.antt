@@ -1,7 +1,7 @@
 use Rattle.std.proofs.Common.{◌≡◌, ◌+◌, ◌≤◌, length, reverse, true}
 use Rattle.std.specs.List.{list_all}
 use Rattle.shape_spec.specs.Indices.{variables_of, width_of, IsBindings}
-use Rattle.shape_spec.specs.Wording.{is_legal, all_meant}
+use Rattle.gl_logic.specs.Wording.{is_legal, all_meant}
 use Rattle.shape_spec.specs.BindingsMeant.{entry_meant}
 use Rattle.shape_spec.proofs.InReverse.{left_of}
 use Rattle.shape_spec.proofs.binding_form.add_entries.Given as goal

@@ -5,7 +5,7 @@ use Rattle.std.proofs.lemmas.Result.{err_from_is_err_and}
 use Rattle.shape_spec.specs.ShapeSeen.{ShapeSeen}
 use Rattle.shape_spec.specs.ShapeOf.{shape_of}
 use Rattle.shape_spec.specs.Indices.{variables_of, width_of, IsBindings}
-use Rattle.shape_spec.specs.Wording.{is_legal}
+use Rattle.gl_logic.specs.Wording.{is_legal}
 use Rattle.shape_spec.specs.ItemsMeant.{shape_at, places_of}
 use Rattle.shape_spec.specs.BindingsMeant.{are_bindings, checked}
 use Rattle.shape_spec.specs.Gives.{fits, taken, variable_of}

@@ -1,7 +1,7 @@
 use Rattle.std.proofs.Common.{◌≡◌, ◌+◌, map, take, true}
 use Rattle.std.specs.List.{list_all}
 use Rattle.shape_spec.specs.Indices.{variables_of, width_of, IsBindings}
-use Rattle.shape_spec.specs.Wording.{is_legal}
+use Rattle.gl_logic.specs.Wording.{is_legal}
 use Rattle.shape_spec.specs.ItemsMeant.{shape_at, places_of}
 use Rattle.shape_spec.specs.Gives.{variable_of}
 use Rattle.shape_spec.proofs.binding_form.add_places.Given as goal

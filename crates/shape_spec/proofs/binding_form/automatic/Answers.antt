@@ -1,6 +1,6 @@
 use Rattle.std.proofs.Common.{◌∙◌, ap, sym, map, reverse, List, Some}
 use Rattle.std.proofs.lemmas.Result.{err_from_is_err_and}
-use Rattle.shape_spec.specs.Wording.{all_meant}
+use Rattle.gl_logic.specs.Wording.{all_meant}
 use Rattle.shape_spec.specs.ItemsMeant.{Slotted, item_meant, in_sequence, placed}
 use Rattle.shape_spec.specs.BindingsMeant.{checked}
 use Rattle.shape_spec.specs.Gives.{all_within, slotted_of}

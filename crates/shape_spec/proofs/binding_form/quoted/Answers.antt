@@ -1,6 +1,6 @@
 use Rattle.std.proofs.Common.{◌∙◌, ap, sym}
 use Rattle.std.specs.Option.{option_and_then}
-use Rattle.shape_spec.specs.Wording.{all_meant}
+use Rattle.gl_logic.specs.Wording.{all_meant}
 use Rattle.shape_spec.specs.BindingsMeant.{checked, entry_meant}
 use Rattle.shape_spec.proofs.Fits.{gives_at}
 use Rattle.shape_spec.proofs.BindingSteps.{not_one, one_list}

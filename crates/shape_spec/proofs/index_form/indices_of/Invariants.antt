@@ -1,5 +1,5 @@
 use Rattle.std.proofs.Common.{◌≡◌, ◌≤◌, length, reverse}
-use Rattle.shape_spec.specs.Wording.{all_meant}
+use Rattle.gl_logic.specs.Wording.{all_meant}
 use Rattle.shape_spec.specs.Gives.{small_index}
 use Rattle.shape_spec.proofs.InReverse.{left_of}
 use Rattle.shape_spec.proofs.index_form.indices_of.Given as goal

@@ -8,7 +8,7 @@ use Rattle.shape_spec.specs.ItemsMeant.{Slotted, item_meant, in_sequence, mixed}
 use Rattle.shape_spec.specs.Gives.{within, all_within, slots_in, slotted_of}
 use Rattle.shape_spec.specs.declared.item_form.Items.{Items}
 use Rattle.shape_spec.proofs.Fits.{gives_at, gives_err, refuses_none}
-use Rattle.shape_spec.proofs.Proper.{most_at}
+use Rattle.gl_logic.proofs.ProperLists.{most_at}
 use Rattle.shape_spec.proofs.InReverse.{started, read_more, read_none, read_all, left_of}
 use Rattle.shape_spec.proofs.ItemSteps.{item_none, within_some, within_none, all_within_at, too_many, slots_push, sequence_none, sequence_some, mixed_none, mixed_some, nat_at, int_at, boolean_at, no_word_at, most_front}
 use Rattle.shape_spec.proofs.item_form.+item.Goals as goal

@@ -2,7 +2,7 @@ use Rattle.std.proofs.Common.{◌≡◌, ◌*◌, ◌+◌, ◌≤◌, map, rever
 use denote.Param.Weighed.{most}
 use Rattle.gl_logic.specs.Object.{nil}
 use Rattle.gl_logic.specs.Lists.{size_of, conses}
-use Rattle.shape_spec.specs.Wording.{all_meant}
+use Rattle.gl_logic.specs.Wording.{all_meant}
 use Rattle.shape_spec.specs.ItemsMeant.{item_meant}
 use Rattle.shape_spec.specs.Gives.{slots_in, slotted_of}
 use Rattle.shape_spec.proofs.InReverse.{left_of}

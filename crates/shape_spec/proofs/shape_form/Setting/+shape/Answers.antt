@@ -10,14 +10,14 @@ use Rattle.gl_logic.proofs.Parts.{conses-whole, tail_is_atom}
 use Rattle.shape_spec.specs.ShapeSeen.{ShapeSeen, Pair, Choice}
 use Rattle.shape_spec.specs.ShapeOf.{shape_of, pairs}
 use Rattle.shape_spec.specs.Indices.{indices_in}
-use Rattle.shape_spec.specs.Wording.{has_mark}
+use Rattle.gl_logic.specs.Wording.{has_mark}
 use Rattle.shape_spec.specs.Heads.{head_of, is_plain}
 use Rattle.shape_spec.specs.declared.shape.Shape.{Shape}
 use Rattle.shape_spec.specs.declared.words.Head.{Head}
 use Rattle.shape_spec.specs.declared.words.Head.TheVariants as head
 use Rattle.shape_spec.specs.ShapeMeant.{shape_meant, choice_meant, headed, test_meant, choice_of}
 use Rattle.shape_spec.specs.Gives.{fits, taken, small, shape_left, before_meant}
-use Rattle.shape_spec.proofs.Proper.{conses-last, conses-cut, front_size, back_size, most_at}
+use Rattle.gl_logic.proofs.ProperLists.{conses-last, conses-cut, front_size, back_size, most_at}
 use Rattle.shape_spec.proofs.Conses.{pairs_push}
 use Rattle.shape_spec.proofs.Fits.{gives_at, gives_err, constant_taken, true_false, refuses_none, IsFit, fit_to, fit_from, taken_some, taken_is, pair_fit, choice_no_test, choice_no_index, choice_no_second, choice_no_first, choice_taken}
 use Rattle.shape_spec.proofs.ShapeSteps.{headed_at, choice_parts, plain_meant, none_before, before_more, before_none, choice_at, no_choice}

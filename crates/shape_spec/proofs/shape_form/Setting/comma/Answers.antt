@@ -2,11 +2,11 @@ use Rattle.std.proofs.Common.{◌≡◌, ◌∙◌, ap, sym, length, cond, Bool,
 use Rattle.std.specs.Option.{option_and_then}
 use Rattle.gl_logic.specs.Object.{Object, nil}
 use Rattle.gl_logic.specs.Lists.{conses}
-use Rattle.shape_spec.specs.Wording.{elements}
+use Rattle.gl_logic.specs.Wording.{elements}
 use Rattle.shape_spec.specs.ShapeMeant.{comma_of, call_of}
 use Rattle.shape_spec.specs.Gives.{taken, shape_left}
 use Rattle.shape_spec.proofs.Fits.{gives_at}
-use Rattle.shape_spec.proofs.Proper.{elements_conses, improper_atom}
+use Rattle.gl_logic.proofs.ProperLists.{elements_conses, improper_atom}
 use Rattle.shape_spec.proofs.ShapeSteps.{no_comma, comma_at}
 use Rattle.shape_spec.proofs.shape_form.Setting.comma.Goals as goal
 

@@ -3,8 +3,8 @@ use Rattle.std.specs.List.{list_any}
 use Rattle.gl_logic.specs.Object.{Object}
 use Rattle.gl_logic.specs.Lists.{conses}
 use Rattle.shape_spec.specs.ShapeSeen.{ShapeSeen, Constant}
-use Rattle.shape_spec.specs.Wording.{has_mark}
-use Rattle.shape_spec.proofs.Proper.{marks_conses}
+use Rattle.gl_logic.specs.Wording.{has_mark}
+use Rattle.gl_logic.proofs.ProperLists.{marks_conses}
 use Rattle.shape_spec.proofs.shape_form.Setting.concrete.Goals as goal
 
 abbrev meant : Bool → Object → Option ShapeSeen

@@ -4,10 +4,10 @@ use Rattle.std.proofs.lemmas.Result.{err_from_is_err_and}
 use Rattle.gl_logic.specs.Object.{Object, nil}
 use Rattle.gl_logic.specs.Lists.{conses}
 use Rattle.shape_spec.specs.ShapeSeen.{Integer}
-use Rattle.shape_spec.specs.Wording.{all_meant}
+use Rattle.gl_logic.specs.Wording.{all_meant}
 use Rattle.shape_spec.specs.ShapeMeant.{index_meant, indices_meant}
 use Rattle.shape_spec.specs.Gives.{taken, small_index, shape_left}
-use Rattle.shape_spec.proofs.Proper.{elements_conses, improper_atom}
+use Rattle.gl_logic.proofs.ProperLists.{elements_conses, improper_atom}
 use Rattle.shape_spec.proofs.Fits.{gives_at, gives_err, refuses_none, small_all, integer_small}
 use Rattle.shape_spec.proofs.shape_form.Setting.integer_form.Goals as goal
 
