@@ -10,9 +10,8 @@ use Rattle.gl_logic.specs.declared.prim.Primitive.{Primitive}
 use Rattle.gl_logic.specs.declared.prim.Primitive.TheVariants as prim
 use Rattle.gl_logic.specs.declared.term.Term.{Term}
 use Rattle.gl_logic.specs.declared.term.Term.TheViews as views
-use Rattle.gl_logic.specs.declared.term.Term.TheVariants.{rolls-If, rolls-Prim, rolls-Call}
 use Rattle.gl_logic.specs.declared.term.Term.TheOpen as open_term
-use Rattle.gl_logic.specs.declared.term.Term.TheFolds.{fold-roll-Term}
+use Rattle.gl_logic.proofs.TermForms.{if_term, prim_term, call_term}
 use Rattle.gl_logic.specs.declared.ids.FnId.{FnId}
 use Rattle.gl_logic.specs.TermOf.{step}
 use Rattle.gl_logic.proofs.Optional.{none_some, some_same}
@@ -182,16 +181,6 @@ part_at parts j v h e =
     ∙ (sym (get_or-map (λ (u : Vec (Bor Term) Global). terms_in u.items) parts j v (terms_in v.items) h)
     ∙ get_any (parts_in parts) j (terms_in v.items) [] (omega (arith, h, length-map parts (λ (u : Vec (Bor Term) Global). terms_in u.items))))
 
--- ---- terms as the code matches them
-term_if : (a b d : Box Term Global) → term_of (views.If a b d) ≡ If (term_of a.value) (term_of b.value) (term_of d.value)
-term_if a b d = ap term_of (sym (rolls-If a b d)) ∙ fold-roll-Term Exp step (open_term.If a b d)
-
-term_prim : (p : Primitive) (ts : Vec Term Global) → term_of (views.Prim p ts) ≡ Prim p (terms_of ts.items)
-term_prim p ts = ap term_of (sym (rolls-Prim p ts)) ∙ fold-roll-Term Exp step (open_term.Prim p ts)
-
-term_call : (f : FnId) (ts : Vec Term Global) → term_of (views.Call f ts) ≡ Call f.number (terms_of ts.items)
-term_call f ts = ap term_of (sym (rolls-Call f ts)) ∙ fold-roll-Term Exp step (open_term.Call f ts)
-
 pub on_ok_mapped : {A E : Type 0} {P Q : Type 0} → (r : Result A E) → (P → Q) → OnOk r P → OnOk r Q
 on_ok_mapped (Ok a) f h = f h
 on_ok_mapped (Err e) f h = tt
@@ -203,14 +192,14 @@ module _ (n : ℕ) (S : Exp → Bool) (t : Exp) where
   pub if_found : (p : Term) (a b d : Box Term Global) (x y z : Term) (l0 l1 l2 l3 : List (List Exp)) → p ≡ views.If a b d → x ≡ a.value → y ≡ b.value → z ≡ d.value
       → Adds (stands n S t (term_of x)) t l0 l1 → Adds (stands n S t (term_of y)) t l1 l2 → Adds (stands n S t (term_of z)) t l2 l3 → Adds (stands n S t (term_of p)) t l0 l3
   if_found p a b d x y z l0 l1 l2 l3 e ea eb ed f g h =
-      same_hits (If (term_of a.value) (term_of b.value) (term_of d.value)) (term_of p) l0 l3 (sym (ap term_of e ∙ term_if a b d))
+      same_hits (If (term_of a.value) (term_of b.value) (term_of d.value)) (term_of p) l0 l3 (sym (ap term_of e ∙ if_term a b d))
       (if_dealt n S t (term_of a.value) (term_of b.value) (term_of d.value) l0 l1 l2 l3
       (same_hits (term_of x) (term_of a.value) l0 l1 (ap term_of ea) f) (same_hits (term_of y) (term_of b.value) l1 l2 (ap term_of eb) g) (same_hits (term_of z) (term_of d.value) l2 l3 (ap term_of ed) h))
 
   pub prim_found : (p : Term) (q : Primitive) (ts : Vec Term Global) (us : List Term) (o : Option ℕ) (l0 l1 l2 : List (List Exp)) → p ≡ views.Prim q ts → us ≡ ts.items → o ≡ element_in n S (term_of p)
       → Adds (λ j. is_place j o) t l0 l1 → Adds (any_stands n S t (terms_of us)) t l1 l2 → Adds (stands n S t (term_of p)) t l0 l2
   prim_found p q ts us o l0 l1 l2 e eu eo f g =
-      let is : term_of p ≡ Prim q (terms_of ts.items) = ap term_of e ∙ term_prim q ts in
+      let is : term_of p ≡ Prim q (terms_of ts.items) = ap term_of e ∙ prim_term q ts in
       same_hits (Prim q (terms_of ts.items)) (term_of p) l0 l2 (sym is)
       (prim_dealt n S t q (terms_of ts.items) l0 l1 l2
       (subst (λ w. Adds (λ j. is_place j w) t l0 l1) (eo ∙ ap (element_in n S) is) f) (subst (λ vs. Adds (any_stands n S t (terms_of vs)) t l1 l2) eu g))
@@ -218,7 +207,7 @@ module _ (n : ℕ) (S : Exp → Bool) (t : Exp) where
   pub call_found : (p : Term) (q : FnId) (ts : Vec Term Global) (us : List Term) (o : Option ℕ) (l0 l1 l2 : List (List Exp)) → p ≡ views.Call q ts → us ≡ ts.items → o ≡ element_in n S (term_of p)
       → Adds (λ j. is_place j o) t l0 l1 → Adds (any_stands n S t (terms_of us)) t l1 l2 → Adds (stands n S t (term_of p)) t l0 l2
   call_found p q ts us o l0 l1 l2 e eu eo f g =
-      let is : term_of p ≡ Call q.number (terms_of ts.items) = ap term_of e ∙ term_call q ts in
+      let is : term_of p ≡ Call q.number (terms_of ts.items) = ap term_of e ∙ call_term q ts in
       same_hits (Call q.number (terms_of ts.items)) (term_of p) l0 l2 (sym is)
       (call_dealt n S t q.number (terms_of ts.items) l0 l1 l2
       (subst (λ w. Adds (λ j. is_place j w) t l0 l1) (eo ∙ ap (element_in n S) is) f) (subst (λ vs. Adds (any_stands n S t (terms_of vs)) t l1 l2) eu g))

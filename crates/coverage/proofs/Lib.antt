@@ -8,8 +8,6 @@ pub mod Widths
 pub mod Rest
 pub mod Chosen
 pub mod Covering
-pub mod TermLists
-pub mod EqualTerms
 pub mod Found
 pub mod Spined
 pub mod Arguments

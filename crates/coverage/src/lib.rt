@@ -14,7 +14,6 @@ mod judgement;
 mod literal;
 mod parts;
 mod rows;
-mod same;
 mod shapes;
 pub mod soundness;
 mod spine;

@@ -16,9 +16,9 @@ ghost use Rattle.coverage.specs.Spines.{chain, end_of, elements_of, spine_of, is
 use super::conjuncts::add_conjuncts;
 use super::parts::parts_of;
 use super::rows::{Row, says};
-use super::same::are_same;
 use super::spine::{End, Spine, spine_of};
 use super::subject::Subject;
+use gl_logic::same_terms::are_same;
 use gl_logic::{NoMemory, Term};
 use shape_spec::Shape;
 use std::alloc::Global;
