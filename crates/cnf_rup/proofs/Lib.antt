@@ -9,3 +9,4 @@ pub mod Gates
 pub mod Counts
 pub mod Makes
 pub mod Worked
+pub mod Trims

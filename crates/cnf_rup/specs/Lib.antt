@@ -3,6 +3,7 @@ pub mod Shown
 pub mod Marked
 pub mod Books
 pub mod Refutations
+pub mod Trimmed
 pub mod Cones
 pub mod Cnfs
 pub mod Searches

@@ -1,6 +1,6 @@
 //! The book.
 
-ghost use Rattle.std.specs.Prelude.{◌≡◌, ◌≤◌, ◌<◌, ◌+◌, ◌-◌, ◌^◌, [], All, length, slice_get, get_or, Some, IfOk, OnOk, OnErr, ◌++◌, ◌∷◌, ◌||◌};
+ghost use Rattle.std.specs.Prelude.{◌≡◌, ◌≤◌, ◌<◌, ◌+◌, ◌-◌, ◌^◌, [], All, length, take, slice_get, get_or, Some, IfOk, OnOk, OnErr, ◌++◌, ◌∷◌, ◌||◌};
 ghost use Rattle.cnf_rup.specs.Literals.{IsClause, IsUpTo};
 ghost use Rattle.cnf_rup.specs.Marked.{AreWithin};
 ghost use Rattle.cnf_rup.specs.Books.{AllFollow, IsAnswer, IsBook, clauses_of, holds_empty, is_empty};
@@ -66,6 +66,23 @@ impl ClauseBook {
         Ok(ClauseBook {
             alloc,
             first: entries.len() as u32,
+            entries,
+            empty,
+            trail,
+        })
+    }
+
+    /// A book of the same first clauses, which has learned none.
+    pub(crate) fn beginning(&self) -> Result<ClauseBook, NoMemory>
+        ensures { IfOk result (λ b. b ≡ record { entries = take self.now.first self.now.entries; first = self.now.first }) }
+    {
+        let entries = copies(self.alloc, &self.entries, self.first)?;
+        let mut trail = Trail::new(self.alloc);
+        trail.widen(self.trail.room())?;
+        let empty = holds_empty(&entries);
+        Ok(ClauseBook {
+            alloc: self.alloc,
+            first: self.first,
             entries,
             empty,
             trail,
@@ -169,6 +186,19 @@ fn push_copy(
     };
     entries.push(entry)?;
     Ok(())
+}
+
+/// Copies of the first entries, so many.
+fn copies(alloc: Global, entries: &[Entry], count: u32) -> Result<Vec<Entry>, NoMemory>
+    requires { count ≤ length entries.now }
+    ensures { IfOk result (λ c. c.items ≡ take count entries.now) }
+{
+    let mut copies = Vec::new(alloc);
+    for place in 0..count {
+        let entry = &entries[place as usize];
+        push_copy(alloc, &mut copies, &entry.clause, &entry.hints)?;
+    }
+    Ok(copies)
 }
 
 /// Whether the empty clause is there, with this clause.

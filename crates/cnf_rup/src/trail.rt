@@ -61,6 +61,14 @@ impl Trail {
         }
     }
 
+    /// How many marks there are.
+    pub fn room(&self) -> usize
+        ensures room { result ≡ self.now.room }
+        ensures small { result < 2 ^ 32 }
+    {
+        self.marks.len()
+    }
+
     /// Makes so many marks at least.
     pub fn widen(&mut self, room: usize) -> Result<(), NoMemory>
         requires { room < 2 ^ 32 }

@@ -9,7 +9,7 @@ ghost use Rattle.cnf_rup.specs.Literals.{IsClause};
 use super::gates::{complement, conjunction, variable};
 use aig_store::Aig;
 use bfr_store::Edge;
-use cnf_rup::{Clause, ClauseBook, Hints, Learn, cnf_of};
+use cnf_rup::{Clause, ClauseBook, Hints, Learn, cnf_of, trimmed};
 use gl_logic::Assignment;
 use std::alloc::Global;
 use std::process::Abort;
@@ -163,6 +163,51 @@ fn empty_clause(rt: HostRuntime) {
     assert!(rt; !book.empty_shown());
     assert!(rt; learn(&rt, rt.alloc(), &mut book, &[], &[11, 8, 2, 10]) == Learn::Taken(12));
     assert!(rt; book.empty_shown() && book.count() == 12 && book.first_count() == 10);
+}
+
+/// Of nine learned clauses the first empty one needs three: (3 3), (-3) and (3). The others go, what stands behind the empty
+/// clause and a hint that names none too.
+#[test]
+fn clauses_left_out(rt: HostRuntime) {
+    let alloc = rt.alloc();
+    let mut book = book_of_nothing(&rt, alloc);
+    let rows: [(&[i32], &[u32]); 9] = [
+        (&[2], &[10, 1, 4]),
+        (&[3, 3], &[10, 1, 5]),
+        (&[-3], &[10, 2, 8]),
+        (&[5], &[10, 2]),
+        (&[3], &[12, 99]),
+        (&[3, 4], &[12]),
+        (&[], &[15, 13]),
+        (&[2, 4], &[11]),
+        (&[], &[17]),
+    ];
+    for (literals, hints) in rows {
+        let answer = learn(&rt, alloc, &mut book, literals, hints);
+        assert!(rt; answer != Learn::NotShown(0), "{literals:?}");
+    }
+    assert!(rt; book.count() == 19);
+    let book = trimmed(alloc, book);
+    assert!(rt; book.count() == 14 && book.first_count() == 10 && book.empty_shown());
+    let rows: [(u32, &[i32], &[u32]); 5] = [
+        (10, &[6], &[]),
+        (11, &[3, 3], &[10, 1, 5]),
+        (12, &[-3], &[10, 2, 8]),
+        (13, &[3], &[11]),
+        (14, &[], &[13, 12]),
+    ];
+    for (id, literals, hints) in rows {
+        assert!(rt; is_entry(&rt, &book, id, literals, hints), "{id}");
+    }
+}
+
+/// Nothing is left out where there is no empty clause.
+#[test]
+fn nothing_left_out(rt: HostRuntime) {
+    let mut book = book_of_conjunction(&rt, rt.alloc());
+    assert!(rt; learn(&rt, rt.alloc(), &mut book, &[2], &[4, 1]) == Learn::Taken(5));
+    let book = trimmed(rt.alloc(), book);
+    assert!(rt; book.count() == 5 && is_entry(&rt, &book, 5, &[2], &[4, 1]));
 }
 
 /// Whether bit k of a number is set.
