@@ -20,7 +20,7 @@ use super::verdict::Verdict;
 use super::verdict_of::{cause_of, verdict_of};
 use bdd_store::Bdd;
 use bfr_store::{Bits, Meaning};
-use cnf_rup::ClauseBook;
+use cnf_rup::{ClauseBook, trimmed};
 use coverage::covers;
 use gl_base::limits::Limits;
 use gl_logic::World;
@@ -84,20 +84,20 @@ fn certify_covered(
     let (verdict, left) = decide_unscanned(alloc, world, thm, limits);
     *room = left;
     match verdict {
-        Verdict::Proved => shown(limits, room),
-        Verdict::Vacuous => shown(limits, room),
+        Verdict::Proved => shown(alloc, room),
+        Verdict::Vacuous => shown(alloc, room),
         verdict => Err(verdict),
     }
 }
 
-/// The book of the last decision.
-fn shown(limits: &Limits, room: &mut Room) -> Result<ClauseBook, Verdict>
+/// The book of the last decision, with those of the learned clauses that the empty one needs.
+fn shown(alloc: Global, room: &mut Room) -> Result<ClauseBook, Verdict>
     requires shown { IsShownIn ⟦<AigSat as Meaning>⟧ room.old }
     ensures book { IfOk result IsRefutation }
     ensures always { IfErr result (λ v. ⊥) }
 {
     match take(room) {
-        Some(book) => Ok(book),
+        Some(book) => Ok(trimmed(alloc, book)),
         None => Err(Verdict::Memory),
     }
 }
