@@ -1,10 +1,10 @@
-//! Nodes that are found again by what they are: the ground of the stores of diagrams and graphs, and of symbolic objects.
+//! Nodes that are found again by what they are: the ground of the stores of diagrams and of graphs.
 //!
 //! A [`NodeTable`] numbers nodes in the order of their making. Room for as many as there may be is reserved at making; the
 //! buckets by which a node is found start few and double inside their room, so that a new table costs nothing in proportion
 //! to its limit. What a node's hash is, its type says ([`Interned`]).
 //!
-//! Tests: the crates `store_tests` and `bits_tests`.
+//! Tests: the crate `store_tests`.
 #![tactic(auto)]
 
 mod chains;
