@@ -12,39 +12,25 @@
 //! The book is there for the next call that takes it, after whatever answer.
 //!
 //! Before any search the assignment that was found last is tried on the graph, and those that are all false and all true.
-//! The search watches two literals of each clause, with another literal of it beside each watch that spares a look where it
-//! is true, and has lists of their own for clauses of two literals. A conflict is followed back to the first unique
-//! implication point; literals that the others imply are left out (self-subsumption), and their reasons join the hints,
-//! which stand in the order of the trail. So hints are written in analysis and never searched for. A clause that the book
-//! refuses is replaced by that of the decisions, with the reasons in their order. Variables of the cone alone are decided,
-//! by activity, in a heap: a whole number, to which later conflicts add more, and all are halved before one would leave its
-//! type. A conflict adds to the variables that it is followed through, and to those of the reasons of the learned clause's
-//! literals, as CaDiCaL and MapleSAT do: on products of words this halves the clauses that are learned. Each variable takes the
-//! value that it had last. The search begins anew where the glue of late clauses, the count of their literals' levels, is a tenth
-//! above that of all, and now and then forgets half of the long clauses that it learned, those of the greatest glue. The book
-//! keeps them. After as many conflicts as there are variables, and 500 at least, variables of gates are resolved away: the
-//! resolvents are learned by the book as other clauses are, each by two hints, and take the place of what they were made of.
+//! The search watches two literals of each clause, with another literal of it beside each watch that spares a look where it is
+//! true, and has lists of their own for clauses of two literals. A conflict is followed back to the first unique implication
+//! point; literals that the others imply are left out (self-subsumption), and their reasons join the hints, which stand in the
+//! order of the trail. So hints are written in analysis and never searched for. A clause that the book refuses is replaced by
+//! that of the decisions, with the reasons in their order. Variables of the cone alone are decided, by activity, in a heap: a
+//! whole number, to which each conflict adds more than the one before it, an eighth more while there are few, a 64th later, and
+//! all are halved before one would leave its type. A conflict adds to the variables that it is followed through, and to those
+//! of the reasons of the learned clause's literals, as CaDiCaL and MapleSAT do: on products of words this halves the clauses
+//! that are learned. Each variable takes the value that it had last. The search begins anew where the glue of late clauses, the
+//! count of their literals' levels, is a tenth above that of all, and now and then forgets half of the long clauses that it
+//! learned, those of the greatest glue. The book keeps them. After as many conflicts as there are variables, and 500 at least,
+//! variables of gates are resolved away: the resolvents are learned by the book as other clauses are, each by two hints, and
+//! take the place of what they were made of.
 //!
 //! No call nests: each walk is a loop.
 //!
-//! A propagation is a literal that is taken from the trail, with the clauses gone through that watch its complement. With all
-//! that stands between them, analysis, checks and the start of the process, a million of them take two tenths of a second on
-//! the adders and the 5-bit product, three tenths on the 8-bit one, which watches most clauses, and six on the pigeonholes,
-//! where every twentieth is a conflict.
-//!
-//! Processor time in seconds of the whole process, the least of five runs on a shared machine, with the clauses that were
-//! learned and checked and the propagations in thousands, beside MiniSat 2.2.1 and CaDiCaL 1.5.3 (Debian's packages) on the
-//! same clauses, as `bench/decisions` prints them:
-//!
-//! | edge, which no assignment makes true | nodes | learned | propagations | time | MiniSat | CaDiCaL |
-//! |---|---|---|---|---|---|---|
-//! | two 64-bit adders of different build differ | 1,581 | 1,732 | 164 | 0.029 | 0.022 | 0.023 |
-//! | 7 pigeons in 6 holes | 335 | 338 | 7 | 0.004 | 0.006 | 0.004 |
-//! | 8 pigeons in 7 holes | 503 | 1,008 | 23 | 0.013 | 0.022 | 0.016 |
-//! | two 5-bit products in two orders differ | 372 | 894 | 114 | 0.023 | 0.021 | 0.038 |
-//! | of 6 bits | 563 | 4,474 | 836 | 0.188 | 0.198 | 0.209 |
-//! | of 7 bits | 792 | 15,797 | 3,856 | 0.976 | 2.058 | 1.248 |
-//! | of 8 bits | 1,059 | 70,451 | 21,048 | 6.859 | 16.429 | 7.819 |
+//! A propagation is a literal that is taken from the trail, with the clauses gone through that watch its complement.
+//! `bench/decisions` counts them, and times the search beside MiniSat and CaDiCaL on the same clauses; its figures, and what was
+//! tried on the search and gave nothing, are in `docs/BENCHMARKS.md`, "Searches".
 //!
 //! Tests: the crate `store_tests`.
 #![tactic(auto)]

@@ -4,11 +4,19 @@ use super::literal::{Literal, number_of};
 use gl_logic::NoMemory;
 use std::alloc::Global;
 
-/// What a bump adds at first. It grows by one part in `SLOWNESS` with each conflict.
+/// What a bump adds at first. It grows by one part in `FIRST_SLOWNESS` with each of the first conflicts, and by one in `SLOWNESS`
+/// with each after them.
 const FIRST_STEP: u64 = 1 << 20;
 
-/// How slowly later bumps come to weigh more.
+/// How slowly later bumps come to weigh more, while conflicts are few: the search stays among the variables of late conflicts, which
+/// decides exclusive ors and comparisons in a fraction of the conflicts.
+const FIRST_SLOWNESS: u64 = 8;
+
+/// The same after that: products, which need many conflicts, need fewer so.
 const SLOWNESS: u64 = 64;
+
+/// How many conflicts are the first ones.
+const FIRST_CONFLICTS: u32 = 8_000;
 
 /// Where an activity or the step has come to this, all are halved, as often as `HALVINGS` says.
 const MOST: u64 = 1 << 62;
@@ -20,6 +28,8 @@ const HALVINGS: u32 = 40;
 pub struct Order {
     activities: Vec<u64>,
     step: u64,
+    /// How many conflicts there were.
+    conflicts: u32,
     /// A binary heap of variables: the activity of none is above that of the one at half its place.
     heap: Vec<u32>,
     /// By variable, its place in the heap.
@@ -39,6 +49,7 @@ impl Order {
         Ok(Order {
             activities: vec![in alloc; 0; count]?,
             step: FIRST_STEP,
+            conflicts: 0,
             heap,
             places,
         })
@@ -167,9 +178,15 @@ impl Order {
         }
     }
 
-    /// Later bumps weigh more.
+    /// Counts a conflict: later bumps weigh more.
     pub fn age(&mut self) {
-        self.step = self.step.saturating_add(self.step / SLOWNESS);
+        self.conflicts = self.conflicts.saturating_add(1);
+        let more = if self.conflicts > FIRST_CONFLICTS {
+            self.step / SLOWNESS
+        } else {
+            self.step / FIRST_SLOWNESS
+        };
+        self.step = self.step.saturating_add(more);
         if self.step >= MOST {
             self.halve();
         }
