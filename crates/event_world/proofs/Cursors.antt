@@ -3,7 +3,7 @@ use Rattle.std.proofs.Common.{◌≡◌, ◌∙◌, ap, sym, refl, ℕ, ◌<◌,
 use Rattle.std.specs.Option.{option_map}
 use Rattle.std.proofs.lemmas.List.{reverse-append, take_all}
 use Rattle.gl_logic.specs.Object.{Object}
-use Rattle.shape_spec.specs.Wording.{both, all_meant}
+use Rattle.gl_logic.specs.Wording.{both, all_meant}
 use Rattle.event_world.specs.PartsOf.{split_last}
 use Rattle.event_world.specs.Keywords.{keyword_of, pairs_of}
 

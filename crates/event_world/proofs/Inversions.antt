@@ -6,7 +6,7 @@ use Rattle.std.specs.Option.{option_map, is_some}
 use Rattle.gl_translate.specs.declared.fault.TermFault.{TermFault}
 use Rattle.gl_logic.specs.Exp.{Exp}
 use Rattle.gl_logic.specs.Named.{AreDifferentNames}
-use Rattle.shape_spec.specs.BindingsMeant.{are_different}
+use Rattle.gl_logic.specs.NameSets.{are_different}
 use Rattle.event_world.specs.declared.fault.EventFault.{EventFault}
 use Rattle.event_world.specs.declared.fault.EventFault.TheVariants as code
 use Rattle.event_world.specs.Outcomes.{Outcome, and_then, found_or, holds_or, of_term}

@@ -6,7 +6,7 @@ use Rattle.gl_logic.specs.Every.{Every}
 use Rattle.gl_logic.specs.Names.{number_of}
 use Rattle.gl_logic.specs.Object.{Object, Cons, nil}
 use Rattle.gl_logic.specs.WorldSeen.{WorldSeen}
-use Rattle.shape_spec.specs.Wording.{elements, all_meant}
+use Rattle.gl_logic.specs.Wording.{elements, all_meant}
 use Rattle.shape_spec.specs.BindingsMeant.{is_backquote}
 use Rattle.shape_spec.specs.declared.theorem.Mode.{Mode}
 use Rattle.gl_cases.specs.TheoremSeen.{plain_theorem}

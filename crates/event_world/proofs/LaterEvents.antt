@@ -15,7 +15,7 @@ use Rattle.gl_logic.specs.declared.def.Measure.TheVariants as measure
 use Rattle.gl_translate.specs.Translation.{translation}
 use Rattle.gl_translate.specs.declared.fault.TermFault.TheVariants as term_fault
 use Rattle.gl_translate.specs.declared.scope.Scope.{Scope}
-use Rattle.shape_spec.specs.Wording.{spells, elements, both, all_meant}
+use Rattle.gl_logic.specs.Wording.{spells, elements, both, all_meant}
 use Rattle.shape_spec.specs.declared.theorem.Mode.{Mode}
 use Rattle.event_world.specs.declared.fault.EventFault.{EventFault}
 use Rattle.event_world.specs.declared.fault.EventFault.TheVariants as code

@@ -6,12 +6,13 @@ use Rattle.std.specs.Option.{option_map, option_and_then, IfSome}
 use Rattle.gl_logic.specs.Every.{Every}
 use Rattle.gl_logic.specs.Object.{Object, Int, Character, Symbol, Text, Cons}
 use Rattle.shape_spec.specs.ShapeSeen.{ShapeSeen, Boolean, Pair}
-use Rattle.shape_spec.specs.Wording.{text_of, spells, is_legal, elements, both, all_meant}
+use Rattle.gl_logic.specs.Wording.{text_of, spells, is_legal, elements, both, all_meant}
 use Rattle.shape_spec.specs.Heads.{word_head, head_of, item_word, item_of, is_plain, is_boolean}
 use Rattle.shape_spec.specs.ShapeMeant.{index_meant, progression, call_of, comma_of, test_meant, choice_of, headed, shape_meant, choice_meant, branches_meant}
 use Rattle.shape_spec.specs.ItemsMeant.{Slotted, own, own_slots, number_item, boolean_item, all_variables, in_sequence, interleaved, have_count, first_count, itemized, item_meant, items_meant, placed, shape_at, places_of}
 use Rattle.shape_spec.specs.Indices.{variables_of, shapes_of, indices_of, width_of}
-use Rattle.shape_spec.specs.BindingsMeant.{entry_of, entry_meant, quoted, bound, is_backquote, listed, are_different, is_shape, are_below, checked, bindings_meant}
+use Rattle.shape_spec.specs.BindingsMeant.{entry_of, entry_meant, quoted, bound, is_backquote, listed, is_shape, are_below, checked, bindings_meant}
+use Rattle.gl_logic.specs.NameSets.{are_different}
 use Rattle.event_world.proofs.LaterTexts.{map_has, then_has, then_same, both_has, cond_has, all_meant_same, all_meant_has, every_append, Known, IsKnown, later, text_same, spells_same, legal_same, elements_known}
 
 cond_both : {A : Type 0} (P : A → Type 0) (b : Bool) (x y : A) → P x → P y → P (cond b x y)

@@ -8,10 +8,10 @@ use Rattle.gl_logic.specs.Every.{Every}
 use Rattle.gl_logic.specs.Numbered.{IsNumbered}
 use Rattle.gl_logic.specs.Object.{Object, Int, Character, Symbol, Text, Cons}
 use Rattle.gl_logic.specs.WorldSeen.{WorldSeen}
-use Rattle.shape_spec.specs.Wording.{text_of, spells, is_legal, is_starred, first_byte, elements, both, all_meant}
-use Rattle.shape_spec.specs.BindingsMeant.{are_different}
+use Rattle.gl_logic.specs.Wording.{text_of, spells, is_legal, is_starred, first_byte, elements, both, all_meant, is_keyword}
+use Rattle.gl_logic.specs.NameSets.{are_different}
 use Rattle.event_world.specs.NamesMeant.{plain_name, constant_name, is_constant_name, is_word, is_used, is_taken}
-use Rattle.event_world.specs.Keywords.{is_keyword, keyword_of, pairs_of, value_of, is_one_of, are_options}
+use Rattle.event_world.specs.Keywords.{keyword_of, pairs_of, value_of, is_one_of, are_options}
 use Rattle.event_world.specs.PartsOf.{one_of, two_of, three_of, four_of, two_in, three_in, four_in, split_last}
 
 -- ---- options

@@ -7,7 +7,6 @@ pub mod PreludeSteps
 pub mod PreludeParts
 pub mod PreludeWorlds
 pub mod Cursors
-pub mod Different
 pub mod EmptyCalls
 pub mod Forms
 pub mod Inversions

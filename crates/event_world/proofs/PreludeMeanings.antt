@@ -17,7 +17,8 @@ use Rattle.gl_logic.specs.declared.prim.Primitive.TheVariants as prim
 use Rattle.gl_translate.specs.declared.fault.TermFault.TheVariants as term_fault
 use Rattle.gl_translate.specs.declared.macros.Macro.{Macro}
 use Rattle.gl_translate.specs.declared.macros.Macro.TheVariants as macro
-use Rattle.gl_translate.specs.Setting.{Setting, spelling, first_byte, is_mark}
+use Rattle.gl_translate.specs.Setting.{Setting, spelling}
+use Rattle.gl_logic.specs.Wording.{first_byte, is_mark}
 use Rattle.gl_translate.specs.Meaning.{Meaning, Outcome, and_then, within, fault, literal, symbol, symbol_inside, variable, every_part, if_form, prim_form, call_form, call_with, count_at, numbered_call, function_names, place_after, number_named, place_call, named_call}
 use Rattle.gl_translate.specs.Parts.{Part, all_means}
 use Rattle.gl_translate.specs.Macros.{and_form, sum_form, minus_form, of_one, of_two, macro_form, prim1, prim2, path_form}

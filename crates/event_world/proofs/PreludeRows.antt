@@ -8,7 +8,7 @@ use Rattle.std.proofs.lemmas.Bool.{leb-true, and_parts}
 use Rattle.gl_logic.specs.Exp.{Exp, Exps, Var, Const, If, Prim, Call, Let, Last, More}
 use Rattle.gl_logic.specs.Ground.{Ground, ground}
 use Rattle.gl_logic.specs.IsGround.{placed, all_placed}
-use Rattle.gl_translate.specs.Macros.{are_different}
+use Rattle.gl_logic.specs.NameSets.{are_different}
 use Rattle.event_world.specs.PreludeTexts.{ground_texts, ground_names, ground_formals}
 use Rattle.event_world.specs.PreludeForms.{Source, Word, Pair, no_more, forms_in}
 use Rattle.event_world.proofs.PreludeMeant.{form_meant, Function, word_place, size}

@@ -9,8 +9,8 @@ use Rattle.gl_logic.specs.IsAdmissible.{Recursive, recursive_calls, is_step}
 use Rattle.gl_logic.specs.Every.{Every}
 use Rattle.gl_logic.specs.Steps.{actual_of}
 use Rattle.gl_logic.specs.declared.def.Measure.{Measure}
-use Rattle.gl_translate.specs.Macros.{are_different}
-use Rattle.admission.specs.Refused.{after, first_no_step}
+use Rattle.gl_logic.specs.NameSets.{are_different}
+use Rattle.admission.specs.Refused.{first_no_step}
 use Rattle.admission.specs.Admitted.{count_of, definition, refused_alone, first_formal, number_for_first, verdict}
 use Rattle.event_world.specs.PreludeTerms.{named}
 
@@ -28,7 +28,7 @@ AllAdmit k (g ∷ gs) = Admits k g × AllAdmit (suc k) gs
 -- ---- where each call is a step under the count of a formal
 no_refusal : (is_one : Recursive → Bool) (n : ℕ) (rs : List Recursive) → Every (λ r. is_one r ≡ true) rs → first_no_step is_one n rs ≡ None
 no_refusal is_one n [] h = refl
-no_refusal is_one n (r ∷ rs) h = ap (λ (b : Bool). elim b as (λ (z : Bool). Option ℕ) [ true ↦ first_no_step is_one (after n) rs | false ↦ Some n ]) h.0 ∙ no_refusal is_one (after n) rs h.1
+no_refusal is_one n (r ∷ rs) h = ap (λ (b : Bool). elim b as (λ (z : Bool). Option ℕ) [ true ↦ first_no_step is_one (n + 1) rs | false ↦ Some n ]) h.0 ∙ no_refusal is_one (n + 1) rs h.1
 
 settled_by : (refused : Option Measure → Option ℕ) (n : ℕ) (u : ℕ) (vs : List ℕ) (v : ℕ) (i : ℕ) (o : Option ℕ) (b : Bool) → refused (count_of u) ≡ o → eqb v u ≡ b → refused (count_of v) ≡ None
     → (list_any (eqb v) vs ≡ true → first_formal refused n vs ≡ Err i → ⊥) → (b || list_any (eqb v) vs) ≡ true

@@ -8,6 +8,7 @@ use Rattle.std.proofs.lemmas.List.Quantifiers.{position-Some}
 use Rattle.std.proofs.lemmas.Bool.{and_parts, eqb-true}
 use Rattle.gl_logic.specs.Object.{Object, Int, Symbol, Cons, nil}
 use Rattle.gl_logic.specs.Names.{number_of, with_name, Extends, IsTable, first_names}
+use Rattle.gl_logic.proofs.GrownTables.{extends_name}
 use Rattle.gl_translate.specs.Answers.{GainsAtMost}
 use Rattle.event_world.specs.PreludeForms.{Source, Word, Number, Pair, no_more, Spells, AllSpell, AreAround, AreSpelled, leaf, leaf_by, digit_in, with_word, opened_into}
 
@@ -23,18 +24,6 @@ at_number name names id h =
     slice_get-get_or names id [] p.0 ∙ ap Some (sym (same_text name (get_or names id []) p.1))
 
 -- ---- tables that grow
-pub extends_same : (names : List (List ℕ)) → Extends names names
-extends_same names = ([], sym (append-nil names))
-
-pub extends_twice : (a b c : List (List ℕ)) → Extends a b → Extends b c → Extends a c
-extends_twice a b c p q = (p.0 ++ q.0, q.1 ∙ (ap (λ (z : List (List ℕ)). z ++ q.0) p.1 ∙ append_assoc a p.0 q.0))
-
-pub extends_name : (old new : List (List ℕ)) (name : List ℕ) → new ≡ with_name old name → Extends old new
-extends_name old new name h = elim (list_any (bytes_eq name) old) as (λ b. new ≡ cond b old (old ++ name ∷ []) → Extends old new) [
-  | true ↦ λ e. ([], e ∙ sym (append-nil old))
-  | false ↦ λ e. (name ∷ [], e)
-] h
-
 pub extends_gains : (old new : List (List ℕ)) → GainsAtMost [] old new → Extends old new
 extends_gains old new (inl h) = extends_name old new [] h
 extends_gains old new (inr h) = ([], h ∙ sym (append-nil old))

@@ -14,7 +14,7 @@ use Rattle.gl_logic.specs.Ground.{Ground, ground}
 use Rattle.gl_logic.specs.IsGround.{IsGround, placed}
 use Rattle.gl_logic.specs.WorldSeen.{WorldSeen, definition_names, with_definition}
 use Rattle.gl_translate.specs.Meaning.{function_names}
-use Rattle.gl_translate.specs.Macros.{are_different}
+use Rattle.gl_logic.specs.NameSets.{are_different}
 use Rattle.gl_translate.specs.Translation.{function_of, setting_of, are_in, meaning}
 use Rattle.gl_logic.specs.declared.def.Measure.{Measure}
 use Rattle.admission.specs.declared.fault.AdmitFault.{AdmitFault}
@@ -267,6 +267,5 @@ is_prelude names w table h = record {
   events = h.events;
 }
 
-pub no_fault : (v : Result (Option Measure) ℕ) (e : AdmitFault) → ((i : ℕ) → v ≡ Err i → ⊥) → Tells v (Err e) → ⊥
-no_fault v (fault.NotAdmitted i) h q = h i q
-no_fault v fault.Memory h q = q
+pub no_fault : (Beyond : Type 0) (v : Result (Option Measure) ℕ) (e : AdmitFault) (i : ℕ) → e ≡ fault.NotAdmitted i → (v ≡ Err i → ⊥) → Tells Beyond v (Err e) → ⊥
+no_fault Beyond v e i is h q = h (subst (λ (f : AdmitFault). Tells Beyond v (Err f)) is q)

@@ -25,17 +25,17 @@ use Rattle.admission.specs.Admitted.{verdict, definition, refused_alone}
 use Rattle.admission.proofs.LoneDefinitions.{none_refused, verdict_none, verdict_measured, measured_found}
 use Rattle.shape_spec.specs.ShapeSeen.{ShapeSeen}
 use Rattle.shape_spec.specs.Indices.{variables_of}
-use Rattle.shape_spec.specs.Wording.{text_of, all_meant}
-use Rattle.shape_spec.specs.BindingsMeant.{are_different, bindings_meant}
+use Rattle.gl_logic.specs.Wording.{text_of, all_meant}
+use Rattle.shape_spec.specs.BindingsMeant.{bindings_meant}
+use Rattle.gl_logic.specs.NameSets.{are_different}
 use Rattle.shape_spec.specs.declared.theorem.Mode.{Mode}
 use Rattle.event_world.specs.declared.fault.EventFault.TheVariants as code
 use Rattle.event_world.specs.EventSeen.{EventSeen, Defun, Defconst, Theorem}
-use Rattle.event_world.specs.NamesMeant.{is_word, is_taken}
+use Rattle.event_world.specs.NamesMeant.{is_word, is_taken, plain_name}
 use Rattle.event_world.specs.PlainMeant.{closed_meant, evaluation_meant, function_in, function_named, quoted_part, memo_meant, constant_in, defconst_meant}
 use Rattle.event_world.specs.PartsOf.{one_of, two_of}
 use Rattle.event_world.specs.DefunMeant.{defun_parts, formals_meant, checked_formals, are_formals, body_meant, admitted, definition_made, defun_meant}
 use Rattle.event_world.specs.Declares.{stated_measure}
-use Rattle.event_world.specs.NamesMeant.{plain_name}
 use Rattle.event_world.specs.KeywordTexts.{option_texts}
 use Rattle.event_world.specs.TheoremMeant.{theorem_parts, clocks_meant, claim_meant, hyp_meant, has_only, have_only, binds, bound_meant, theorem_made, theorem_meant}
 use Rattle.event_world.specs.Suits.{IsClosedTerm, IsNewName, Suits}

@@ -13,7 +13,7 @@ use Rattle.gl_logic.specs.WorldSeen.{WorldSeen}
 use Rattle.gl_translate.specs.Translation.{are_in}
 use Rattle.shape_spec.specs.ShapeSeen.{ShapeSeen}
 use Rattle.shape_spec.specs.Indices.{variables_of}
-use Rattle.shape_spec.specs.Wording.{both, elements, all_meant}
+use Rattle.gl_logic.specs.Wording.{both, elements, all_meant}
 use Rattle.shape_spec.specs.BindingsMeant.{bindings_meant}
 use Rattle.shape_spec.specs.declared.theorem.Mode.{Mode}
 use Rattle.gl_cases.specs.TheoremSeen.{TheoremSeen, plain_theorem, set_by}

@@ -23,8 +23,8 @@ use Rattle.gl_translate.proofs.Whole.{meant_proper}
 use Rattle.admission.specs.Refused.{first_refused}
 use Rattle.admission.specs.Admitted.{settled}
 use Rattle.admission.proofs.Numbered.{every_step}
-use Rattle.shape_spec.specs.Wording.{both, all_meant}
-use Rattle.shape_spec.specs.BindingsMeant.{are_different}
+use Rattle.gl_logic.specs.Wording.{both, all_meant}
+use Rattle.gl_logic.specs.NameSets.{are_different}
 use Rattle.event_world.specs.declared.fault.EventFault.TheVariants as code
 use Rattle.event_world.specs.EventSeen.{EventSeen, Clique}
 use Rattle.event_world.specs.PartsOf.{is_empty}

@@ -4,7 +4,7 @@ use Rattle.std.specs.Prelude.{Result, Ok, Err, IfOk}
 use Rattle.std.specs.Option.{option_and_then}
 use Rattle.gl_logic.specs.Object.{Object}
 use Rattle.gl_logic.specs.WorldSeen.{WorldSeen}
-use Rattle.shape_spec.specs.Wording.{elements, all_meant}
+use Rattle.gl_logic.specs.Wording.{elements, all_meant}
 use Rattle.shape_spec.specs.declared.theorem.Mode.{Mode}
 use Rattle.shape_spec.specs.declared.theorem.Mode.TheVariants as mode
 use Rattle.event_world.specs.declared.fault.EventFault.{EventFault}

@@ -6,8 +6,9 @@ use Rattle.gl_logic.specs.Object.{Object, Symbol, Cons, nil}
 use Rattle.gl_logic.specs.Exp.{Exp}
 use Rattle.gl_logic.specs.WorldSeen.{WorldSeen}
 use Rattle.shape_spec.specs.ShapeSeen.{ShapeSeen}
-use Rattle.shape_spec.specs.Wording.{spells, elements, all_meant}
-use Rattle.shape_spec.specs.BindingsMeant.{bindings_meant, is_backquote, are_different}
+use Rattle.gl_logic.specs.Wording.{spells, elements, all_meant}
+use Rattle.shape_spec.specs.BindingsMeant.{bindings_meant, is_backquote}
+use Rattle.gl_logic.specs.NameSets.{are_different}
 use Rattle.shape_spec.specs.declared.theorem.Mode.{Mode}
 use Rattle.gl_cases.specs.TheoremSeen.{TheoremSeen, plain_theorem}
 use Rattle.gl_cases.specs.Parts.{CaseSeen, ParamSeen, parts_made}

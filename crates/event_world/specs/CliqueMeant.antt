@@ -10,8 +10,8 @@ use Rattle.gl_logic.specs.declared.def.Measure.{Measure}
 use Rattle.gl_translate.specs.declared.fault.TermFault.TheVariants as term_fault
 use Rattle.admission.specs.Refused.{first_refused}
 use Rattle.admission.specs.Admitted.{settled}
-use Rattle.shape_spec.specs.Wording.{spells, elements, all_meant}
-use Rattle.shape_spec.specs.BindingsMeant.{are_different}
+use Rattle.gl_logic.specs.Wording.{spells, elements, all_meant}
+use Rattle.gl_logic.specs.NameSets.{are_different}
 use Rattle.event_world.specs.declared.fault.EventFault.TheVariants as code
 use Rattle.event_world.specs.Outcomes.{Outcome, and_then, found_or, holds_or}
 use Rattle.event_world.specs.EventSeen.{EventSeen, Clique}

@@ -3,7 +3,7 @@ use Rattle.std.specs.Prelude.{ℕ, Bool, true, false, ◌||◌, ◌++◌, List, 
 use Rattle.std.specs.Option.{option_map, option_and_then}
 use Rattle.gl_logic.specs.Object.{Object, Text, Cons}
 use Rattle.gl_logic.specs.declared.def.Measure.{Measure}
-use Rattle.shape_spec.specs.Wording.{spells, elements, both}
+use Rattle.gl_logic.specs.Wording.{spells, elements, both}
 use Rattle.event_world.specs.Keywords.{pairs_of, value_of, are_options}
 use Rattle.event_world.specs.KeywordTexts.{xargs_texts}
 use Rattle.event_world.specs.MeasureMeant.{measure_meant}

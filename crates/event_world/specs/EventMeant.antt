@@ -16,7 +16,7 @@ use Rattle.gl_logic.specs.Object.{Object}
 use Rattle.gl_logic.specs.WorldSeen.{WorldSeen}
 use Rattle.shape_spec.specs.declared.theorem.Mode.{Mode}
 use Rattle.shape_spec.specs.declared.theorem.Mode.TheVariants as mode
-use Rattle.shape_spec.specs.Wording.{elements}
+use Rattle.gl_logic.specs.Wording.{elements}
 use Rattle.event_world.specs.declared.fault.EventFault.TheVariants as code
 use Rattle.event_world.specs.declared.word.EventWord.{EventWord}
 use Rattle.event_world.specs.declared.word.EventWord.TheVariants as word

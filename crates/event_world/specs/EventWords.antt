@@ -1,7 +1,7 @@
 -- The words of the events.
 use Rattle.std.specs.Prelude.{ℕ, if◌then◌else◌, List, codes, bytes_eq, Option, Some, None}
 use Rattle.gl_logic.specs.Object.{Object, Symbol, Cons}
-use Rattle.shape_spec.specs.Wording.{text_of}
+use Rattle.gl_logic.specs.Wording.{text_of}
 use Rattle.event_world.specs.declared.word.EventWord.{EventWord}
 use Rattle.event_world.specs.declared.word.EventWord.TheVariants as word
 

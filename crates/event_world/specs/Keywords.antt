@@ -1,13 +1,10 @@
 -- Keywords, each with its value behind it.
-use Rattle.std.specs.Prelude.{ℕ, Bool, ◌&&◌, ◌==◌, List, [], ◌∷◌, map, bytes_eq, if◌then◌else◌, Option, Some, None}
+use Rattle.std.specs.Prelude.{ℕ, Bool, ◌&&◌, List, [], ◌∷◌, map, bytes_eq, if◌then◌else◌, Option, Some, None}
 use Rattle.std.specs.List.{find, list_any, list_all}
 use Rattle.std.specs.Option.{option_map}
 use Rattle.gl_logic.specs.Object.{Object, Symbol}
-use Rattle.shape_spec.specs.Wording.{text_of, first_byte, both}
-use Rattle.shape_spec.specs.BindingsMeant.{are_different}
-
-abbrev pub is_keyword : List (List ℕ) → ℕ → Bool
-is_keyword names t = first_byte (text_of names t) == 58
+use Rattle.gl_logic.specs.Wording.{text_of, is_keyword, both}
+use Rattle.gl_logic.specs.NameSets.{are_different}
 
 abbrev pub keyword_of : List (List ℕ) → Object → Option ℕ
 keyword_of names (Symbol k) = if is_keyword names k then Some k else None

@@ -9,7 +9,7 @@ use Rattle.gl_logic.specs.declared.def.Natural.{Natural}
 use Rattle.gl_logic.specs.declared.def.Natural.TheVariants as natural
 use Rattle.gl_logic.specs.declared.def.Measure.{Measure}
 use Rattle.gl_logic.specs.declared.def.Measure.TheVariants as measure
-use Rattle.shape_spec.specs.Wording.{spells, both}
+use Rattle.gl_logic.specs.Wording.{spells, both}
 use Rattle.event_world.specs.PartsOf.{two_in, three_in, four_in}
 
 -- one of the formals

@@ -5,7 +5,7 @@ use Rattle.gl_logic.specs.Object.{Object, Symbol}
 use Rattle.gl_logic.specs.Named.{place_of, names_of}
 use Rattle.gl_logic.specs.WorldSeen.{WorldSeen, definition_names}
 use Rattle.gl_translate.specs.Words.{macro_named, prim_named, is_path}
-use Rattle.shape_spec.specs.Wording.{text_of, is_legal, is_starred}
+use Rattle.gl_logic.specs.Wording.{text_of, is_legal, is_starred}
 
 -- a variable, a definition and a theorem are named by a symbol that is no keyword, not T or NIL, and does not both begin and end with `*`
 abbrev pub plain_name : List (List ℕ) → Object → Option ℕ

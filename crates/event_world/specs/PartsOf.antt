@@ -2,7 +2,7 @@
 use Rattle.std.specs.Prelude.{Bool, true, false, List, [], ◌∷◌, Option, Some, None}
 use Rattle.std.specs.Option.{option_map, option_and_then}
 use Rattle.gl_logic.specs.Object.{Object}
-use Rattle.shape_spec.specs.Wording.{elements}
+use Rattle.gl_logic.specs.Wording.{elements}
 
 abbrev pub one_of : List Object → Option Object
 one_of (a ∷ []) = Some a

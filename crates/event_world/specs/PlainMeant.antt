@@ -7,7 +7,7 @@ use Rattle.gl_logic.specs.Named.{place_of}
 use Rattle.gl_logic.specs.WorldSeen.{WorldSeen, definition_names}
 use Rattle.gl_translate.specs.Translation.{translation}
 use Rattle.gl_translate.specs.declared.fault.TermFault.TheVariants as term_fault
-use Rattle.shape_spec.specs.Wording.{text_of, spells}
+use Rattle.gl_logic.specs.Wording.{text_of, spells}
 use Rattle.shape_spec.specs.declared.theorem.Mode.{Mode}
 use Rattle.event_world.specs.declared.fault.EventFault.TheVariants as code
 use Rattle.event_world.specs.Outcomes.{Outcome, and_then, found_or, holds_or, of_term}

@@ -5,8 +5,8 @@ use Rattle.gl_logic.specs.Object.{Object, Symbol, Cons}
 use Rattle.gl_logic.specs.ObjectEq.{object_eq}
 use Rattle.gl_logic.specs.Named.{object_named}
 use Rattle.gl_logic.specs.WorldSeen.{WorldSeen}
-use Rattle.shape_spec.specs.Wording.{spells, all_meant}
-use Rattle.shape_spec.specs.BindingsMeant.{are_different}
+use Rattle.gl_logic.specs.Wording.{spells, all_meant}
+use Rattle.gl_logic.specs.NameSets.{are_different}
 use Rattle.event_world.specs.declared.word.EventWord.{EventWord}
 use Rattle.event_world.specs.declared.word.EventWord.TheVariants as word
 use Rattle.event_world.specs.EventSeen.{EventSeen, Redundant, RedundantClique}

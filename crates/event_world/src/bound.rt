@@ -1,6 +1,6 @@
 //! Whether the free variables of a term are bound.
 
-ghost use Rattle.std.specs.Prelude.{◌≡◌, ◌≤◌, ℕ, ◌||◌, ◌&&◌, [], eqb, length, take, IfOk, OnOk};
+ghost use Rattle.std.specs.Prelude.{◌≡◌, ℕ, ◌&&◌, [], eqb, IfOk, OnOk};
 ghost use Rattle.std.specs.List.{list_any};
 ghost use Rattle.gl_logic.specs.TermOf.{term_of, terms_of};
 ghost use Rattle.gl_translate.specs.Meaning.{also_bound};
@@ -8,21 +8,10 @@ ghost use Rattle.gl_translate.specs.Translation.{are_in};
 ghost use Rattle.shape_spec.specs.Indices.{variables_of};
 ghost use Rattle.event_world.specs.TheoremMeant.{has_only as only_in, have_only as only_in_all, binds as binds_meant};
 
-use super::name_set::NameSet;
+use gl_logic::name_set::NameSet;
 use gl_logic::{Names, NoMemory, Term};
 use shape_spec::Bindings;
 use std::alloc::Global;
-
-/// Puts names into a set, behind those that are there.
-pub(crate) fn bind(bound: &mut NameSet, names: &Names) -> Result<(), NoMemory>
-    ensures same { OnOk result (take (length bound.old) bound.new ≡ bound.old) }
-    ensures bound { OnOk result ((v : ℕ) → list_any (eqb v) bound.new ≡ (list_any (eqb v) names.now || list_any (eqb v) bound.old)) }
-{
-    for i in 0..names.len() {
-        bound.insert(*names.at(i))?;
-    }
-    Ok(())
-}
 
 /// Whether each free variable of a term is in a set. The set is afterwards as it was.
 #[cycle(only)]
@@ -73,7 +62,7 @@ fn has_only_below(names: &Names, body: &Term, bound: &mut NameSet) -> Result<boo
     ensures same { OnOk result (bound.new ≡ bound.old) }
 {
     let count = bound.len();
-    bind(bound, names)?;
+    bound.insert_all(names)?;
     let told = has_only(body, bound)?;
     bound.truncate(count);
     Ok(told)

@@ -4,7 +4,7 @@ ghost use Rattle.std.specs.Prelude.{◌≡◌, [], ◌∷◌, map, IfOk};
 ghost use Rattle.std.specs.Option.{option_map};
 ghost use Rattle.gl_logic.specs.Object.{Cons, nil};
 ghost use Rattle.gl_logic.specs.Names.{with_name};
-ghost use Rattle.shape_spec.specs.Wording.{all_meant};
+ghost use Rattle.gl_logic.specs.Wording.{all_meant};
 ghost use Rattle.shape_spec.specs.BindingsMeant.{bindings_meant};
 ghost use Rattle.gl_cases.specs.TheoremSeen.{theorem_seen};
 ghost use Rattle.gl_cases.specs.Parts.{case_seen};

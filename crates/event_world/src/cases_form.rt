@@ -3,18 +3,18 @@
 ghost use Rattle.std.specs.Prelude.{◌≡◌, bytes_eq, map, IfOk};
 ghost use Rattle.std.specs.List.{list_all};
 ghost use Rattle.std.specs.Option.{option_map, option_and_then};
-ghost use Rattle.shape_spec.specs.Wording.{all_meant, elements as elements_in};
+ghost use Rattle.gl_logic.specs.Wording.{all_meant, elements as elements_in};
 ghost use Rattle.shape_spec.specs.BindingsMeant.{is_backquote as backquote_is};
 ghost use Rattle.event_world.specs.PartsOf.{two_in as two_meant};
 ghost use Rattle.event_world.specs.CasesMeant.{forms_in, cases_parts, constant_meant, constants_meant, case_meant, variables_of_case, are_cases as cases_are, if_cases, is_quoting as quoting_is, cases_of, quoted_cases as quoted_meant};
 ghost use Rattle.event_world.specs.FormsSeen.{cases_form_seen, case_form_seen, quoted_form_seen};
 
 use super::keywords::{Keywords, pairs_of};
-use super::name_set::are_different;
 use super::names::plain_name;
 use super::parameters::{are_kept, have_same_parameters, variables};
 use super::parts::Parts;
-use super::texts::spells;
+use gl_logic::name_set::are_different;
+use gl_logic::wording::spells;
 use gl_logic::{NoMemory, TextId, Texts, Tree, TreeKind};
 use shape_spec::Inputs;
 use std::alloc::Global;

@@ -3,15 +3,15 @@
 ghost use Rattle.std.specs.Prelude.{◌≡◌, map, IfOk};
 ghost use Rattle.std.specs.Option.{option_map};
 ghost use Rattle.event_world.specs.CliqueMeant.{member_parts, are_members as members_are, clique_parts as clique_meant, all_stated as stated_meant, are_new as new_are, all_made as made_meant};
-ghost use Rattle.shape_spec.specs.Wording.{all_meant};
+ghost use Rattle.gl_logic.specs.Wording.{all_meant};
 ghost use Rattle.event_world.specs.FormsSeen.{defun_seen, stated_seen, made_seen};
 
 use super::declares::stated_measure;
 use super::defun_form::{DefunForm, defun_form, formals_of};
-use super::name_set::are_different;
 use super::names::is_taken;
 use super::parts::Parts;
-use super::texts::spells;
+use gl_logic::name_set::are_different;
+use gl_logic::wording::spells;
 use gl_logic::{Measure, Names, NoMemory, TextId, Texts, Tree, World};
 use std::alloc::Global;
 

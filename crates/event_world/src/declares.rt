@@ -2,14 +2,14 @@
 
 ghost use Rattle.std.specs.Prelude.{◌≡◌, IfOk};
 ghost use Rattle.std.specs.Option.{option_copied};
-ghost use Rattle.shape_spec.specs.Wording.{elements};
+ghost use Rattle.gl_logic.specs.Wording.{elements};
 ghost use Rattle.event_world.specs.Declares.{is_text as text_is, is_declare as declare_is, is_ignored as ignored_is, declared_pairs, all_pairs, pairs_before as pairs_meant, xargs_of, stated_of, stated_in, stated_measure as stated_meant};
 
 use super::keyword_table::KeywordTable;
 use super::keywords::{Keywords, pairs_of};
 use super::measure::measure;
 use super::parts::Parts;
-use super::texts::spells;
+use gl_logic::wording::spells;
 use gl_logic::{Measure, NoMemory, Texts, Tree, TreeKind};
 use std::alloc::Global;
 

@@ -3,16 +3,16 @@
 ghost use Rattle.std.specs.Prelude.{◌≡◌, ◌||◌, leb, IfOk};
 ghost use Rattle.std.specs.List.{list_all};
 ghost use Rattle.std.specs.Option.{option_map};
-ghost use Rattle.shape_spec.specs.Wording.{all_meant};
+ghost use Rattle.gl_logic.specs.Wording.{all_meant};
 ghost use Rattle.event_world.specs.NamesMeant.{plain_name as plain_name_meant};
 ghost use Rattle.event_world.specs.Declares.{is_text as text_is, is_declare as declare_is};
 ghost use Rattle.event_world.specs.DefunMeant.{defun_parts as parts_meant, texts_in, may_stand_before as may_stand, formals_meant};
 ghost use Rattle.event_world.specs.FormsSeen.{defun_seen};
 
 use super::declares::{is_declare, is_text};
-use super::name_set::are_different;
 use super::names::plain_name;
 use super::parts::Parts;
+use gl_logic::name_set::are_different;
 use gl_logic::{Names, NoMemory, TextId, Texts, Tree};
 use std::alloc::Global;
 

@@ -19,7 +19,7 @@ pub enum EventFault {
     /// memoized and no definition.
     Term(TermFault),
     /// V8: the number of the first recursive call that is no step.
-    NotAdmitted(u32),
+    NotAdmitted(u64),
     /// V10: bindings are refused, or a variable of a theorem is not bound.
     BadBindings,
     /// V11: an option, a keyword or a `declare` that there is not, one given twice, a clock out of range,
@@ -27,7 +27,7 @@ pub enum EventFault {
     BadOption,
     /// V13: the cases are refused, or a parameter stands where it may not.
     BadCases,
-    /// Memory was refused, or a term would have more than 16,777,216 subterms.
+    /// Memory was refused.
     Memory,
 }
 

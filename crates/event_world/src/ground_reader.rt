@@ -90,6 +90,7 @@ pub(crate) fn forms_of(alloc: Global, text: &[u8], texts: &mut Texts) -> Result<
     let mut list = Tree::nil();
     let mut end = text.len();
     let mut place = text.len();
+    // a text has one number alone, here and after each word
     texts.is_table();
     while place != 0 {
         place -= 1;

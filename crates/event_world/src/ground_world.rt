@@ -11,7 +11,7 @@ ghost use Rattle.event_world.specs.Prelude.{IsPrelude};
 
 use super::ground_reader::forms_of;
 use super::ground_texts::definitions;
-use admission::admit;
+use admission::{AdmitFault, admit};
 use gl_logic::{Def, FnId, Names, NoMemory, Term, TextId, Texts, Tree, TreeKind, World};
 use gl_translate::{Owns, Scope, TermFault, term};
 use std::alloc::Global;
@@ -40,6 +40,7 @@ fn body_of(
         own,
     };
     let meant = term(alloc, form, &scope, world, texts);
+    // a text has one number alone, so the form means what it meant in the table of before
     texts.is_table();
     let body = match meant {
         Ok(body) => body,
@@ -66,6 +67,7 @@ fn define(
     ensures ok { OnOk result (HoldsFirst (length world.old.definitions + 1) texts.new world.new) }
     ensures extends { Extends texts.old texts.new }
 {
+    // a text has one number alone, so the name is free and the formals differ
     texts.is_table();
     let (formals, body) = body_of(alloc, name, formals, form, world, texts)?;
     let f = FnId {
@@ -81,7 +83,10 @@ fn define(
             })?;
             Ok(())
         }
-        Err(_) => unreachable!(),
+        Err(fault) => match fault {
+            AdmitFault::Memory => Err(NoMemory),
+            AdmitFault::NotAdmitted(_) => unreachable!(),
+        },
     }
 }
 
@@ -133,6 +138,7 @@ pub fn prelude(alloc: Global, texts: &mut Texts) -> Result<World, NoMemory>
     for text in definitions() {
         add(alloc, text.as_bytes(), &mut world, texts)?;
     }
+    // a text has one number alone, so each name is found under its definition
     texts.is_table();
     Ok(world)
 }

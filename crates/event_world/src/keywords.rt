@@ -3,14 +3,14 @@
 ghost use Rattle.std.specs.Prelude.{◌≡◌, [], ◌∷◌, ◌++◌, map, IfOk, OnOk};
 ghost use Rattle.std.specs.List.{list_all};
 ghost use Rattle.std.specs.Option.{option_copied, option_map};
-ghost use Rattle.shape_spec.specs.Wording.{text_of};
+ghost use Rattle.gl_logic.specs.Wording.{text_of};
 ghost use Rattle.event_world.specs.Keywords.{keyword_of as keyword_meant, pairs_of as pairs_meant, value_of as value_meant, is_one_of, are_options as options_are};
 ghost use Rattle.event_world.specs.KeywordTexts.{texts_of, ignored_texts};
 
 use super::keyword_table::KeywordTable;
-use super::name_set::are_different;
 use super::parts::Parts;
-use super::texts::{is_keyword, same};
+use gl_logic::name_set::are_different;
+use gl_logic::wording::{is_keyword, same};
 use gl_logic::{Names, NoMemory, TextId, Texts, Tree, TreeKind};
 use std::alloc::Global;
 use std::marker::Model;

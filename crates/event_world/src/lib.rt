@@ -24,7 +24,6 @@ mod ground_world;
 mod keyword_table;
 mod keywords;
 mod measure;
-mod name_set;
 mod names;
 mod one_event;
 mod parameters;

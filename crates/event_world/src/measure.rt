@@ -9,7 +9,7 @@ ghost use Rattle.event_world.specs.MeasureMeant.{is_formal as formal_is, of_form
 ghost use Rattle.event_world.specs.PartsOf.{three_in, four_in};
 
 use super::parts::Parts;
-use super::texts::spells;
+use gl_logic::wording::spells;
 use gl_logic::{Measure, Natural, TextId, Texts, Tree, TreeKind};
 
 /// Whether an object is this symbol.

@@ -5,7 +5,7 @@ ghost use Rattle.gl_logic.specs.Object.{nil};
 ghost use Rattle.gl_logic.specs.Names.{Extends, with_name};
 ghost use Rattle.gl_logic.specs.Numbered.{IsNumbered};
 ghost use Rattle.gl_translate.specs.Answers.{GainsAtMost};
-ghost use Rattle.shape_spec.specs.Wording.{elements};
+ghost use Rattle.gl_logic.specs.Wording.{elements};
 ghost use Rattle.event_world.specs.Outcomes.{Gives};
 ghost use Rattle.event_world.specs.Seen.{event_seen};
 ghost use Rattle.event_world.specs.EventWords.{behind_head};
@@ -50,6 +50,7 @@ pub fn event_of(
     // The world takes the event: a name is free, a definition is admitted, terms are of the world.
     ensures suits { IfOk result (λ e. Suits world.now (event_seen e)) }
 {
+    // the table gains the empty text
     let _unnamed = texts.id_of(b"")?;
     named(alloc, form, world, mode, memoized, texts)
 }

@@ -5,9 +5,8 @@ ghost use Rattle.std.specs.List.{list_any};
 ghost use Rattle.event_world.specs.CasesMeant.{parameters as parameters_of, has_any as has_any_of, is_without as without_is, are_without as without_are, are_kept as kept_are};
 ghost use Rattle.event_world.specs.FormsSeen.{cases_form_seen, case_form_seen};
 
-use super::bound::bind;
 use super::cases_form::{CaseForm, CasesForm};
-use super::name_set::NameSet;
+use gl_logic::name_set::NameSet;
 use gl_logic::{Names, NoMemory, Tree, TreeKind};
 use shape_spec::Inputs;
 use std::alloc::Global;
@@ -47,7 +46,7 @@ fn parameters(alloc: Global, cases: &[CaseForm<'_>]) -> Result<NameSet, NoMemory
 {
     let mut names = NameSet::new(alloc);
     if let [first, ..] = cases {
-        bind(&mut names, &variables(alloc, &first.constants)?)?;
+        names.insert_all(&variables(alloc, &first.constants)?)?;
     }
     Ok(names)
 }

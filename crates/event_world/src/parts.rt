@@ -2,7 +2,7 @@
 
 ghost use Rattle.std.specs.Prelude.{◌≡◌, [], ◌∷◌, ◌↔◌, MatchOption, IsTrue, length};
 ghost use Rattle.std.specs.Option.{option_copied, option_map};
-ghost use Rattle.shape_spec.specs.Wording.{elements as elements_in};
+ghost use Rattle.gl_logic.specs.Wording.{elements as elements_in};
 ghost use Rattle.event_world.specs.PartsOf.{is_empty as empty_is, one_of as one_meant, two_of as two_meant, three_of as three_meant, four_of as four_meant, split_last};
 
 use gl_logic::Tree;

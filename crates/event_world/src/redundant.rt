@@ -4,15 +4,15 @@ ghost use Rattle.std.specs.Prelude.{◌≡◌, IfOk, Some};
 ghost use Rattle.std.specs.Option.{option_copied, option_map};
 ghost use Rattle.gl_logic.specs.Named.{object_named};
 ghost use Rattle.gl_logic.specs.ObjectEq.{object_eq};
-ghost use Rattle.shape_spec.specs.Wording.{all_meant};
+ghost use Rattle.gl_logic.specs.Wording.{all_meant};
 ghost use Rattle.event_world.specs.RedundantMeant.{is_same, second_in, repeated_symbol as symbol_meant, repeated_name as repeated_meant, repeated_member as member_meant, are_repeated as repeated_are, redundant, redundant_clique, redundant_meant};
 ghost use Rattle.event_world.specs.Seen.{event_seen};
 
 use super::event::Event;
-use super::name_set::are_different;
 use super::parts::Parts;
-use super::texts::spells;
 use super::word::EventWord;
+use gl_logic::name_set::are_different;
+use gl_logic::wording::spells;
 use gl_logic::{Names, NoMemory, TextId, Texts, Tree, TreeKind, World};
 use std::alloc::Global;
 

@@ -3,7 +3,7 @@
 ghost use Rattle.std.specs.Prelude.{◌≡◌};
 ghost use Rattle.event_world.specs.EventWords.{event_word as word_meant, word_of as word_in};
 
-use super::texts::same;
+use gl_logic::wording::same;
 use gl_logic::{Texts, Tree, TreeKind};
 
 /// The events of the table, by the word with which a form begins.

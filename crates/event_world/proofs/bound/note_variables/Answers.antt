@@ -1,7 +1,7 @@
 use Rattle.std.proofs.Common.{◌≡◌, ◌∙◌, ap, sym, refl, ◌+◌, suc, Bool, true, false, ◌||◌, [], take, eqb, arith}
 use Rattle.std.specs.List.{list_any}
 use Rattle.shape_spec.specs.Indices.{variables_of}
-use Rattle.gl_translate.proofs.Bound.{bound_more}
+use Rattle.gl_logic.proofs.NameSets.{bound_more}
 use Rattle.event_world.proofs.bound.note_variables.Goals as goal
 
 or_false : (a : Bool) → (a || false) ≡ a

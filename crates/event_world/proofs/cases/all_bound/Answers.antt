@@ -1,7 +1,7 @@
 use Rattle.std.proofs.Common.{◌≡◌, ◌∙◌, ap, sym, ◌∷◌, ◌++◌, [], length, map, List, Option, Some, arith}
 use Rattle.std.specs.Option.{option_map}
 use Rattle.std.specs.Vec.Iter.{into_iter_items}
-use Rattle.shape_spec.specs.Wording.{all_meant}
+use Rattle.gl_logic.specs.Wording.{all_meant}
 use Rattle.gl_cases.specs.Parts.{CaseSeen, case_seen}
 use Rattle.event_world.specs.FormsSeen.{case_form_seen}
 use Rattle.event_world.specs.CasesMeant.{case_bound}

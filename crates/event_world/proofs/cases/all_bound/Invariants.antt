@@ -1,6 +1,6 @@
 use Rattle.std.proofs.Common.{◌≡◌, length, map}
 use Rattle.std.specs.Vec.Iter.{into_iter_items, into_iter_len}
-use Rattle.shape_spec.specs.Wording.{all_meant}
+use Rattle.gl_logic.specs.Wording.{all_meant}
 use Rattle.event_world.specs.FormsSeen.{case_form_seen}
 use Rattle.event_world.specs.CasesMeant.{case_bound}
 use Rattle.event_world.proofs.Cursors.{behind}

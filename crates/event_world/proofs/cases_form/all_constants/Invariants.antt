@@ -1,5 +1,5 @@
 use Rattle.std.proofs.Common.{◌≡◌, length}
-use Rattle.shape_spec.specs.Wording.{all_meant}
+use Rattle.gl_logic.specs.Wording.{all_meant}
 use Rattle.event_world.specs.CasesMeant.{constant_meant}
 use Rattle.event_world.proofs.Cursors.{behind}
 use Rattle.event_world.proofs.cases_form.all_constants.Given as goal

@@ -1,5 +1,5 @@
 use Rattle.std.proofs.Common.{◌≡◌, map, drop}
-use Rattle.shape_spec.specs.Wording.{all_meant}
+use Rattle.gl_logic.specs.Wording.{all_meant}
 use Rattle.event_world.specs.CliqueMeant.{made_member}
 use Rattle.event_world.specs.FormsSeen.{stated_seen, made_seen}
 use Rattle.event_world.proofs.Cursors.{behind}

@@ -1,5 +1,5 @@
 use Rattle.std.proofs.Common.{◌≡◌, map, length}
-use Rattle.shape_spec.specs.Wording.{all_meant}
+use Rattle.gl_logic.specs.Wording.{all_meant}
 use Rattle.event_world.specs.CliqueMeant.{member_parts}
 use Rattle.event_world.specs.FormsSeen.{defun_seen}
 use Rattle.event_world.proofs.Cursors.{behind}

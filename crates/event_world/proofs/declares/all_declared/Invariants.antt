@@ -1,5 +1,5 @@
 use Rattle.std.proofs.Common.{◌≡◌, length}
-use Rattle.shape_spec.specs.Wording.{elements}
+use Rattle.gl_logic.specs.Wording.{elements}
 use Rattle.event_world.specs.Declares.{declared_pairs, all_pairs}
 use Rattle.event_world.proofs.Cursors.{behind}
 use Rattle.event_world.proofs.declares.all_declared.Given as goal

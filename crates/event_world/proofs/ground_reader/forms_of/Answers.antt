@@ -2,7 +2,8 @@ use Rattle.std.proofs.Common.{◌≡◌, ◌∙◌, ap, sym, subst, ◌-◌, ◌
 use Rattle.event_world.specs.PreludeForms.{Reading, Spells, AreAround, reading}
 use Rattle.event_world.specs.PreludeForms.{with_word as word_read}
 use Rattle.event_world.specs.PreludeForms.{is_between as between_is}
-use Rattle.event_world.proofs.PreludeTables.{extends_twice, all_spell_more}
+use Rattle.event_world.proofs.PreludeTables.{all_spell_more}
+use Rattle.gl_logic.proofs.GrownTables.{extends_then}
 use Rattle.event_world.proofs.PreludeReading.{plain, broken, longer, same_word, break_word, none_taken}
 use Rattle.event_world.proofs.ground_reader.forms_of.Goals as goal
 
@@ -44,5 +45,5 @@ loop-place-preserved-then-is_between c =
       word = ap (λ (z : Reading). z.word) e ∙ (break_word b (word_read r.word r.here) r.around ∙ sym (none_taken (q - 1) (drop (q - 1) text)));
       list = subst (λ (z : Reading). Spells names c.in_ok-list-2.list z.here) (sym e) (c.in_ok-list-2.ensures.ok names (word_read r.word r.here) r.around c.is_table-then-is_between.ensures list around);
       around = subst (λ (z : Reading). AreAround names c.before-then-is_between.new.around.items z.around) (sym e) (c.in_ok-list-2.ensures.around names (word_read r.word r.here) r.around list around);
-      extends = extends_twice c.args.texts.now c.loop-place.texts names i.extends c.with_word.ensures.extends;
+      extends = extends_then c.args.texts.now c.loop-place.texts names i.extends c.with_word.ensures.extends;
     }

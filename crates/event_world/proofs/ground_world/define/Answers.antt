@@ -25,11 +25,11 @@ push-requires-clause-same_ground c =
 pub unreachable-requires : goal.unreachable-requires
 unreachable-requires c =
     let a = apart_formals c.args.texts.now _ c.args.name.number c.args.formals c.args.form.now c.requires.next c.is_table.ensures in
-    no_fault _ c.in-Err.field-0 (λ i q. is_admitted c.args.texts.now _ c.args.name.number c.args.formals c.args.form.now c.requires.next a (term_of c.in_ok-formals.body) c.in_ok-formals.ensures.body i
+    no_fault _ _ c.in-Err.fault c.in-NotAdmitted.field-0 c.in-NotAdmitted.is (λ q. is_admitted c.args.texts.now _ c.args.name.number c.args.formals c.args.form.now c.requires.next a (term_of c.in_ok-formals.body) c.in_ok-formals.ensures.body c.in-NotAdmitted.field-0
     ((λ j. verdict (sym c.count.ensures.count j) (sym c.in_ok-formals.ensures.formals j) (term_of c.in_ok-formals.body) None) ∙ q)) c.in-Err.ensures.verdict
 
-pub returns-clause-ok : goal.returns-clause-ok
-returns-clause-ok c =
+pub returns-in_ok-push-in-Ok-clause-ok : goal.returns-in_ok-push-in-Ok-clause-ok
+returns-in_ok-push-in-Ok-clause-ok c =
     let k = length c.args.world.now.definitions in
     let d : Definition = record { name = c.args.name.number; formals = c.in_ok-formals.formals; body = term_of c.in_ok-formals.body; measure = c.in-Ok.measure } in
     let a = apart_formals c.args.texts.now k c.args.name.number c.args.formals c.args.form.now c.requires.next c.is_table.ensures in

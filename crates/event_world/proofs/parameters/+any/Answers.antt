@@ -4,7 +4,7 @@ use Rattle.gl_logic.specs.Object.{Object}
 use Rattle.gl_logic.specs.Lists.{elements_of, tail_of, size_of}
 use Rattle.event_world.specs.CasesMeant.{has_any}
 use Rattle.event_world.proofs.KeptNames.{any_whole}
-use Rattle.shape_spec.proofs.Proper.{most_of, tail_below}
+use Rattle.gl_logic.proofs.ProperLists.{most_of, tail_below}
 use Rattle.std.proofs.lemmas.Grind.{common_steps}
 use Rattle.event_world.proofs.parameters.+any.Goals as goal
 

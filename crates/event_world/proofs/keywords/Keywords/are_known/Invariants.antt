@@ -1,7 +1,7 @@
 use Rattle.std.proofs.Common.{◌≡◌, ℕ, map, drop}
 use Rattle.std.specs.List.{list_all}
 use Rattle.gl_logic.specs.Object.{Object}
-use Rattle.shape_spec.specs.Wording.{text_of}
+use Rattle.gl_logic.specs.Wording.{text_of}
 use Rattle.event_world.specs.Keywords.{is_one_of}
 use Rattle.event_world.specs.KeywordTexts.{texts_of}
 use Rattle.event_world.proofs.keywords.Keywords.are_known.Given as goal

@@ -1,6 +1,6 @@
 use Rattle.std.proofs.Common.{◌∙◌, ap, sym, Some, rules, List, reverse}
 use Rattle.gl_logic.specs.Object.{Object}
-use Rattle.shape_spec.proofs.Proper.{elements_proper, elements_improper}
+use Rattle.gl_logic.proofs.ProperLists.{elements_proper, elements_improper}
 use Rattle.event_world.proofs.parts.Parts.of.Goals as goal
 
 pub returns-then-is_nil : goal.returns-then-is_nil
