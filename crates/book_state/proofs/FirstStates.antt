@@ -15,7 +15,7 @@ use Rattle.gl_logic.specs.WorldSeen.{WorldSeen, IsWorld, with_definition}
 use Rattle.gl_logic.specs.declared.def.Measure.{Measure}
 use Rattle.gl_logic.proofs.Tables.{table_with}
 use Rattle.gl_logic.proofs.Worlds.{world_push, clique_of_one, no_world}
-use Rattle.gl_translate.specs.Macros.{are_different}
+use Rattle.gl_logic.specs.NameSets.{are_different}
 use Rattle.gl_translate.specs.Translation.{translation}
 use Rattle.gl_translate.specs.declared.scope.Scope.{Scope}
 use Rattle.gl_translate.proofs.Whole.{meant_proper}
@@ -33,13 +33,14 @@ use Rattle.event_world.specs.PreludeTexts.{ground_texts}
 use Rattle.event_world.specs.PreludeForms.{Source, Word, Number, Pair, Spells, forms_in}
 use Rattle.event_world.specs.PreludeTerms.{named}
 use Rattle.event_world.specs.PreludeRows.{HoldsFirst, IsNext, body_at, formals_in, symbols_of}
-use Rattle.event_world.proofs.PreludeTables.{same_text, extends_same, extends_twice, extends_name, spells_more}
+use Rattle.event_world.proofs.PreludeTables.{same_text, spells_more}
+use Rattle.gl_logic.proofs.GrownTables.{extends_same, extends_then, extends_name}
 use Rattle.event_world.proofs.PreludeRows.{row, how_many_texts}
 use Rattle.event_world.proofs.PreludeParts.{Parts, parts_of, symbols_spelled}
 use Rattle.event_world.proofs.PreludeWorlds.{later_holds, is_prelude, none_held, apart_formals, all_apart, next_means, is_the_ground_one, is_admitted, its_title, its_variables, holds_more}
 use Rattle.book_state.specs.States.{IsFirstState, CanGoOn}
 use Rattle.book_state.specs.Reading.{IsReadBy}
-use Rattle.book_state.proofs.TextTables.{has_it, table, is_table, extends_table, still_there, table_numbers}
+use Rattle.sexp_reader.proofs.Tabled.{has_it, table, is_table, extends_table, still_there, table_numbers}
 
 -- ---- later tables
 holds_all : (names : List (List ℕ)) (w : WorldSeen) → IsPrelude names w → HoldsFirst 43 names w
@@ -74,7 +75,7 @@ words_table names (Pair s r) h = words_table (with_words names s) r (words_table
 words_extend : (names : List (List ℕ)) (s : Source) → Extends names (with_words names s)
 words_extend names (Word w) = extends_name names (with_name names w) w refl
 words_extend names (Number n) = extends_same names
-words_extend names (Pair s r) = extends_twice names (with_words names s) (with_words (with_words names s) r) (words_extend names s) (words_extend (with_words names s) r)
+words_extend names (Pair s r) = extends_then names (with_words names s) (with_words (with_words names s) r) (words_extend names s) (words_extend (with_words names s) r)
 
 place_there : (w : List ℕ) (names : List (List ℕ)) → list_any (bytes_eq w) names ≡ true → (n : ℕ) × (slice_get names n ≡ Some w)
 place_there w [] h = absurd cc
@@ -216,7 +217,7 @@ some_table bytes =
     let named_table : IsTable named = table_with all.names [] all.table in
     let names = table named named_table bytes in
     let its_table = is_table named named_table bytes in
-    let grown = extends_twice all.names named names (extends_name all.names named [] refl) (extends_table named named_table bytes) in
+    let grown = extends_then all.names named names (extends_name all.names named [] refl) (extends_table named named_table bytes) in
     let reading = some_reading names (start bytes) in
     record {
       names = names;

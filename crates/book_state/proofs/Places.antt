@@ -10,8 +10,8 @@ use Rattle.gl_logic.specs.Every.{Every}
 use Rattle.gl_logic.specs.WorldSeen.{WorldSeen}
 use Rattle.gl_logic.specs.declared.def.Measure.{Measure}
 use Rattle.gl_translate.specs.declared.fault.TermFault.TheVariants as term_fault
-use Rattle.admission.specs.Admitted.{verdict}
-use Rattle.shape_spec.specs.Wording.{elements, all_meant}
+use Rattle.admission.specs.Admitted.{verdict, settled}
+use Rattle.gl_logic.specs.Wording.{elements, all_meant}
 use Rattle.shape_spec.specs.declared.theorem.Mode.{Mode}
 use Rattle.shape_spec.specs.declared.theorem.Mode.TheVariants as mode
 use Rattle.event_world.specs.declared.fault.EventFault.TheVariants as code
@@ -25,7 +25,6 @@ use Rattle.event_world.specs.NamesMeant.{is_taken}
 use Rattle.event_world.specs.Declares.{stated_measure}
 use Rattle.event_world.specs.PlainMeant.{is_package, is_book, closed_meant, evaluation_meant, function_in, memo_meant, constant_in, defconst_meant}
 use Rattle.event_world.specs.DefunMeant.{defun_parts, formals_meant, body_meant, admitted, definition_made, defun_meant}
-use Rattle.admission.specs.Admitted.{settled}
 use Rattle.event_world.specs.CliqueMeant.{clique_parts, all_stated, are_new, all_made, owns_of, members_meant, with_settled, clique_admitted, clique_judged, clique_made, clique_meant}
 use Rattle.admission.specs.Refused.{first_refused}
 use Rattle.event_world.specs.TheoremMeant.{theorem_parts, clocks_meant, claim_meant, hyp_meant, bound_meant, theorem_made, theorem_meant}

@@ -56,7 +56,9 @@ impl State {
         ensures extends { Extends texts.old texts.new }
     {
         let world = prelude(alloc, texts)?;
+        // the table gains the empty text
         let _empty = texts.id_of(b"")?;
+        // a text has one number alone
         texts.is_table();
         // its definitions make a world
         let _count = world.count();

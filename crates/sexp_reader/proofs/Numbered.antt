@@ -17,7 +17,7 @@ use Rattle.sexp_reader.specs.declared.lexeme.Atom.TheVariants as atoms
 use Rattle.sexp_reader.specs.Sizes.{IsNarrow, IsAscii}
 use Rattle.sexp_reader.specs.Grammar.{place_in, object_of, mark_text}
 use Rattle.sexp_reader.specs.Reads.{Reads, start}
-use Rattle.sexp_reader.proofs.Tables.{extends_same}
+use Rattle.gl_logic.proofs.GrownTables.{extends_same}
 use Rattle.sexp_reader.proofs.Leaves.{IsFine, atom_fine}
 use Rattle.sexp_reader.proofs.Objects.{forms_have, forms_flat}
 

@@ -1,18 +1,18 @@
--- Each text has a table of texts that numbers the symbols and strings of its forms.
-use Rattle.std.proofs.Common.{◌≡◌, ◌∙◌, ap, sym, subst, refl, ℕ, zero, suc, ◌+◌, ◌<◌, ◌≤◌, arith, Bool, true, false, cond, not, List, [], ◌∷◌, ◌++◌, length, drop, Option, Some, None, inl, inr}
+-- Each table of texts has a later one that numbers the symbols and strings of a text's forms.
+use Rattle.std.proofs.Common.{◌≡◌, ◌∙◌, ap, sym, subst, refl, ℕ, zero, suc, ◌+◌, ◌<◌, ◌≤◌, arith, true, false, cond, not, List, [], ◌∷◌, length, drop, Option, Some, None, inl, inr}
 use Rattle.std.specs.Prelude.{bytes_eq, ◌||◌, All}
-use Rattle.std.specs.List.{list_any, prefix_len, AllByRecursion}
+use Rattle.std.specs.List.{list_any, AllByRecursion}
 use Rattle.std.proofs.lemmas.Bool.{cases_Bool}
 use Rattle.std.proofs.lemmas.List.{length-drop}
 use Rattle.std.proofs.lemmas.List.Folds.{list_any-append}
 use Rattle.std.proofs.lemmas.List.Elements.{All-from_recursion}
 use Rattle.std.proofs.lemmas.Option.{none-some, same_Some}
-use Rattle.gl_logic.specs.Object.{Object, Int, Character, Symbol, Text, Cons, nil}
-use Rattle.gl_logic.specs.Names.{IsTable, with_name, first_names}
+use Rattle.gl_logic.specs.Object.{Object}
+use Rattle.gl_logic.specs.Names.{IsTable, Extends, with_name}
 use Rattle.gl_logic.specs.Numbered.{IsNumbered}
 use Rattle.gl_logic.proofs.Places.{bytes_same}
 use Rattle.gl_logic.proofs.Tables.{enough, table_with}
-use Rattle.sexp_reader.specs.declared.place.Place.{Place}
+use Rattle.gl_logic.proofs.GrownTables.{extends_same, extends_then, extends_name}
 use Rattle.sexp_reader.specs.declared.list.Form.{Form}
 use Rattle.sexp_reader.specs.declared.ends.End.{End}
 use Rattle.sexp_reader.specs.declared.lexeme.Atom.{Atom}
@@ -30,11 +30,11 @@ use Rattle.sexp_reader.specs.Reads.{Reads, ReadsFrom, ended, form, fault, start}
 use Rattle.sexp_reader.proofs.Spans.{piece_spans}
 
 -- ---- texts that a table has
-abbrev Has : List (List ℕ) → List ℕ → Type 0
+abbrev pub Has : List (List ℕ) → List ℕ → Type 0
 Has names text = list_any (bytes_eq text) names ≡ true
 
 module _ (names : List (List ℕ)) (text : List ℕ) where
-  has_it : Has (with_name names text) text
+  pub has_it : Has (with_name names text) text
   has_it = elim (cases_Bool (list_any (bytes_eq text) names)) [
     | inl e ↦ rw e e
     | inr e ↦ rw e (list_any-append (bytes_eq text) names (text ∷ []) ∙ (ap (λ b. b || list_any (bytes_eq text) (text ∷ [])) e ∙ ap (λ b. b || false) (bytes_same text)))
@@ -108,6 +108,23 @@ from_has : (n : ℕ) (bytes : List ℕ) (names : List (List ℕ)) (text : List �
 from_has zero bytes names text h = h
 from_has (suc n) bytes names text h =
     behind_both (λ t. Has t text) (count_of (first_piece bytes)) names _ h (λ count. from_has n (drop count bytes) (with_piece names (first_piece bytes)) text (piece_has names (first_piece bytes) text h))
+
+some_extends : (names : List (List ℕ)) (o : Option (List ℕ)) → Extends names (with_some names o)
+some_extends names None = extends_same names
+some_extends names (Some text) = extends_name names (with_name names text) text refl
+
+piece_extends : (names : List (List ℕ)) (p : Piece) → Extends names (with_piece names p)
+piece_extends names Ended = extends_same names
+piece_extends names Torn = extends_same names
+piece_extends names (Gap count) = extends_same names
+piece_extends names (Part count what) = some_extends names (text_of what)
+piece_extends names (Faulty count code) = extends_same names
+
+from_extends : (n : ℕ) (bytes : List ℕ) (names : List (List ℕ)) → Extends names (table_from n bytes names)
+from_extends zero bytes names = extends_same names
+from_extends (suc n) bytes names =
+    behind_both (Extends names) (count_of (first_piece bytes)) names _ (extends_same names)
+    (λ count. extends_then names (with_piece names (first_piece bytes)) (table_from n (drop count bytes) (with_piece names (first_piece bytes))) (piece_extends names (first_piece bytes)) (from_extends n (drop count bytes) (with_piece names (first_piece bytes))))
 
 -- what has a count is longer than nothing
 counted : (p : Piece) (most count : ℕ) → Spans most p → count_of p ≡ Some count → (0 < count) × (count ≤ most)
@@ -190,14 +207,20 @@ module _ (names : List (List ℕ)) (some : 0 < length names) where
   good_forms _ _ _ (fault spot place code w d) h = tt
 
 -- ---- the table
-module _ (first_table : IsTable first_names) (bytes : List ℕ) where
+module _ (names : List (List ℕ)) (is_first : IsTable names) (bytes : List ℕ) where
   abbrev pub table : List (List ℕ)
-  table = table_from (length bytes) bytes first_names
+  table = table_from (length bytes) bytes names
 
   pub is_table : IsTable table
-  is_table = from_table (length bytes) bytes first_names first_table
+  is_table = from_table (length bytes) bytes names is_first
+
+  pub extends_table : Extends names table
+  extends_table = from_extends (length bytes) bytes names
+
+  pub still_there : (text : List ℕ) → Has names text → Has table text
+  still_there text h = from_has (length bytes) bytes names text h
 
   pub table_numbers : (forms : List Form) (end : End) → Reads table bytes forms end → All (λ (f : Form). IsNumbered (length table) f.tree) forms
   table_numbers forms end d =
       All-from_recursion (λ (f : Form). IsNumbered (length table) f.tree) forms
-      (good_forms table (omega (arith, enough table is_table.first)) (start bytes) forms end d (λ text s. spelled_has bytes text s (length bytes) first_names (omega arith)))
+      (good_forms table (omega (arith, enough table is_table.first)) (start bytes) forms end d (λ text s. spelled_has bytes text s (length bytes) names (omega arith)))

@@ -10,18 +10,6 @@ use Rattle.gl_logic.specs.declared.ids.NoMemory.{NoMemory}
 use Rattle.sexp_reader.specs.declared.lexeme.Mark.{Mark}
 use Rattle.sexp_reader.specs.Grammar.{place_in, mark_text}
 
-pub extends_same : (a : List (List ℕ)) → Extends a a
-extends_same a = ([], sym (append-nil a))
-
-pub extends_then : (a b c : List (List ℕ)) → Extends a b → Extends b c → Extends a c
-extends_then a b c h k = (h.0 ++ k.0, k.1 ∙ (ap (λ l. l ++ k.0) h.1 ∙ append_assoc a h.0 k.0))
-
-pub extends_name : (names : List (List ℕ)) (name : List ℕ) (new : List (List ℕ)) → new ≡ with_name names name → Extends names new
-extends_name names name new = elim (list_any (bytes_eq name) names) as (λ b. new ≡ cond b names (names ++ name ∷ []) → Extends names new) [
-  | true ↦ λ e. ([], e ∙ sym (append-nil names))
-  | false ↦ λ e. (name ∷ [], e)
-]
-
 -- a first place stays the first where more is put behind
 place-append : {A : Type 0} (p : A → Bool) (xs ys : List A) → position_or_len p xs < length xs → position_or_len p (xs ++ ys) ≡ position_or_len p xs
 place-append p xs ys h = grind (arith, prefix_len-append (λ x. not (p x)) xs ys, h)

@@ -37,6 +37,7 @@ pub fn forms(alloc: Global, bytes: &[u8], texts: &mut Texts) -> Result<Forms, No
     ensures flat { IfOk result (λ forms. All (λ form. car_steps form.tree ≤ 1000) forms.list) }
 {
     let read = read_all(alloc, bytes, texts);
+    // the symbols of prefixes have numbers, since a table begins with their texts
     texts.is_table();
     read
 }

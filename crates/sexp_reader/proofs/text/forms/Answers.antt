@@ -1,5 +1,5 @@
 use Rattle.std.proofs.lemmas.Result.{IfOk-weaker}
-use Rattle.sexp_reader.proofs.Tables.{extends_same}
+use Rattle.gl_logic.proofs.GrownTables.{extends_same}
 use Rattle.sexp_reader.proofs.Numbered.{reads_numbered, reads_narrow, reads_ascii, reads_flat}
 use Rattle.sexp_reader.proofs.text.forms.Goals as goal
 

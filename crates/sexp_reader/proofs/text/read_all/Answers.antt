@@ -1,6 +1,6 @@
 use Rattle.std.proofs.Common.{◌∙◌, sym, ap, arith, length}
 use Rattle.sexp_reader.specs.Places.{behind}
-use Rattle.sexp_reader.proofs.Tables.{extends_then}
+use Rattle.gl_logic.proofs.GrownTables.{extends_then}
 use Rattle.sexp_reader.proofs.Reading.{ends_bad, ends_clean, goes_on}
 use Rattle.sexp_reader.proofs.Gained.{gains_piece, inside_rest}
 use Rattle.sexp_reader.proofs.Fits.{fits_behind}

@@ -1,5 +1,5 @@
 use Rattle.std.proofs.Common.{refl, []}
-use Rattle.event_world.proofs.PreludeTables.{extends_name}
+use Rattle.gl_logic.proofs.GrownTables.{extends_name}
 use Rattle.book_state.proofs.FirstStates.{later_prelude}
 use Rattle.book_state.proofs.state.State.new.Goals as goal
 
