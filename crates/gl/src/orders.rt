@@ -10,8 +10,8 @@ use crate::proof_part::ProofPart;
 use crate::words::{Command, Source, command_in, matched, matched_by, with_option};
 use clap::{Arg, ArgMatches};
 use command_line::{WordsEnd, number_of, text_of};
-use gl_base::failed::NoMemory;
 use gl_base::limits::Limits;
+use gl_logic::NoMemory;
 use std::alloc::{AllocError, Global};
 
 /// The texts that are judged, and by how many workers.

@@ -5,9 +5,10 @@ ghost use Rattle.gl_base.specs.Memory.{after_open};
 ghost use Rattle.gl_base.specs.NamedTexts.{named, text_named, closed};
 
 use crate::calls::Calls;
-use crate::failed::{Failed, NoMemory};
+use crate::failed::Failed;
 use crate::named_texts::NamedTexts;
 use crate::shelf::Shelf;
+use gl_logic::NoMemory;
 use std::alloc::Global;
 use std::marker::Model;
 

@@ -4,8 +4,9 @@ ghost use Rattle.gl_base.specs.CallCount.{no_calls, fails_now, counted};
 ghost use Rattle.gl_base.specs.Memory.{after_write};
 
 use crate::calls::Calls;
-use crate::failed::{Failed, NoMemory};
+use crate::failed::Failed;
 use crate::sink::Sink;
+use gl_logic::NoMemory;
 use std::alloc::Global;
 use std::marker::Model;
 
@@ -94,9 +95,6 @@ pub(crate) fn push_all(taken: &mut Vec<u8>, piece: &[u8])
     ensures capacity { vec_capacity taken.old ≤ vec_capacity taken.new }
 {
     for byte in piece {
-        match taken.push(*byte) {
-            Ok(()) => {}
-            Err(_) => unreachable!(),
-        }
+        taken.push_reserved(*byte);
     }
 }

@@ -2,9 +2,10 @@ ghost use Rattle.std.specs.Prelude.{◌≡◌, ◌≤◌, ◌<◌, ◌↔◌, �
 ghost use Rattle.gl_base.specs.Outside.{HasCause, Takes};
 ghost use Rattle.gl_base.specs.NamedTexts.{named, text_named, closed};
 
-use crate::failed::{Failed, NoMemory};
+use crate::failed::Failed;
 use crate::named_texts::NamedTexts;
 use crate::shelf::Shelf;
+use gl_logic::NoMemory;
 use std::alloc::Global;
 use std::marker::Model;
 

@@ -1,9 +1,10 @@
 ghost use Rattle.std.specs.Prelude.{◌≡◌, ◌≤◌, ◌<◌, ◌++◌, ℕ, List, [], length, take, None, IfOk, OnOk, OnErr, IsOk};
 ghost use Rattle.gl_base.specs.Outside.{HasCause, Grows};
 
-use crate::failed::{Failed, NoMemory};
+use crate::failed::Failed;
 use crate::memory_sink::push_all;
 use crate::sink::Sink;
+use gl_logic::NoMemory;
 use std::alloc::Global;
 use std::marker::Model;
 

@@ -3,7 +3,7 @@
 ghost use Rattle.std.specs.Prelude.{◌≡◌, ◌≤◌, ◌+◌, ◌%◌, ◌++◌, IfOk, OnOk, string_bytes};
 ghost use Rattle.gl_book.specs.Generated.{generated, generated_line, line_front, generated_conclusion, line_back};
 
-use gl_base::failed::NoMemory;
+use gl_logic::NoMemory;
 use std::alloc::Global;
 
 /// The conclusion of theorem `i` on two numbers of `w` bits: a sum in two orders, or a bound that the greatest two
