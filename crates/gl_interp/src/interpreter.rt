@@ -14,14 +14,13 @@ use super::fault::GlFault;
 use super::frame::Focus;
 use super::results::{give, next};
 use super::runs::run;
-use super::stack::Stack;
 use super::store_calls::path_of;
 use super::visits::visit;
 use bfr_store::{Bits, Edge};
 use gl_logic::{Term, World};
 use lisp_eval::Machine;
 use std::alloc::Global;
-use sym_objects::{Sob, Sobs};
+use sym_objects::{Sob, Sobs, Stack};
 
 /// The value of a term under every assignment of the path at once.
 pub fn interp<B: Bits>(

@@ -24,7 +24,6 @@ pub mod interpreter;
 mod results;
 mod runs;
 mod shapes;
-mod stack;
 mod store_calls;
 mod visits;
 

@@ -12,12 +12,11 @@ ghost use Rattle.gl_interp.specs.TurnFaults.{HasPlainCause};
 use super::envs::{EnvId, Envs};
 use super::fault::GlFault;
 use super::frame::{Focus, Frame, Path, Work};
-use super::stack::Stack;
 use super::store_calls::{copy_of, narrow, value};
 use bfr_store::{Bits, Edge};
 use gl_logic::{NoMemory, Term};
 use std::alloc::Global;
-use sym_objects::{Sob, Sobs};
+use sym_objects::{Sob, Sobs, Stack};
 use sym_prims::store_calls::{complement, conjunction, is_always};
 
 /// Goes to the next argument, or to the work where all are there.

@@ -16,13 +16,12 @@ use super::calls::{CallFault, are_constant, call};
 use super::envs::{EnvId, Envs};
 use super::fault::GlFault;
 use super::frame::{Focus, Frame, Path, Work};
-use super::stack::Stack;
 use super::store_calls::copy_of;
 use bfr_store::{Bits, Edge};
 use gl_logic::{FnId, World};
 use lisp_eval::{EvalFault, Machine};
 use std::alloc::Global;
-use sym_objects::{Sob, Sobs};
+use sym_objects::{Sob, Sobs, Stack};
 use sym_prims::apply;
 
 /// Does the work of a primitive, a call or a let.

@@ -14,13 +14,12 @@ use super::constants::{PlaceFault, constant};
 use super::envs::{EnvId, Envs};
 use super::fault::GlFault;
 use super::frame::{Focus, Frame, Path, Work};
-use super::stack::Stack;
 use super::store_calls::copy_of;
 use bfr_store::{Bits, Edge};
 use gl_logic::{Term, Tree};
 use lisp_eval::Machine;
 use std::alloc::Global;
-use sym_objects::{Sob, Sobs};
+use sym_objects::{Sob, Sobs, Stack};
 use sym_prims::store_calls::constant_edge;
 
 /// Goes into a term.
