@@ -30,7 +30,7 @@ use Rattle.gl_book.proofs.PartsDecided.{memory_decides}
 use Rattle.gl_book.specs.Courses.{AreBehind, Course, EndsPhaseByFront, HasRoomFor, IsQuiet, KeepsPhase, KeepsPhaseFront, Place, Stands, WritesPhase, WritesPhaseFront, counts_after, count_waited, phase_lines, waited}
 use Rattle.gl_book.specs.Entry.{Entry, Answered, Marked, Refused, entry_stalls, stalls_of, stalls_in}
 use Rattle.gl_book.specs.Lines.{entry_lines, event_lines, mark_line, done_line, counts_of, is_answer, is_proved, is_vacuous, is_refuted, is_undecided, is_failed, is_refusal, transcript_lines}
-use Rattle.gl_book.specs.Phases.{JobSeen, AreAnswered, CanBeAnswered, IsFollowed, ends_phase, new_job}
+use Rattle.gl_book.specs.Phases.{JobSeen, AreAnswered, CanBeAnswered, IsFollowed, ends_phase, jobs_of, new_job}
 use Rattle.book_state.specs.States.{is_job}
 use Rattle.gl_book.specs.Stops.{counts_with, refusal_of, closing_lines, closing_status, told_before, WritesLines, WritesLinesFront, WritesWalk, WritesWalkFront}
 use Rattle.gl_book.specs.Transcript.{told}
@@ -40,6 +40,7 @@ use Rattle.gl_book.specs.declared.answer.Answer.{Answer}
 use Rattle.gl_book.specs.declared.answer.Answer.TheVariants as answer
 use Rattle.gl_book.specs.declared.answer.Cause.{Cause}
 use Rattle.gl_book.specs.declared.answer.Cause.TheVariants as cause
+use Rattle.gl_book.specs.declared.progress.Progress.{Progress}
 use Rattle.gl_book.specs.declared.refusal.Refusal.{Refusal}
 use Rattle.gl_book.specs.declared.refusal.RefusalCode.TheVariants as code
 use Rattle.gl_book.proofs.Closing.{counts_more, counts_marked, closing, lines_that_close, status_that_closes, still_answered, still_unrefused}
@@ -80,9 +81,9 @@ some_answers bounds w definitions (j ∷ js) h =
     let first = All-head (CanBeAnswered definitions) j js h in
     (memory_answer j.event ∷ rest.0, (memory_proper bounds w j.memoized definitions j.event first.job first.can.event, rest.1))
 
-pub nothing_ended : (names : List (List ℕ)) (bounds : Bounds) (w : WorldSeen) (last : Bool) (js : List JobSeen) (written : Option (List ℕ)) (stalls : List StallSeen) → All (CanBeAnswered w.definitions) js → EndsPhaseByFront names bounds w last js written stalls written stalls
-nothing_ended names bounds w last js written stalls h =
-    let a = some_answers bounds w w.definitions js h in
+pub nothing_ended : (names : List (List ℕ)) (bounds : Bounds) (last : Bool) (old : Progress) (written : Option (List ℕ)) (stalls : List StallSeen) → All (CanBeAnswered old.state.world.definitions) (jobs_of old.waiting) → EndsPhaseByFront names bounds last old written stalls written stalls
+nothing_ended names bounds last old written stalls h =
+    let a = some_answers bounds old.state.world old.state.world.definitions (jobs_of old.waiting) h in
     record { answers = a.0; proper = a.1; writes = (0, grows_nothing written); keeps = (0, sym (append-nil stalls)) }
 
 -- ---- events

@@ -1,7 +1,6 @@
 -- From one place of a walk to the next, by what the walk's functions did.
 use Rattle.std.proofs.Common.{◌≡◌, ◌≢◌, sym, refl, subst, ℕ, zero, suc, ◌+◌, ◌<◌, ◌≤◌, List, [], ◌∷◌, ◌++◌, length, take, Bool, true, false, Option, Some, None, Ok, Err, arith}
 use Rattle.gl_logic.specs.Object.{Object, nil}
-use Rattle.gl_logic.specs.WorldSeen.{WorldSeen}
 use Rattle.gl_base.specs.Outside.{Grows}
 use Rattle.sexp_reader.specs.declared.list.Form.{Form}
 use Rattle.book_shelf.specs.declared.item.Item.{Item}
@@ -17,7 +16,7 @@ use Rattle.book_state.specs.Answerable.{IsAnswerable}
 use Rattle.gl_book.specs.Courses.{EndsPhase, EndsPhaseByFront, Follows, HasRoomFor, Leads, LeadsPast, LeadsPastToFront, LeadsToFront, Place, Stands, place_at, counts_after}
 use Rattle.gl_book.specs.Lines.{event_lines, mark_line}
 use Rattle.gl_book.specs.Entry.{stalls_of}
-use Rattle.gl_book.specs.Phases.{JobSeen, AreAnswered, IsFollowed, ends_phase, jobs_of, new_job}
+use Rattle.gl_book.specs.Phases.{JobSeen, IsFollowed, ends_phase, jobs_of, new_job}
 use Rattle.book_state.specs.States.{is_job, state_noted}
 use Rattle.gl_book.specs.Stops.{counts_with, told_before}
 use Rattle.gl_book.specs.Walk.{refusal_at, refused_cause, state_after}
@@ -84,42 +83,44 @@ module _ (names : List (List ℕ)) (bounds : Bounds) (last : Bool) where
   stays_front p now after e f = λ c i s. front_here names bounds last c i p s now after e f
 
   -- ---- the end of a phase
-  module _ (state : BookState) (w : WorldSeen) (is : w ≡ state.world) (old : Progress) (written now : Option (List ℕ)) (stalls after : List StallSeen) where
-    pub phase_leads : (new : Progress) → EndsPhase names bounds w last old written stalls new now after → Leads names bounds last (place_at state old written stalls) (place_at state new now after)
-    phase_leads new e = λ c i s.
-        phase_stands names bounds last c i (place_at state old written stalls) s e.answers (subst (λ (v : WorldSeen). AreAnswered bounds v (jobs_of old.waiting) e.answers) is e.proper) (place_at state new now after) refl e.none e.writes e.keeps e.counts
+  module _ (old : Progress) (written now : Option (List ℕ)) (stalls after : List StallSeen) where
+    pub phase_leads : (new : Progress) → EndsPhase names bounds last old written stalls new now after → Leads names bounds last (place_at old written stalls) (place_at new now after)
+    phase_leads new e = λ c i s. phase_stands names bounds last c i (place_at old written stalls) s e.answers e.proper (place_at new now after) e.state e.none e.writes e.keeps e.counts
 
-    pub phase_leads_front : EndsPhaseByFront names bounds w last (jobs_of old.waiting) written stalls now after → LeadsToFront names bounds last (place_at state old written stalls) now after
-    phase_leads_front e = λ c i s. phase_front names bounds last c i (place_at state old written stalls) s e.answers (subst (λ (v : WorldSeen). AreAnswered bounds v (jobs_of old.waiting) e.answers) is e.proper) now after e.writes e.keeps
+    pub phase_leads_front : EndsPhaseByFront names bounds last old written stalls now after → LeadsToFront names bounds last (place_at old written stalls) now after
+    phase_leads_front e = λ c i s. phase_front names bounds last c i (place_at old written stalls) s e.answers e.proper now after e.writes e.keeps
 
-    pub phase_room : (new : Progress) (k : ℕ) → EndsPhase names bounds w last old written stalls new now after → HasRoomFor (length (jobs_of old.waiting) + k) old.counts → HasRoomFor k new.counts
-    phase_room new k e h = subst (HasRoomFor k) (sym e.counts) (room_after_all (length (jobs_of old.waiting)) k old.counts e.answers (as_many names bounds w (jobs_of old.waiting) e.answers e.proper) h)
+    pub phase_room : (new : Progress) (k : ℕ) → EndsPhase names bounds last old written stalls new now after → HasRoomFor (length (jobs_of old.waiting) + k) old.counts → HasRoomFor k new.counts
+    phase_room new k e h = subst (HasRoomFor k) (sym e.counts) (room_after_all (length (jobs_of old.waiting)) k old.counts e.answers (as_many names bounds old.state.world (jobs_of old.waiting) e.answers e.proper) h)
 
   -- ---- a form that means an event
-  module _ (form : Form) (e : EventSeen) (state : BookState) (means : event_in names state form.tree ≡ Ok e) (old : Progress) (written : Option (List ℕ)) (stalls : List StallSeen) where
+  module _ (form : Form) (e : EventSeen) (old : Progress) (means : event_in names old.state form.tree ≡ Ok e) (written : Option (List ℕ)) (stalls : List StallSeen) where
     abbrev here : Place
-    here = place_at state old written stalls
+    here = place_at old written stalls
 
-    pub waits_past : (later : BookState) (new : Progress) → is_job e ≡ true → IsAnswerable state.world.definitions state.memoized e → later ≡ state_noted state form.tree e → jobs_of new.waiting ≡ jobs_of old.waiting ++ new_job e state.memoized ∷ [] → new.counts ≡ old.counts
-        → LeadsPast names bounds last (item.Form form) here None (place_at later new written stalls)
-    waits_past later new job can is more same = λ c i at s.
+    abbrev state : BookState
+    state = old.state
+
+    pub waits_past : (new : Progress) → is_job e ≡ true → IsAnswerable state.world.definitions state.memoized e → new.state ≡ state_noted state form.tree e → jobs_of new.waiting ≡ jobs_of old.waiting ++ new_job e state.memoized ∷ [] → new.counts ≡ old.counts
+        → LeadsPast names bounds last (item.Form form) here None (place_at new written stalls)
+    waits_past new job can is more same = λ c i at s.
         let k = waits names bounds last c i here s form at e means (job_ends_none e job) job can in
         subst (λ (st : BookState). Stands names bounds last c (i + 1) (record { state = st; counts = new.counts; waiting = jobs_of new.waiting; written = written; stalls = stalls })) (sym is)
         (subst (λ (js : List JobSeen). Stands names bounds last c (i + 1) (record { state = state_noted state form.tree e; counts = new.counts; waiting = js; written = written; stalls = stalls })) (sym more)
         (subst (λ (n : Counts). Stands names bounds last c (i + 1) (record { state = state_noted state form.tree e; counts = n; waiting = jobs_of old.waiting ++ new_job e state.memoized ∷ []; written = written; stalls = stalls })) (sym same) k))
 
-    pub follows_past : (later : BookState) (new : Progress) → ends_phase e ≡ false → is_job e ≡ false → 0 < length (jobs_of old.waiting) → Follows names bounds form.tree e state (jobs_of old.waiting) later (jobs_of new.waiting) → new.counts ≡ old.counts
-        → LeadsPast names bounds last (item.Form form) here None (place_at later new written stalls)
-    follows_past later new stays other some f same = λ c i at s.
+    pub follows_past : (new : Progress) → ends_phase e ≡ false → is_job e ≡ false → 0 < length (jobs_of old.waiting) → Follows names bounds form.tree e state (jobs_of old.waiting) new.state (jobs_of new.waiting) → new.counts ≡ old.counts
+        → LeadsPast names bounds last (item.Form form) here None (place_at new written stalls)
+    follows_past new stays other some f same = λ c i at s.
         let k = follows names bounds last c i here s form at e means stays other some f.answer f.proper (jobs_of new.waiting) f.behind in
         subst (λ (st : BookState). Stands names bounds last c (i + 1) (record { state = st; counts = new.counts; waiting = jobs_of new.waiting; written = written; stalls = stalls })) (sym f.state)
         (subst (λ (n : Counts). Stands names bounds last c (i + 1) (record { state = next_state state form.tree e nil; counts = n; waiting = jobs_of new.waiting; written = written; stalls = stalls })) (sym same) k)
 
     -- ---- answered at once
     module _ (none : jobs_of old.waiting ≡ []) (a : Answer) (proper : IsProperAnswer bounds state.world state.memoized e a) where
-      pub goes_past : (later : BookState) (new : Progress) (now : Option (List ℕ)) (after : List StallSeen) → refused_cause e a ≡ None → later ≡ state_after state form.tree e a → jobs_of new.waiting ≡ [] → new.counts ≡ counts_with old.counts a
-          → Grows written now (told_before last (event_lines names e a)) → after ≡ stalls ++ stalls_of a → LeadsPast names bounds last (item.Form form) here None (place_at later new now after)
-      goes_past later new now after valued is gone counted g k = λ c i at s. goes_on names bounds last c i here s none form at e a means proper valued (place_at later new now after) is gone counted g k
+      pub goes_past : (new : Progress) (now : Option (List ℕ)) (after : List StallSeen) → refused_cause e a ≡ None → new.state ≡ state_after state form.tree e a → jobs_of new.waiting ≡ [] → new.counts ≡ counts_with old.counts a
+          → Grows written now (told_before last (event_lines names e a)) → after ≡ stalls ++ stalls_of a → LeadsPast names bounds last (item.Form form) here None (place_at new now after)
+      goes_past new now after valued is gone counted g k = λ c i at s. goes_on names bounds last c i here s none form at e a means proper valued (place_at new now after) is gone counted g k
 
       pub goes_past_front : (now : Option (List ℕ)) (after : List StallSeen) → refused_cause e a ≡ None → (n : ℕ) × Grows written now (take n (told_before last (event_lines names e a))) → (m : ℕ) × (after ≡ stalls ++ take m (stalls_of a)) → LeadsPastToFront names bounds last (item.Form form) here now after
       goes_past_front now after valued g k = λ c i at s. front_next names bounds last c i here s none form at e a means proper valued now after g k
@@ -128,19 +129,20 @@ module _ (names : List (List ℕ)) (bounds : Bounds) (last : Bool) where
       refused_past why has other = λ c i at s. record { stands = s; none = none; ends = ends_without names bounds last c i here s none form at e a means proper why has other }
 
   -- ---- a mark
-  module _ (m : Mark) (state : BookState) (old : Progress) (written : Option (List ℕ)) (stalls : List StallSeen) where
+  module _ (m : Mark) (old : Progress) (written : Option (List ℕ)) (stalls : List StallSeen) where
     -- written at once
-    pub marks_past : jobs_of old.waiting ≡ [] → (now : Option (List ℕ)) → Grows written now (told_before last (mark_line names m ∷ [])) → LeadsPast names bounds last (item.Mark m) (place_at state old written stalls) None (place_at state old now stalls)
-    marks_past none now g = λ c i at s. mark_passes names bounds last c i (place_at state old written stalls) s none m at (place_at state old now stalls) refl none refl g refl
+    pub marks_past : jobs_of old.waiting ≡ [] → (now : Option (List ℕ)) → Grows written now (told_before last (mark_line names m ∷ [])) → LeadsPast names bounds last (item.Mark m) (place_at old written stalls) None (place_at old now stalls)
+    marks_past none now g = λ c i at s. mark_passes names bounds last c i (place_at old written stalls) s none m at (place_at old now stalls) refl none refl g refl
 
-    pub marks_past_front : jobs_of old.waiting ≡ [] → (now : Option (List ℕ)) → (n : ℕ) × Grows written now (take n (told_before last (mark_line names m ∷ []))) → LeadsPastToFront names bounds last (item.Mark m) (place_at state old written stalls) now stalls
-    marks_past_front none now g = λ c i at s. mark_front names bounds last c i (place_at state old written stalls) s none m at now stalls g refl
+    pub marks_past_front : jobs_of old.waiting ≡ [] → (now : Option (List ℕ)) → (n : ℕ) × Grows written now (take n (told_before last (mark_line names m ∷ []))) → LeadsPastToFront names bounds last (item.Mark m) (place_at old written stalls) now stalls
+    marks_past_front none now g = λ c i at s. mark_front names bounds last c i (place_at old written stalls) s none m at now stalls g refl
 
     -- or behind the last job
-    pub marks_behind : 0 < length (jobs_of old.waiting) → (new : Progress) → IsFollowed (jobs_of old.waiting) (mark_line names m ∷ []) (jobs_of new.waiting) → new.counts ≡ old.counts → LeadsPast names bounds last (item.Mark m) (place_at state old written stalls) None (place_at state new written stalls)
-    marks_behind some new f same = λ c i at s.
-        let k = mark_follows names bounds last c i (place_at state old written stalls) s m at some (jobs_of new.waiting) f in
-        subst (λ (n : Counts). Stands names bounds last c (i + 1) (record { state = state; counts = n; waiting = jobs_of new.waiting; written = written; stalls = stalls })) (sym same) k
+    pub marks_behind : 0 < length (jobs_of old.waiting) → (new : Progress) → IsFollowed (jobs_of old.waiting) (mark_line names m ∷ []) (jobs_of new.waiting) → new.state ≡ old.state → new.counts ≡ old.counts → LeadsPast names bounds last (item.Mark m) (place_at old written stalls) None (place_at new written stalls)
+    marks_behind some new f still same = λ c i at s.
+        let k = mark_follows names bounds last c i (place_at old written stalls) s m at some (jobs_of new.waiting) f in
+        subst (λ (st : BookState). Stands names bounds last c (i + 1) (record { state = st; counts = new.counts; waiting = jobs_of new.waiting; written = written; stalls = stalls })) (sym still)
+        (subst (λ (n : Counts). Stands names bounds last c (i + 1) (record { state = old.state; counts = n; waiting = jobs_of new.waiting; written = written; stalls = stalls })) (sym same) k)
 
   -- ---- a form that means none
   pub fault_past : (form : Form) (fault : EventFault) (state : BookState) → event_in names state form.tree ≡ Err fault → (p q : Place) → q.state ≡ state → q.waiting ≡ [] → Leads names bounds last p q → LeadsPast names bounds last (item.Form form) p (Some (refusal_at form (code.Event fault))) q

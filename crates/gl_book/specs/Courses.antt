@@ -3,7 +3,6 @@ use Rattle.std.specs.Prelude.{◌≡◌, ℕ, suc, ◌+◌, ◌<◌, ◌^◌, Bo
 use Rattle.std.specs.List.{flat_map, list_any}
 use Rattle.gl_logic.specs.Every.{Every}
 use Rattle.gl_logic.specs.Object.{Object, nil}
-use Rattle.gl_logic.specs.WorldSeen.{WorldSeen}
 use Rattle.gl_base.specs.Outside.{Grows}
 use Rattle.book_shelf.specs.declared.item.Item.{Item}
 use Rattle.book_shelf.specs.declared.library.Library.{Library}
@@ -101,8 +100,8 @@ pub record Place : Type 0 where
   pub written : Option (List ℕ)
   pub stalls : List StallSeen
 
-abbrev pub place_at : BookState → Progress → Option (List ℕ) → List StallSeen → Place
-place_at state p written stalls = record { state = state; counts = p.counts; waiting = jobs_of p.waiting; written = written; stalls = stalls }
+abbrev pub place_at : Progress → Option (List ℕ) → List StallSeen → Place
+place_at p written stalls = record { state = p.state; counts = p.counts; waiting = jobs_of p.waiting; written = written; stalls = stalls }
 
 -- so many items are taken in: what is done of them is counted, written and kept, and whatever proper answers come for the
 -- jobs that wait, each walk of what is left makes a walk of the whole
@@ -148,19 +147,20 @@ LeadsPast names bounds last_only next p (Some r) q = (c : Course) (i : ℕ) → 
 
 -- ---- the end of a phase, as a whole
 -- an answer for each job, proper at its place; their lines were written and their stalls kept, in the order of the book
-pub record EndsPhase (names : List (List ℕ)) (bounds : Bounds) (w : WorldSeen) (last_only : Bool) (old : Progress) (written : Option (List ℕ)) (stalls : List StallSeen) (new : Progress) (now : Option (List ℕ)) (after : List StallSeen) : Type 0 where
+pub record EndsPhase (names : List (List ℕ)) (bounds : Bounds) (last_only : Bool) (old : Progress) (written : Option (List ℕ)) (stalls : List StallSeen) (new : Progress) (now : Option (List ℕ)) (after : List StallSeen) : Type 0 where
   pub answers : List Answer
-  pub proper : AreAnswered bounds w (jobs_of old.waiting) answers
+  pub proper : AreAnswered bounds old.state.world (jobs_of old.waiting) answers
   pub writes : WritesPhase names last_only (jobs_of old.waiting) answers written now
   pub keeps : KeepsPhase answers stalls after
+  pub state : new.state ≡ old.state
   pub counts : new.counts ≡ counts_after old.counts answers
   pub none : jobs_of new.waiting ≡ []
 
 -- the front of them
-pub record EndsPhaseByFront (names : List (List ℕ)) (bounds : Bounds) (w : WorldSeen) (last_only : Bool) (jobs : List JobSeen) (written : Option (List ℕ)) (stalls : List StallSeen) (now : Option (List ℕ)) (after : List StallSeen) : Type 0 where
+pub record EndsPhaseByFront (names : List (List ℕ)) (bounds : Bounds) (last_only : Bool) (old : Progress) (written : Option (List ℕ)) (stalls : List StallSeen) (now : Option (List ℕ)) (after : List StallSeen) : Type 0 where
   pub answers : List Answer
-  pub proper : AreAnswered bounds w jobs answers
-  pub writes : WritesPhaseFront names last_only jobs answers written now
+  pub proper : AreAnswered bounds old.state.world (jobs_of old.waiting) answers
+  pub writes : WritesPhaseFront names last_only (jobs_of old.waiting) answers written now
   pub keeps : KeepsPhaseFront answers stalls after
 
 -- each count has room for so many answers more

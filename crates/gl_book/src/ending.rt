@@ -3,79 +3,77 @@
 ghost use Rattle.std.specs.Prelude.{◌≡◌, All, IfOk, OnOk, OnErr, length};
 ghost use Rattle.gl_decide.specs.Bounds.{bounds_of};
 ghost use Rattle.gl_book.specs.Courses.{EndsPhase, EndsPhaseByFront, HasRoomFor, WritesPhase, WritesPhaseFront, KeepsPhase, KeepsPhaseFront, counts_after};
-ghost use Rattle.gl_book.specs.Phases.{CanBeAnswered, jobs_of};
+ghost use Rattle.gl_book.specs.Phases.{AreAnswered, CanBeAnswered, jobs_of};
 ghost use Rattle.gl_book.specs.Stops.{IsCounted};
 
 use super::answer::Answer;
 use super::counts::Counts;
+use super::one_run::Run;
 use super::phase::phase_answers;
 use super::progress::Progress;
 use super::put_event::put_job;
 use super::stop::Stop;
 use super::waiting::Waiting;
-use gl_base::limits::Limits;
+use book_state::State;
 use gl_base::sink::Sink;
 use gl_decide::{Gate, Stalls};
-use gl_logic::{Texts, World};
-use std::alloc::Global;
+use gl_logic::{NoMemory, Texts};
 use std::mem;
 use std::thread::Threads;
 
 /// Answers the jobs that wait, in the world at the end of their phase, and writes their lines in the order of the book,
 /// where not the last line alone is written. None wait afterwards.
 pub(crate) fn end_phase<R: Threads + Sync, K: Sink, G: Gate>(
-    rt: &R,
-    alloc: Global,
-    world: &World,
-    limits: &Limits,
+    run: &Run<'_, R, G>,
     progress: &mut Progress,
     texts: &Texts,
-    last_only: bool,
-    gate: &G,
     stalls: &mut Stalls,
     out: &mut K,
 ) -> Result<(), Stop>
-    requires ready { All (CanBeAnswered world.now.definitions) (jobs_of progress.old.waiting) }
+    requires ready { All (CanBeAnswered progress.old.state.world.definitions) (jobs_of progress.old.waiting) }
     requires room { HasRoomFor (length (jobs_of progress.old.waiting)) progress.old.counts }
-    ensures ok { OnOk result (EndsPhase texts.now (bounds_of limits.now) world.now last_only progress.old (K.written out.old) stalls.old progress.new (K.written out.new) stalls.new) }
-    ensures front { OnErr result (EndsPhaseByFront texts.now (bounds_of limits.now) world.now last_only (jobs_of progress.old.waiting) (K.written out.old) stalls.old (K.written out.new) stalls.new) }
+    ensures ok { OnOk result (EndsPhase texts.now (bounds_of run.now.limits.now) run.now.last_only progress.old (K.written out.old) stalls.old progress.new (K.written out.new) stalls.new) }
+    ensures front { OnErr result (EndsPhaseByFront texts.now (bounds_of run.now.limits.now) run.now.last_only progress.old (K.written out.old) stalls.old (K.written out.new) stalls.new) }
     ensures cause { IsCounted (K.faults out.old) (K.faults out.new) result }
 {
-    let Ok(answers) = phase_answers(rt, alloc, world, &progress.waiting, limits, gate) else {
+    let Ok(answers) = answers_at(run, &progress.state, &progress.waiting) else {
         return Err(Stop::Memory);
     };
-    let waiting = mem::replace(&mut progress.waiting, Waiting::new(alloc));
-    progress.counts = put_answers(
-        alloc,
-        &waiting,
-        answers,
-        progress.counts,
-        texts,
-        last_only,
-        stalls,
-        out,
-    )?;
+    let waiting = mem::replace(&mut progress.waiting, Waiting::new(run.alloc));
+    progress.counts = put_answers(run, &waiting, answers, progress.counts, texts, stalls, out)?;
     Ok(())
+}
+
+/// The answers to the jobs that wait, in the world of a state.
+fn answers_at<R: Threads + Sync, G: Gate>(
+    run: &Run<'_, R, G>,
+    state: &State,
+    waiting: &Waiting,
+) -> Result<Vec<Answer>, NoMemory>
+    requires { All (CanBeAnswered state.now.world.definitions) (jobs_of waiting.now) }
+    ensures { IfOk result (λ v. AreAnswered (bounds_of run.now.limits.now) state.now.world (jobs_of waiting.now) v.items) }
+{
+    let world = state.world();
+    phase_answers(run.rt, run.alloc, world, waiting, run.limits, run.gate)
 }
 
 /// Writes the lines of the jobs with their answers, each with those behind it, where not the last line alone is written,
 /// and keeps each answer's stall right before its lines. The counts with the answers.
-fn put_answers<K: Sink>(
-    alloc: Global,
+fn put_answers<R: Threads + Sync, K: Sink, G: Gate>(
+    run: &Run<'_, R, G>,
     waiting: &Waiting,
     answers: Vec<Answer>,
     start: Counts,
     texts: &Texts,
-    last_only: bool,
     stalls: &mut Stalls,
     out: &mut K,
 ) -> Result<Counts, Stop>
     requires many { length answers.items ≡ length (jobs_of waiting.now) }
     requires room { HasRoomFor (length (jobs_of waiting.now)) start }
-    ensures writes { OnOk result (WritesPhase texts.now last_only (jobs_of waiting.now) answers.items (K.written out.old) (K.written out.new)) }
+    ensures writes { OnOk result (WritesPhase texts.now run.now.last_only (jobs_of waiting.now) answers.items (K.written out.old) (K.written out.new)) }
     ensures keeps { OnOk result (KeepsPhase answers.items stalls.old stalls.new) }
     ensures counts { IfOk result (λ c. c ≡ counts_after start answers.items) }
-    ensures front { OnErr result (WritesPhaseFront texts.now last_only (jobs_of waiting.now) answers.items (K.written out.old) (K.written out.new)) }
+    ensures front { OnErr result (WritesPhaseFront texts.now run.now.last_only (jobs_of waiting.now) answers.items (K.written out.old) (K.written out.new)) }
     ensures keeps_front { OnErr result (KeepsPhaseFront answers.items stalls.old stalls.new) }
     ensures cause { IsCounted (K.faults out.old) (K.faults out.new) result }
 {
@@ -84,7 +82,7 @@ fn put_answers<K: Sink>(
     for answer in answers {
         let job = waiting.at(i);
         counts = counts.with(&answer);
-        put_job(alloc, job, answer, texts, last_only, stalls, out)?;
+        put_job(run.alloc, job, answer, texts, run.last_only, stalls, out)?;
         i += 1;
     }
     Ok(counts)

@@ -4,8 +4,8 @@
 //! - a large book made from a number: `generator`;
 //! - jobs, whose answers may come later: `waiting`, a list of `job`; their answers by any number of workers, `phase`, by
 //!   `task`, `piece` and `pieces`, and `gather`, from tasks back to jobs;
-//! - answers to what is written: `walk` over all forms and the marks of included books, by `progress`, `put_event`, `marks`,
-//!   and `ending`, where a phase ends; `lines`, `measure_words`, `refusal`, `counts`, `line_list`, `put_lines`, `stop`,
+//! - answers to what is written: `walk` over all forms and the marks of included books, by `one_run`, `progress`,
+//!   `put_event`, `marks`, and `ending`, where a phase ends; `lines`, `measure_words`, `refusal`, `counts`, `line_list`, `put_lines`, `stop`,
 //!   `run`;
 //! - what is left of an answer then: `settle`;
 //! - the last theorem of a text, without deciding one: `last`, by `last_step` and `untried`, and the lines of a verdict on it,
@@ -30,6 +30,7 @@ mod line_list;
 mod lines;
 mod marks;
 mod measure_words;
+mod one_run;
 mod phase;
 mod piece;
 mod pieces;
@@ -50,6 +51,7 @@ pub use answer::{Answer, Cause, answer_of};
 pub use cases::CasesVerdict;
 pub use generator::generate;
 pub use last::{Last, last_theorem};
+pub use one_run::Run;
 pub use run::{every_text_has_a_transcript, run_book, run_library, run_text, run_text_gated};
 pub use settle::keep_stall;
 pub use verdict_text::verdict_lines;

@@ -2,10 +2,12 @@
 
 use super::counts::Counts;
 use super::waiting::Waiting;
+use book_state::State;
 
-/// What is counted of a book's answers so far, and the jobs that wait for theirs.
+/// The state that a book's forms so far have made, what is counted of their answers, and the jobs that wait for theirs.
 #[derive(Drop)]
 pub struct Progress {
+    pub state: State,
     pub counts: Counts,
     pub waiting: Waiting,
 }

@@ -14,6 +14,7 @@ ghost use Rattle.book_shelf.specs.Flat.{most_bytes};
 ghost use Rattle.gl_book.specs.Stops.{EndsBy, status_from, IsCounted, IsReported};
 
 use super::counts::Counts;
+use super::one_run::Run;
 use super::refusal::{Refusal, RefusalCode};
 use super::stop::Stop;
 use super::walk::{close, walk};
@@ -55,31 +56,33 @@ pub fn run_text<R: Threads + Sync, K: Sink>(
     ensures no_read_fault { result ≢ Status.ReadFault }
     ensures no_usage { result ≢ Status.Usage }
 {
-    run_text_gated(rt, alloc, text, limits, last_only, &OpenGate, stalls, out)
+    let run = Run {
+        rt,
+        alloc,
+        limits,
+        last_only,
+        gate: &OpenGate,
+    };
+    run_text_gated(&run, text, stalls, out)
 }
 
-/// Does what [`run_text`] does. Where two jobs or more are answered together by two workers or more, a worker calls
-/// `gate.enter` once when it begins a job, with the job's number among them, from 0.
+/// Does what [`run_text`] does, and calls the gate of the run.
 pub fn run_text_gated<R: Threads + Sync, K: Sink, G: Gate>(
-    rt: &R,
-    alloc: Global,
+    run: &Run<'_, R, G>,
     text: &[u8],
-    limits: &Limits,
-    last_only: bool,
-    gate: &G,
     stalls: &mut Stalls,
     out: &mut K,
 ) -> Status
-    ensures written { EndsWith (bounds_of limits.now) text.now last_only (K.written out.old) (K.written out.new) stalls.old stalls.new result }
+    ensures written { EndsWith (bounds_of run.now.limits.now) text.now run.now.last_only (K.written out.old) (K.written out.new) stalls.old stalls.new result }
     ensures write_fault { result ≡ Status.WriteFault → Rose (K.faults out.old) (K.faults out.new) }
     ensures no_write_fault { result ≢ Status.WriteFault → K.faults out.new ≡ K.faults out.old }
     ensures no_read_fault { result ≢ Status.ReadFault }
     ensures no_usage { result ≢ Status.Usage }
 {
     if let Some((line, column)) = too_long(text) {
-        return refuse_long(alloc, line, column, last_only, out);
+        return refuse_long(run.alloc, line, column, run.last_only, out);
     }
-    status_of_run(write_text(rt, alloc, text, limits, last_only, gate, stalls, out))
+    status_of_run(write_text(run, text, stalls, out))
 }
 
 /// Writes the transcript of the list of a book and of the books that it includes, and answers the status that it gives. A
@@ -105,13 +108,19 @@ pub fn run_library<R: Threads + Sync, K: Sink>(
     ensures no_read_fault { result ≢ Status.ReadFault }
     ensures no_usage { result ≢ Status.Usage }
 {
-    let Ok(mut state) = State::new(alloc, texts) else {
+    let Ok(state) = State::new(alloc, texts) else {
         return Status::NoMemory;
     };
+    // the texts of a table are different, so one text has one number
     texts.is_table();
-    status_of_run(walk(
-        rt, alloc, library, limits, &mut state, texts, false, &OpenGate, stalls, out,
-    ))
+    let run = Run {
+        rt,
+        alloc,
+        limits,
+        last_only: false,
+        gate: &OpenGate,
+    };
+    status_of_run(walk(&run, library, state, texts, stalls, out))
 }
 
 /// Reads the book of a name and the books that it includes, and then writes the transcript.
@@ -164,35 +173,29 @@ fn status_of_run(run: Result<Status, Stop>) -> Status
 
 /// Makes the first state, reads a text's forms, and walks over them.
 fn write_text<R: Threads + Sync, K: Sink, G: Gate>(
-    rt: &R,
-    alloc: Global,
+    run: &Run<'_, R, G>,
     text: &[u8],
-    limits: &Limits,
-    last_only: bool,
-    gate: &G,
     stalls: &mut Stalls,
     out: &mut K,
 ) -> Result<Status, Stop>
     requires { length text.now ≤ most_bytes }
-    ensures written { EndsBy (IsTranscript (bounds_of limits.now) text.now) last_only (K.written out.old) (K.written out.new) stalls.old stalls.new result }
+    ensures written { EndsBy (IsTranscript (bounds_of run.now.limits.now) text.now) run.now.last_only (K.written out.old) (K.written out.new) stalls.old stalls.new result }
     ensures reported { IfOk result IsReported }
     ensures cause { IsCounted (K.faults out.old) (K.faults out.new) result }
 {
-    let Ok(mut texts) = Texts::new(alloc) else {
+    let Ok(mut texts) = Texts::new(run.alloc) else {
         return Err(Stop::Memory);
     };
-    let Ok(mut state) = State::new(alloc, &mut texts) else {
+    let Ok(state) = State::new(run.alloc, &mut texts) else {
         return Err(Stop::Memory);
     };
-    let Ok(forms) = forms(alloc, text, &mut texts) else {
+    let Ok(forms) = forms(run.alloc, text, &mut texts) else {
         return Err(Stop::Memory);
     };
-    let Ok(book) = Library::alone(alloc, forms) else {
+    let Ok(book) = Library::alone(run.alloc, forms) else {
         return Err(Stop::Memory);
     };
-    walk(
-        rt, alloc, &book, limits, &mut state, &mut texts, last_only, gate, stalls, out,
-    )
+    walk(run, &book, state, &mut texts, stalls, out)
 }
 
 /// Writes the transcript of a text that is too long at a place.

@@ -11,6 +11,7 @@ ghost use Rattle.event_world.specs.Suits.{Suits};
 ghost use Rattle.gl_decide.specs.Bounds.{Bounds, bounds_of};
 ghost use Rattle.gl_decide.specs.Stalls.{StallSeen};
 ghost use Rattle.book_state.specs.Answerable.{IsAnswerable};
+ghost use Rattle.gl_book.specs.Answers.{IsProperAnswer};
 ghost use Rattle.gl_book.specs.Courses.{Follows, HasRoomFor, LeadsPast, LeadsPastToFront, place_at};
 ghost use Rattle.gl_book.specs.Entry.{Entry};
 ghost use Rattle.gl_book.specs.Phases.{CanBeAnswered, ends_phase as ends_phase_seen, jobs_of, new_job};
@@ -24,6 +25,7 @@ use super::counts::Counts;
 use super::ending::end_phase;
 use super::line_list::Lines;
 use super::marks::put_mark;
+use super::one_run::Run;
 use super::progress::Progress;
 use super::put_event::put_event;
 use super::put_lines::put_told;
@@ -33,7 +35,6 @@ use super::waiting::Waiting;
 use book_shelf::{Finish, Item, Library, Mark, ShelfCode};
 use book_state::State;
 use event_world::{Event, EventFault};
-use gl_base::limits::Limits;
 use gl_base::sink::Sink;
 use gl_base::status::Status;
 use gl_decide::{Gate, Stalls};
@@ -50,96 +51,68 @@ use std::thread::Threads;
 /// theorems wait for the end of their phase, which is an event that changes definitions or constants, a refusal, or the
 /// end of the list. A mark ends no phase.
 pub fn walk<R: Threads + Sync, K: Sink, G: Gate>(
-    rt: &R,
-    alloc: Global,
+    run: &Run<'_, R, G>,
     book: &Library,
-    limits: &Limits,
-    state: &mut State,
+    state: State,
     texts: &mut Texts,
-    last_only: bool,
-    gate: &G,
     stalls: &mut Stalls,
     out: &mut K,
 ) -> Result<Status, Stop>
     requires empty { with_name texts.old [] ≡ texts.old }
-    requires can_go_on { CanGoOn state.old }
-    ensures ok { IfOk result (WritesWalk texts.old (bounds_of limits.now) state.old book.now last_only (K.written out.old) (K.written out.new) stalls.old stalls.new) }
-    ensures front { OnErr result (WritesWalkFront texts.old (bounds_of limits.now) state.old book.now last_only (K.written out.old) (K.written out.new) stalls.old stalls.new) }
+    requires can_go_on { CanGoOn state }
+    ensures ok { IfOk result (WritesWalk texts.old (bounds_of run.now.limits.now) state book.now run.now.last_only (K.written out.old) (K.written out.new) stalls.old stalls.new) }
+    ensures front { OnErr result (WritesWalkFront texts.old (bounds_of run.now.limits.now) state book.now run.now.last_only (K.written out.old) (K.written out.new) stalls.old stalls.new) }
     ensures texts { texts.new ≡ texts.old }
     ensures cause { IsCounted (K.faults out.old) (K.faults out.new) result }
 {
     let mut progress = Progress {
+        state,
         counts: Counts::none(),
-        waiting: Waiting::new(alloc),
+        waiting: Waiting::new(run.alloc),
     };
     for i in 0..book.items.len() {
         let next = book.items.at(i);
-        let refusal = take_item(
-            rt,
-            alloc,
-            next,
-            limits,
-            state,
-            &mut progress,
-            texts,
-            last_only,
-            gate,
-            stalls,
-            out,
-        )?;
+        let refusal = take_item(run, next, &mut progress, texts, stalls, out)?;
         if let Some(refusal) = refusal {
-            return close(alloc, Some(refusal), progress.counts, last_only, out);
+            return close(
+                run.alloc,
+                Some(refusal),
+                progress.counts,
+                run.last_only,
+                out,
+            );
         }
     }
-    let world = state.world();
-    end_phase(
-        rt,
-        alloc,
-        world,
-        limits,
-        &mut progress,
-        texts,
-        last_only,
-        gate,
-        stalls,
-        out,
-    )?;
+    end_phase(run, &mut progress, texts, stalls, out)?;
     close(
-        alloc,
+        run.alloc,
         refusal_of(book.finish),
         progress.counts,
-        last_only,
+        run.last_only,
         out,
     )
 }
 
 /// Takes the next item in. Its refusal, where it is refused; no job waits then.
 fn take_item<R: Threads + Sync, K: Sink, G: Gate>(
-    rt: &R,
-    alloc: Global,
+    run: &Run<'_, R, G>,
     next: &Item,
-    limits: &Limits,
-    state: &mut State,
     progress: &mut Progress,
     texts: &mut Texts,
-    last_only: bool,
-    gate: &G,
     stalls: &mut Stalls,
     out: &mut K,
 ) -> Result<Option<Refusal>, Stop>
     requires empty { with_name texts.old [] ≡ texts.old }
-    requires ready { All (CanBeAnswered state.old.world.definitions) (jobs_of progress.old.waiting) }
+    requires ready { All (CanBeAnswered progress.old.state.world.definitions) (jobs_of progress.old.waiting) }
     requires room { HasRoomFor (length (jobs_of progress.old.waiting) + 1) progress.old.counts }
-    ensures ok { IfOk result (λ r. LeadsPast texts.old (bounds_of limits.now) last_only next.now (place_at state.old progress.old (K.written out.old) stalls.old) r (place_at state.new progress.new (K.written out.new) stalls.new)) }
-    ensures front { OnErr result (LeadsPastToFront texts.old (bounds_of limits.now) last_only next.now (place_at state.old progress.old (K.written out.old) stalls.old) (K.written out.new) stalls.new) }
+    ensures ok { IfOk result (λ r. LeadsPast texts.old (bounds_of run.now.limits.now) run.now.last_only next.now (place_at progress.old (K.written out.old) stalls.old) r (place_at progress.new (K.written out.new) stalls.new)) }
+    ensures front { OnErr result (LeadsPastToFront texts.old (bounds_of run.now.limits.now) run.now.last_only next.now (place_at progress.old (K.written out.old) stalls.old) (K.written out.new) stalls.new) }
     ensures texts { texts.new ≡ texts.old }
     ensures cause { IsCounted (K.faults out.old) (K.faults out.new) result }
 {
     match next {
-        Item::Form(form) => take_form(
-            rt, alloc, form, limits, state, progress, texts, last_only, gate, stalls, out,
-        ),
-        Item::Mark(mark) => match take_mark(alloc, *mark, progress, texts, last_only, out) {
+        Item::Form(form) => take_form(run, form, progress, texts, stalls, out),
+        Item::Mark(mark) => match take_mark(run, *mark, progress, texts, out) {
             Ok(()) => Ok(None),
             Err(stop) => Err(stop),
         },
@@ -147,60 +120,49 @@ fn take_item<R: Threads + Sync, K: Sink, G: Gate>(
 }
 
 /// Takes a mark in: its line is written at once, or comes behind those of the last job that waits.
-fn take_mark<K: Sink>(
-    alloc: Global,
+fn take_mark<R: Threads + Sync, K: Sink, G: Gate>(
+    run: &Run<'_, R, G>,
     mark: Mark,
     progress: &mut Progress,
     texts: &Texts,
-    last_only: bool,
     out: &mut K,
 ) -> Result<(), Stop>
-    ensures ok { OnOk result ((bounds : Bounds) (state : BookState) (stalls : List StallSeen) → LeadsPast texts.now bounds last_only (item.Mark mark) (place_at state progress.old (K.written out.old) stalls) None (place_at state progress.new (K.written out.new) stalls)) }
-    ensures front { OnErr result ((bounds : Bounds) (state : BookState) (stalls : List StallSeen) → LeadsPastToFront texts.now bounds last_only (item.Mark mark) (place_at state progress.old (K.written out.old) stalls) (K.written out.new) stalls) }
+    ensures ok { OnOk result ((stalls : List StallSeen) → LeadsPast texts.now (bounds_of run.now.limits.now) run.now.last_only (item.Mark mark) (place_at progress.old (K.written out.old) stalls) None (place_at progress.new (K.written out.new) stalls)) }
+    ensures front { OnErr result ((stalls : List StallSeen) → LeadsPastToFront texts.now (bounds_of run.now.limits.now) run.now.last_only (item.Mark mark) (place_at progress.old (K.written out.old) stalls) (K.written out.new) stalls) }
     ensures cause { IsCounted (K.faults out.old) (K.faults out.new) result }
 {
     if progress.waiting.len() > 0 {
-        return match progress.waiting.follow_mark(alloc, mark, texts) {
+        return match progress.waiting.follow_mark(run.alloc, mark, texts) {
             Ok(()) => Ok(()),
             Err(_) => Err(Stop::Memory),
         };
     }
-    put_mark(alloc, mark, texts, last_only, out)
+    put_mark(run.alloc, mark, texts, run.last_only, out)
 }
 
 /// Takes the next form in. Its refusal, where it is refused; no job waits then.
 fn take_form<R: Threads + Sync, K: Sink, G: Gate>(
-    rt: &R,
-    alloc: Global,
+    run: &Run<'_, R, G>,
     form: &Form,
-    limits: &Limits,
-    state: &mut State,
     progress: &mut Progress,
     texts: &mut Texts,
-    last_only: bool,
-    gate: &G,
     stalls: &mut Stalls,
     out: &mut K,
 ) -> Result<Option<Refusal>, Stop>
     requires empty { with_name texts.old [] ≡ texts.old }
-    requires ready { All (CanBeAnswered state.old.world.definitions) (jobs_of progress.old.waiting) }
+    requires ready { All (CanBeAnswered progress.old.state.world.definitions) (jobs_of progress.old.waiting) }
     requires room { HasRoomFor (length (jobs_of progress.old.waiting) + 1) progress.old.counts }
-    ensures ok { IfOk result (λ r. LeadsPast texts.old (bounds_of limits.now) last_only (item.Form form.now) (place_at state.old progress.old (K.written out.old) stalls.old) r (place_at state.new progress.new (K.written out.new) stalls.new)) }
-    ensures front { OnErr result (LeadsPastToFront texts.old (bounds_of limits.now) last_only (item.Form form.now) (place_at state.old progress.old (K.written out.old) stalls.old) (K.written out.new) stalls.new) }
+    ensures ok { IfOk result (λ r. LeadsPast texts.old (bounds_of run.now.limits.now) run.now.last_only (item.Form form.now) (place_at progress.old (K.written out.old) stalls.old) r (place_at progress.new (K.written out.new) stalls.new)) }
+    ensures front { OnErr result (LeadsPastToFront texts.old (bounds_of run.now.limits.now) run.now.last_only (item.Form form.now) (place_at progress.old (K.written out.old) stalls.old) (K.written out.new) stalls.new) }
     ensures texts { texts.new ≡ texts.old }
     ensures cause { IsCounted (K.faults out.old) (K.faults out.new) result }
 {
-    match state.event(alloc, &form.tree, texts) {
-        Ok(event) => take_event(
-            rt, alloc, form, event, limits, state, progress, texts, last_only, gate, stalls, out,
-        ),
+    match progress.state.event(run.alloc, &form.tree, texts) {
+        Ok(event) => take_event(run, form, event, progress, texts, stalls, out),
         Err(fault) => match fault {
             EventFault::Memory => Err(Stop::Memory),
             _ => {
-                let world = state.world();
-                end_phase(
-                    rt, alloc, world, limits, progress, texts, last_only, gate, stalls, out,
-                )?;
+                end_phase(run, progress, texts, stalls, out)?;
                 Ok(Some(refusal_at(form, RefusalCode::Event(fault))))
             }
         },
@@ -209,117 +171,115 @@ fn take_form<R: Threads + Sync, K: Sink, G: Gate>(
 
 /// Takes the event of the next form in. The form's refusal, where it is a constant without a value; no job waits then.
 fn take_event<R: Threads + Sync, K: Sink, G: Gate>(
-    rt: &R,
-    alloc: Global,
+    run: &Run<'_, R, G>,
     form: &Form,
     event: Event,
-    limits: &Limits,
-    state: &mut State,
     progress: &mut Progress,
     texts: &Texts,
-    last_only: bool,
-    gate: &G,
     stalls: &mut Stalls,
     out: &mut K,
 ) -> Result<Option<Refusal>, Stop>
-    requires meant { event_in texts.now state.old form.now.tree ≡ Ok (event_seen event) }
-    requires suits { Suits state.old.world (event_seen event) }
-    requires answerable { IsAnswerable state.old.world.definitions state.old.memoized (event_seen event) }
-    requires ready { All (CanBeAnswered state.old.world.definitions) (jobs_of progress.old.waiting) }
+    requires meant { event_in texts.now progress.old.state form.now.tree ≡ Ok (event_seen event) }
+    requires suits { Suits progress.old.state.world (event_seen event) }
+    requires answerable { IsAnswerable progress.old.state.world.definitions progress.old.state.memoized (event_seen event) }
+    requires ready { All (CanBeAnswered progress.old.state.world.definitions) (jobs_of progress.old.waiting) }
     requires room { HasRoomFor (length (jobs_of progress.old.waiting) + 1) progress.old.counts }
-    ensures ok { IfOk result (λ r. LeadsPast texts.now (bounds_of limits.now) last_only (item.Form form.now) (place_at state.old progress.old (K.written out.old) stalls.old) r (place_at state.new progress.new (K.written out.new) stalls.new)) }
-    ensures front { OnErr result (LeadsPastToFront texts.now (bounds_of limits.now) last_only (item.Form form.now) (place_at state.old progress.old (K.written out.old) stalls.old) (K.written out.new) stalls.new) }
+    ensures ok { IfOk result (λ r. LeadsPast texts.now (bounds_of run.now.limits.now) run.now.last_only (item.Form form.now) (place_at progress.old (K.written out.old) stalls.old) r (place_at progress.new (K.written out.new) stalls.new)) }
+    ensures front { OnErr result (LeadsPastToFront texts.now (bounds_of run.now.limits.now) run.now.last_only (item.Form form.now) (place_at progress.old (K.written out.old) stalls.old) (K.written out.new) stalls.new) }
     ensures cause { IsCounted (K.faults out.old) (K.faults out.new) result }
 {
-    if ends_phase(&event) || is_job(&event) && limits.workers == 1 {
-        let world = state.world();
-        end_phase(
-            rt, alloc, world, limits, progress, texts, last_only, gate, stalls, out,
-        )?;
-        return answer_now(
-            rt, alloc, form, event, limits, state, progress, texts, last_only, stalls, out,
-        );
+    if ends_phase(&event) || is_job(&event) && run.limits.workers == 1 {
+        end_phase(run, progress, texts, stalls, out)?;
+        return answer_now(run, form, event, progress, texts, stalls, out);
     }
     if is_job(&event) {
-        return match wait(alloc, form, event, state, progress) {
+        return match wait(run.alloc, form, event, progress) {
             Ok(()) => Ok(None),
             Err(_) => Err(Stop::Memory),
         };
     }
     if progress.waiting.len() == 0 {
-        return answer_now(
-            rt, alloc, form, event, limits, state, progress, texts, last_only, stalls, out,
-        );
+        return answer_now(run, form, event, progress, texts, stalls, out);
     }
-    match follow(rt, alloc, form, event, limits, state, progress, texts) {
+    match follow(run, form, event, progress, texts) {
         Ok(()) => Ok(None),
         Err(_) => Err(Stop::Memory),
     }
 }
 
 /// Lets a job wait for the end of its phase.
-fn wait(
-    alloc: Global,
-    form: &Form,
-    event: Event,
-    state: &mut State,
-    progress: &mut Progress,
-) -> Result<(), NoMemory>
+fn wait(alloc: Global, form: &Form, event: Event, progress: &mut Progress) -> Result<(), NoMemory>
     requires job { is_job_seen (event_seen event) ≡ true }
-    requires suits { Suits state.old.world (event_seen event) }
-    ensures state { OnOk result (state.new ≡ state_noted state.old form.now.tree (event_seen event)) }
-    ensures waiting { OnOk result (jobs_of progress.new.waiting ≡ jobs_of progress.old.waiting ++ new_job (event_seen event) state.old.memoized ∷ []) }
+    requires suits { Suits progress.old.state.world (event_seen event) }
+    ensures state { OnOk result (progress.new.state ≡ state_noted progress.old.state form.now.tree (event_seen event)) }
+    ensures waiting { OnOk result (jobs_of progress.new.waiting ≡ jobs_of progress.old.waiting ++ new_job (event_seen event) progress.old.state.memoized ∷ []) }
     ensures counts { progress.new.counts ≡ progress.old.counts }
 {
-    state.note(alloc, &form.tree, &event)?;
-    progress.waiting.push(alloc, event, state.memoized())
+    progress.state.note(alloc, &form.tree, &event)?;
+    progress
+        .waiting
+        .push(alloc, event, progress.state.memoized())
 }
 
 /// Answers an event that is no job and ends no phase, while jobs wait: its lines come behind those of the last job.
-fn follow<R: Threads + Sync>(
-    rt: &R,
-    alloc: Global,
+fn follow<R: Threads + Sync, G: Gate>(
+    run: &Run<'_, R, G>,
     form: &Form,
     event: Event,
-    limits: &Limits,
-    state: &mut State,
     progress: &mut Progress,
     texts: &Texts,
 ) -> Result<(), NoMemory>
-    requires suits { Suits state.old.world (event_seen event) }
-    requires answerable { IsAnswerable state.old.world.definitions state.old.memoized (event_seen event) }
-    ensures ok { OnOk result (Follows texts.now (bounds_of limits.now) form.now.tree (event_seen event) state.old (jobs_of progress.old.waiting) state.new (jobs_of progress.new.waiting)) }
+    requires suits { Suits progress.old.state.world (event_seen event) }
+    requires answerable { IsAnswerable progress.old.state.world.definitions progress.old.state.memoized (event_seen event) }
+    ensures ok { OnOk result (Follows texts.now (bounds_of run.now.limits.now) form.now.tree (event_seen event) progress.old.state (jobs_of progress.old.waiting) progress.new.state (jobs_of progress.new.waiting)) }
     ensures counts { progress.new.counts ≡ progress.old.counts }
 {
-    let answer = answer_of(rt, alloc, state.world(), state.memoized(), &event, limits);
-    progress.waiting.follow(alloc, &event, &answer, texts)?;
-    state.take(alloc, &form.tree, event, Tree::nil())
+    let answer = answer_to(run, &progress.state, &event);
+    progress.waiting.follow(run.alloc, &event, &answer, texts)?;
+    progress
+        .state
+        .take(run.alloc, &form.tree, event, Tree::nil())
+}
+
+/// The answer to an event of a state.
+fn answer_to<R: Threads + Sync, G: Gate>(
+    run: &Run<'_, R, G>,
+    state: &State,
+    event: &Event,
+) -> Answer
+    requires { IsAnswerable state.now.world.definitions state.now.memoized (event_seen event.now) }
+    ensures { IsProperAnswer (bounds_of run.now.limits.now) state.now.world state.now.memoized (event_seen event.now) result }
+{
+    answer_of(
+        run.rt,
+        run.alloc,
+        state.world(),
+        state.memoized(),
+        event,
+        run.limits,
+    )
 }
 
 /// Answers an event while no job waits, writes its lines, and takes it in.
-fn answer_now<R: Threads + Sync, K: Sink>(
-    rt: &R,
-    alloc: Global,
+fn answer_now<R: Threads + Sync, K: Sink, G: Gate>(
+    run: &Run<'_, R, G>,
     form: &Form,
     event: Event,
-    limits: &Limits,
-    state: &mut State,
     progress: &mut Progress,
     texts: &Texts,
-    last_only: bool,
     stalls: &mut Stalls,
     out: &mut K,
 ) -> Result<Option<Refusal>, Stop>
-    requires meant { event_in texts.now state.old form.now.tree ≡ Ok (event_seen event) }
-    requires suits { Suits state.old.world (event_seen event) }
-    requires answerable { IsAnswerable state.old.world.definitions state.old.memoized (event_seen event) }
+    requires meant { event_in texts.now progress.old.state form.now.tree ≡ Ok (event_seen event) }
+    requires suits { Suits progress.old.state.world (event_seen event) }
+    requires answerable { IsAnswerable progress.old.state.world.definitions progress.old.state.memoized (event_seen event) }
     requires none { jobs_of progress.old.waiting ≡ [] }
     requires room { HasRoomFor 1 progress.old.counts }
-    ensures ok { IfOk result (λ r. LeadsPast texts.now (bounds_of limits.now) last_only (item.Form form.now) (place_at state.old progress.old (K.written out.old) stalls.old) r (place_at state.new progress.new (K.written out.new) stalls.new)) }
-    ensures front { OnErr result (LeadsPastToFront texts.now (bounds_of limits.now) last_only (item.Form form.now) (place_at state.old progress.old (K.written out.old) stalls.old) (K.written out.new) stalls.new) }
+    ensures ok { IfOk result (λ r. LeadsPast texts.now (bounds_of run.now.limits.now) run.now.last_only (item.Form form.now) (place_at progress.old (K.written out.old) stalls.old) r (place_at progress.new (K.written out.new) stalls.new)) }
+    ensures front { OnErr result (LeadsPastToFront texts.now (bounds_of run.now.limits.now) run.now.last_only (item.Form form.now) (place_at progress.old (K.written out.old) stalls.old) (K.written out.new) stalls.new) }
     ensures cause { IsCounted (K.faults out.old) (K.faults out.new) result }
 {
-    let answer = answer_of(rt, alloc, state.world(), state.memoized(), &event, limits);
+    let answer = answer_to(run, &progress.state, &event);
     if let Some(cause) = refused_cause(&event, &answer) {
         drop(event);
         drop(answer);
@@ -329,14 +289,14 @@ fn answer_now<R: Threads + Sync, K: Sink>(
         };
     }
     progress.counts = progress.counts.with(&answer);
-    let value = match put_event(alloc, &event, answer, texts, last_only, stalls, out) {
+    let value = match put_event(run.alloc, &event, answer, texts, run.last_only, stalls, out) {
         Ok(value) => value,
         Err(stop) => {
             drop(event);
             return Err(stop);
         }
     };
-    match state.take(alloc, &form.tree, event, value) {
+    match progress.state.take(run.alloc, &form.tree, event, value) {
         Ok(()) => Ok(None),
         Err(_) => Err(Stop::Memory),
     }

@@ -7,7 +7,7 @@ use super::meeting::Meeting;
 use gl_base::limits::Limits;
 use gl_base::memory_sink::MemorySink;
 use gl_base::status::Status;
-use gl_book::{run_text, run_text_gated};
+use gl_book::{Run, run_text, run_text_gated};
 use gl_decide::{Gate, Stalls};
 use std::alloc::Global;
 use std::process::Abort;
@@ -121,7 +121,14 @@ fn run_gated<R: Threads + Sync, G: Gate>(
     let mut limits = Limits::usual();
     limits.workers = 2;
     let mut stalls = Stalls::new(alloc);
-    run_text_gated(rt, alloc, book, &limits, false, gate, &mut stalls, sink);
+    let run = Run {
+        rt,
+        alloc,
+        limits: &limits,
+        last_only: false,
+        gate,
+    };
+    run_text_gated(&run, book, &mut stalls, sink);
 }
 
 #[test]

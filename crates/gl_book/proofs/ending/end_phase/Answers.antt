@@ -7,8 +7,8 @@ use Rattle.gl_book.proofs.ending.end_phase.Goals as goal
 
 pub returns-in_default-clause-front : goal.returns-in_default-clause-front
 returns-in_default-clause-front g c =
-    nothing_ended c.args.texts.now (bounds_of c.args.limits.now) c.args.world.now c.args.last_only (jobs_of c.args.progress.now.waiting) (g.K.Sink.written c.args.out.now) c.args.stalls.now c.requires.ready
+    nothing_ended c.args.texts.now (bounds_of c.args.run.now.limits.now) c.args.run.now.last_only c.args.progress.now (g.K.Sink.written c.args.out.now) c.args.stalls.now c.requires.ready
 
 pub put_answers-requires-clause-many : goal.put_answers-requires-clause-many
-put_answers-requires-clause-many g c =
-    as_many c.args.texts.now (bounds_of c.args.limits.now) c.args.world.now (jobs_of c.args.progress.now.waiting) c.in-Ok.answers.items c.in-Ok.ensures ∙ ap (λ w. length (jobs_of w)) (sym c.replace-waiting.ensures.value)
+put_answers-requires-clause-many g c κs within =
+    as_many c.args.texts.now (bounds_of c.args.run.now.limits.now) c.args.progress.now.state.world (jobs_of c.args.progress.now.waiting) c.in-Ok.answers.items c.in-Ok.ensures ∙ ap (λ w. length (jobs_of w)) (sym c.replace-waiting.ensures.value)

@@ -21,7 +21,7 @@ returns-in_err-put_job-clause-front g c =
     let answers = c.args.answers.items in
     let i = c.loop-answer.i in
     let at : slice_get answers i ≡ Some c.in-Some.answer = get_of_drop answers i c.in-Some.answer (into_iter_items c.next.new.self) (sym c.loop-answer.invariant.rest ∙ c.in-Some.ensures.steps.0) in
-    on_err c.from_residual.result (writes_front c.args.texts.now c.args.last_only (jobs_of c.args.waiting.now) answers i (job_seen c.at-job.result.now) c.in-Some.answer c.at-job.ensures at _ _ _ c.loop-answer.invariant.writes c.in_err-put_job.ensures.front)
+    on_err c.from_residual.result (writes_front c.args.texts.now c.args.run.now.last_only (jobs_of c.args.waiting.now) answers i (job_seen c.at-job.result.now) c.in-Some.answer c.at-job.ensures at _ _ _ c.loop-answer.invariant.writes c.in_err-put_job.ensures.front)
 
 pub returns-in_err-put_job-clause-keeps_front : goal.returns-in_err-put_job-clause-keeps_front
 returns-in_err-put_job-clause-keeps_front g c =
@@ -43,7 +43,7 @@ loop-answer-preserved g c =
       within = let l = slice_get_within answers i a at in omega (arith, l);
       rest = rest_of_drop answers i a left apart;
       faults = c.in_ok-put_job.ensures.cause ∙ c.loop-answer.invariant.faults;
-      writes = writes_more c.args.texts.now c.args.last_only (jobs_of c.args.waiting.now) answers i (job_seen c.at-job.result.now) a c.at-job.ensures at _ _ _ c.loop-answer.invariant.writes c.in_ok-put_job.ensures.ok;
+      writes = writes_more c.args.texts.now c.args.run.now.last_only (jobs_of c.args.waiting.now) answers i (job_seen c.at-job.result.now) a c.at-job.ensures at _ _ _ c.loop-answer.invariant.writes c.in_ok-put_job.ensures.ok;
       keeps = stalls_more answers i a c.args.stalls.now c.loop-answer.stalls c.put_job.new.stalls at c.loop-answer.invariant.keeps c.in_ok-put_job.ensures.kept;
       counts = c.with-counts.ensures ∙ (ap (λ k. counts_with k a) c.loop-answer.invariant.counts ∙ sym (counts_next c.args.start answers i a at));
     }

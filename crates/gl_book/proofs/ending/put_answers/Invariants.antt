@@ -14,7 +14,7 @@ invariant-loop-answer g l = record {
   within : l.i ≤ length l.fn.answers.items;
   rest : into_iter_items l.answer-iterator ≡ drop l.i l.fn.answers.items;
   faults : g.K.Sink.faults l.out ≡ g.K.Sink.faults l.fn.out;
-  writes : Grows (g.K.Sink.written l.fn.out) (g.K.Sink.written l.out) (told_before l.last_only (phase_lines l.texts (take l.i (jobs_of l.waiting)) (take l.i l.fn.answers.items)));
+  writes : Grows (g.K.Sink.written l.fn.out) (g.K.Sink.written l.out) (told_before l.run.last_only (phase_lines l.texts (take l.i (jobs_of l.waiting)) (take l.i l.fn.answers.items)));
   keeps : l.stalls ≡ l.fn.stalls ++ flat_map stalls_of (take l.i l.fn.answers.items);
   counts : l.counts ≡ counts_after l.fn.start (take l.i l.fn.answers.items);
 }

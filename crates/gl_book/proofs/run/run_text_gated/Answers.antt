@@ -6,8 +6,8 @@ use Rattle.gl_book.proofs.run.run_text_gated.Goals as goal
 
 pub returns-clause-written : goal.returns-clause-written
 returns-clause-written g c =
-    subst (EndsWith (bounds_of c.args.limits.now) c.args.text.now c.args.last_only _ _ _ _) (sym c.status_of_run.ensures.status)
-    (ends_with (bounds_of c.args.limits.now) c.args.text.now c.args.last_only _ _ _ _ c.write_text.result c.write_text.ensures.written c.write_text.ensures.reported)
+    subst (EndsWith (bounds_of c.args.run.now.limits.now) c.args.text.now c.args.run.now.last_only _ _ _ _) (sym c.status_of_run.ensures.status)
+    (ends_with (bounds_of c.args.run.now.limits.now) c.args.text.now c.args.run.now.last_only _ _ _ _ c.write_text.result c.write_text.ensures.written c.write_text.ensures.reported)
 
 pub returns-in-Some-clause-written : goal.returns-in-Some-clause-written
-returns-in-Some-clause-written g c = c.refuse_long.ensures.written (bounds_of c.args.limits.now) c.args.text.now c.args.stalls.now (rw c.in-Some.is at c.too_long.ensures)
+returns-in-Some-clause-written g c = c.refuse_long.ensures.written (bounds_of c.args.run.now.limits.now) c.args.text.now c.args.stalls.now (rw c.in-Some.is at c.too_long.ensures)

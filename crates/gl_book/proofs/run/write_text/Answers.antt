@@ -15,7 +15,7 @@ returns-clause-written g c =
     let names = c.forms.new.texts in
     let forms = c.in-Ok-forms.forms in
     let book = c.in-Ok-alone.book in
-    let bounds = bounds_of c.args.limits.now in
+    let bounds = bounds_of c.args.run.now.limits.now in
     let text = c.args.text.now in
     let read : IsReadBy names text forms.list forms.end = record {
       table = c.forms.ensures.table;
@@ -25,14 +25,14 @@ returns-clause-written g c =
     } in
     let begins : IsFirstState names c.in-Ok-new.state = later_first c.new-2.new.texts names c.in-Ok-new.state c.forms.ensures.table c.forms.ensures.kept c.in-Ok-new.ensures.first in
     let told = text_told bounds text names forms.list forms.end book c.in-Ok-alone.ensures.items c.in-Ok-alone.ensures.finish c.requires read c.in-Ok-new.state begins in
-    walked (IsTranscript bounds text) c.args.last_only _ _ _ _ names bounds book c.in-Ok-new.state told c.walk.result c.walk.ensures.ok c.walk.ensures.front
+    walked (IsTranscript bounds text) c.args.run.now.last_only _ _ _ _ names bounds book c.in-Ok-new.state told c.walk.result c.walk.ensures.ok c.walk.ensures.front
 
 pub returns-clause-reported : goal.returns-clause-reported
 returns-clause-reported g c =
     let names = c.forms.new.texts in
     let forms = c.in-Ok-forms.forms in
     let book = c.in-Ok-alone.book in
-    let bounds = bounds_of c.args.limits.now in
+    let bounds = bounds_of c.args.run.now.limits.now in
     let text = c.args.text.now in
     let read : IsReadBy names text forms.list forms.end = record {
       table = c.forms.ensures.table;
@@ -42,16 +42,16 @@ returns-clause-reported g c =
     } in
     let begins : IsFirstState names c.in-Ok-new.state = later_first c.new-2.new.texts names c.in-Ok-new.state c.forms.ensures.table c.forms.ensures.kept c.in-Ok-new.ensures.first in
     let told = text_told bounds text names forms.list forms.end book c.in-Ok-alone.ensures.items c.in-Ok-alone.ensures.finish c.requires read c.in-Ok-new.state begins in
-    walk_reported (IsTranscript bounds text) c.args.last_only _ _ _ _ names bounds book c.in-Ok-new.state told c.walk.result c.walk.ensures.ok
+    walk_reported (IsTranscript bounds text) c.args.run.now.last_only _ _ _ _ names bounds book c.in-Ok-new.state told c.walk.result c.walk.ensures.ok
 
 pub returns-in_default-clause-written : goal.returns-in_default-clause-written
-returns-in_default-clause-written g c = nothing_written (bounds_of c.args.limits.now) c.args.text.now c.args.last_only _ _ c.args.stalls.now c.args.stalls.now refl refl
+returns-in_default-clause-written g c = nothing_written (bounds_of c.args.run.now.limits.now) c.args.text.now c.args.run.now.last_only _ _ c.args.stalls.now c.args.stalls.now refl refl
 
 pub returns-in_default-new-clause-written : goal.returns-in_default-new-clause-written
-returns-in_default-new-clause-written g c = nothing_written (bounds_of c.args.limits.now) c.args.text.now c.args.last_only _ _ c.args.stalls.now c.args.stalls.now refl refl
+returns-in_default-new-clause-written g c = nothing_written (bounds_of c.args.run.now.limits.now) c.args.text.now c.args.run.now.last_only _ _ c.args.stalls.now c.args.stalls.now refl refl
 
 pub returns-in_default-forms-clause-written : goal.returns-in_default-forms-clause-written
-returns-in_default-forms-clause-written g c = nothing_written (bounds_of c.args.limits.now) c.args.text.now c.args.last_only _ _ c.args.stalls.now c.args.stalls.now refl refl
+returns-in_default-forms-clause-written g c = nothing_written (bounds_of c.args.run.now.limits.now) c.args.text.now c.args.run.now.last_only _ _ c.args.stalls.now c.args.stalls.now refl refl
 
 pub returns-in_default-alone-clause-written : goal.returns-in_default-alone-clause-written
-returns-in_default-alone-clause-written g c = nothing_written (bounds_of c.args.limits.now) c.args.text.now c.args.last_only _ _ c.args.stalls.now c.args.stalls.now refl refl
+returns-in_default-alone-clause-written g c = nothing_written (bounds_of c.args.run.now.limits.now) c.args.text.now c.args.run.now.last_only _ _ c.args.stalls.now c.args.stalls.now refl refl

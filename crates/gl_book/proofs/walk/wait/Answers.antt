@@ -8,4 +8,4 @@ use Rattle.gl_book.proofs.walk.wait.Goals as goal
 pub returns-clause-waiting : goal.returns-clause-waiting
 returns-clause-waiting c =
     let e = event_seen c.args.event in
-    ok_then c.push.result c.push.ensures.ok (λ h. h ∙ ap (λ m. jobs_of c.args.progress.now.waiting ++ new_job e m ∷ []) (c.memoized.ensures.memoized ∙ (ap (λ s. s.memoized) c.in_ok-note.ensures.ok ∙ job_keeps_functions c.args.state.now c.args.form.now.tree e c.requires.job)))
+    ok_then c.push.result c.push.ensures.ok (λ h. h ∙ ap (λ m. jobs_of c.args.progress.now.waiting ++ new_job e m ∷ []) (c.memoized.ensures.memoized ∙ (ap (λ s. s.memoized) c.in_ok-note.ensures.ok ∙ job_keeps_functions c.args.progress.now.state c.args.form.now.tree e c.requires.job)))

@@ -16,15 +16,15 @@ use Rattle.gl_book.proofs.walk.walk.Goals as goal
 pub loop-i-init : goal.loop-i-init
 loop-i-init g c =
     let names = c.args.texts.now in
-    let bounds = bounds_of c.args.limits.now in
-    let last = c.args.last_only in
-    let course : Course = record { first = c.args.state.now; book = c.args.book.now; written = g.K.Sink.written c.args.out.now; stalls = c.args.stalls.now } in
+    let bounds = bounds_of c.args.run.now.limits.now in
+    let last = c.args.run.now.last_only in
+    let course : Course = record { first = c.args.state; book = c.args.book.now; written = g.K.Sink.written c.args.out.now; stalls = c.args.stalls.now } in
     record {
       faults = refl;
       texts = refl;
       stands =
-          subst (λ (n : Counts). Stands names bounds last course 0 (record { state = c.args.state.now; counts = n; waiting = jobs_of c.new.result; written = course.written; stalls = course.stalls })) (sym c.none.ensures)
-          (subst (λ (js : List JobSeen). Stands names bounds last course 0 (record { state = c.args.state.now; counts = counts_of []; waiting = js; written = course.written; stalls = course.stalls })) (sym c.new.ensures) (begins names bounds last course c.requires.can_go_on));
+          subst (λ (n : Counts). Stands names bounds last course 0 (record { state = c.args.state; counts = n; waiting = jobs_of c.new.result; written = course.written; stalls = course.stalls })) (sym c.none.ensures)
+          (subst (λ (js : List JobSeen). Stands names bounds last course 0 (record { state = c.args.state; counts = counts_of []; waiting = js; written = course.written; stalls = course.stalls })) (sym c.new.ensures) (begins names bounds last course c.requires.can_go_on));
     }
 
 pub take_item-requires-clause-empty : goal.take_item-requires-clause-empty
@@ -36,30 +36,28 @@ take_item-requires-clause-ready g c κs within = c.loop-i.invariant.stands.ready
 pub take_item-requires-clause-room : goal.take_item-requires-clause-room
 take_item-requires-clause-room g c κs within =
     let names = c.args.texts.now in
-    let bounds = bounds_of c.args.limits.now in
-    let last = c.args.last_only in
-    let course : Course = record { first = c.args.state.now; book = c.args.book.now; written = g.K.Sink.written c.args.out.now; stalls = c.args.stalls.now } in
+    let bounds = bounds_of c.args.run.now.limits.now in
+    let last = c.args.run.now.last_only in
+    let course : Course = record { first = c.args.state; book = c.args.book.now; written = g.K.Sink.written c.args.out.now; stalls = c.args.stalls.now } in
     let i = c.loop-i.i in
-    let state = c.loop-i.state in
     let old = c.loop-i.progress in
     let written = g.K.Sink.written c.loop-i.out in
     let stalls = c.loop-i.stalls in
-    let here = place_at state old written stalls in
+    let here = place_at old written stalls in
     let few : i + 1 < 18446744073709551616 = search rules in
     has_room_for names bounds last course i here c.loop-i.invariant.stands 1 few
 
 pub returns-in_err-refusal-clause-front : goal.returns-in_err-refusal-clause-front
 returns-in_err-refusal-clause-front g c =
     let names = c.args.texts.now in
-    let bounds = bounds_of c.args.limits.now in
-    let last = c.args.last_only in
-    let course : Course = record { first = c.args.state.now; book = c.args.book.now; written = g.K.Sink.written c.args.out.now; stalls = c.args.stalls.now } in
+    let bounds = bounds_of c.args.run.now.limits.now in
+    let last = c.args.run.now.last_only in
+    let course : Course = record { first = c.args.state; book = c.args.book.now; written = g.K.Sink.written c.args.out.now; stalls = c.args.stalls.now } in
     let i = c.loop-i.i in
-    let state = c.loop-i.state in
     let old = c.loop-i.progress in
     let written = g.K.Sink.written c.loop-i.out in
     let stalls = c.loop-i.stalls in
-    let here = place_at state old written stalls in
+    let here = place_at old written stalls in
     let next = c.at-next.result.now in
     let now = g.K.Sink.written c.take_item.new.out in
     let after = c.take_item.new.stalls in
@@ -69,18 +67,17 @@ returns-in_err-refusal-clause-front g c =
 pub returns-in-Some-clause-ok : goal.returns-in-Some-clause-ok
 returns-in-Some-clause-ok g c =
     let names = c.args.texts.now in
-    let bounds = bounds_of c.args.limits.now in
-    let last = c.args.last_only in
-    let course : Course = record { first = c.args.state.now; book = c.args.book.now; written = g.K.Sink.written c.args.out.now; stalls = c.args.stalls.now } in
+    let bounds = bounds_of c.args.run.now.limits.now in
+    let last = c.args.run.now.last_only in
+    let course : Course = record { first = c.args.state; book = c.args.book.now; written = g.K.Sink.written c.args.out.now; stalls = c.args.stalls.now } in
     let i = c.loop-i.i in
-    let state = c.loop-i.state in
     let old = c.loop-i.progress in
     let written = g.K.Sink.written c.loop-i.out in
     let stalls = c.loop-i.stalls in
-    let here = place_at state old written stalls in
+    let here = place_at old written stalls in
     let next = c.at-next.result.now in
     let r = c.in-Some.refusal in
-    let q = place_at c.take_item.new.state c.take_item.new.progress (g.K.Sink.written c.take_item.new.out) c.take_item.new.stalls in
+    let q = place_at c.take_item.new.progress (g.K.Sink.written c.take_item.new.out) c.take_item.new.stalls in
     let told : LeadsPast c.loop-i.texts bounds last next here (Some r) q = subst (λ (o : Option Refusal). LeadsPast c.loop-i.texts bounds last next here o q) c.in-Some.is c.in_ok-refusal.ensures.ok in
     let past : LeadsPast names bounds last next here (Some r) q = subst (λ (ns : List (List ℕ)). LeadsPast ns bounds last next here (Some r) q) c.loop-i.invariant.texts told in
     let f = past course i c.at-next.ensures c.loop-i.invariant.stands in
@@ -89,18 +86,17 @@ returns-in-Some-clause-ok g c =
 pub returns-in-Some-clause-front : goal.returns-in-Some-clause-front
 returns-in-Some-clause-front g c =
     let names = c.args.texts.now in
-    let bounds = bounds_of c.args.limits.now in
-    let last = c.args.last_only in
-    let course : Course = record { first = c.args.state.now; book = c.args.book.now; written = g.K.Sink.written c.args.out.now; stalls = c.args.stalls.now } in
+    let bounds = bounds_of c.args.run.now.limits.now in
+    let last = c.args.run.now.last_only in
+    let course : Course = record { first = c.args.state; book = c.args.book.now; written = g.K.Sink.written c.args.out.now; stalls = c.args.stalls.now } in
     let i = c.loop-i.i in
-    let state = c.loop-i.state in
     let old = c.loop-i.progress in
     let written = g.K.Sink.written c.loop-i.out in
     let stalls = c.loop-i.stalls in
-    let here = place_at state old written stalls in
+    let here = place_at old written stalls in
     let next = c.at-next.result.now in
     let r = c.in-Some.refusal in
-    let q = place_at c.take_item.new.state c.take_item.new.progress (g.K.Sink.written c.take_item.new.out) c.take_item.new.stalls in
+    let q = place_at c.take_item.new.progress (g.K.Sink.written c.take_item.new.out) c.take_item.new.stalls in
     let told : LeadsPast c.loop-i.texts bounds last next here (Some r) q = subst (λ (o : Option Refusal). LeadsPast c.loop-i.texts bounds last next here o q) c.in-Some.is c.in_ok-refusal.ensures.ok in
     let past : LeadsPast names bounds last next here (Some r) q = subst (λ (ns : List (List ℕ)). LeadsPast ns bounds last next here (Some r) q) c.loop-i.invariant.texts told in
     let f = past course i c.at-next.ensures c.loop-i.invariant.stands in
@@ -109,55 +105,50 @@ returns-in-Some-clause-front g c =
 pub end_phase-requires-clause-room : goal.end_phase-requires-clause-room
 end_phase-requires-clause-room g c κs within =
     let names = c.args.texts.now in
-    let bounds = bounds_of c.args.limits.now in
-    let last = c.args.last_only in
-    let course : Course = record { first = c.args.state.now; book = c.args.book.now; written = g.K.Sink.written c.args.out.now; stalls = c.args.stalls.now } in
+    let bounds = bounds_of c.args.run.now.limits.now in
+    let last = c.args.run.now.last_only in
+    let course : Course = record { first = c.args.state; book = c.args.book.now; written = g.K.Sink.written c.args.out.now; stalls = c.args.stalls.now } in
     let i = c.loop-i.i in
-    let state = c.loop-i.state in
     let old = c.loop-i.progress in
     let written = g.K.Sink.written c.loop-i.out in
     let stalls = c.loop-i.stalls in
-    let here = place_at state old written stalls in
+    let here = place_at old written stalls in
     let few : i + 0 < 18446744073709551616 = search rules in
     room_fewer (length (jobs_of old.waiting) + 0) (length (jobs_of old.waiting)) old.counts (omega arith) (has_room_for names bounds last course i here c.loop-i.invariant.stands 0 few)
 
 pub returns-in_err-end_phase-clause-front : goal.returns-in_err-end_phase-clause-front
 returns-in_err-end_phase-clause-front g c =
     let names = c.args.texts.now in
-    let bounds = bounds_of c.args.limits.now in
-    let last = c.args.last_only in
-    let course : Course = record { first = c.args.state.now; book = c.args.book.now; written = g.K.Sink.written c.args.out.now; stalls = c.args.stalls.now } in
+    let bounds = bounds_of c.args.run.now.limits.now in
+    let last = c.args.run.now.last_only in
+    let course : Course = record { first = c.args.state; book = c.args.book.now; written = g.K.Sink.written c.args.out.now; stalls = c.args.stalls.now } in
     let i = c.loop-i.i in
-    let state = c.loop-i.state in
     let old = c.loop-i.progress in
     let written = g.K.Sink.written c.loop-i.out in
     let stalls = c.loop-i.stalls in
-    let here = place_at state old written stalls in
+    let here = place_at old written stalls in
     let now = g.K.Sink.written c.end_phase.new.out in
     let after = c.end_phase.new.stalls in
-    let w = c.world-world.result.now in
-    let ended : EndsPhaseByFront names bounds w last (jobs_of old.waiting) written stalls now after = subst (λ (ns : List (List ℕ)). EndsPhaseByFront ns bounds w last (jobs_of old.waiting) written stalls now after) c.loop-i.invariant.texts c.in_err-end_phase.ensures.front in
-    on_err c.from_residual-in_err-end_phase.result (phase_leads_front names bounds last state w c.world-world.ensures.world old written now stalls after ended course i c.loop-i.invariant.stands)
+    let ended : EndsPhaseByFront names bounds last old written stalls now after = subst (λ (ns : List (List ℕ)). EndsPhaseByFront ns bounds last old written stalls now after) c.loop-i.invariant.texts c.in_err-end_phase.ensures.front in
+    on_err c.from_residual-in_err-end_phase.result (phase_leads_front names bounds last old written now stalls after ended course i c.loop-i.invariant.stands)
 
 pub returns-clause-ok : goal.returns-clause-ok
 returns-clause-ok g c =
     let names = c.args.texts.now in
-    let bounds = bounds_of c.args.limits.now in
-    let last = c.args.last_only in
-    let course : Course = record { first = c.args.state.now; book = c.args.book.now; written = g.K.Sink.written c.args.out.now; stalls = c.args.stalls.now } in
+    let bounds = bounds_of c.args.run.now.limits.now in
+    let last = c.args.run.now.last_only in
+    let course : Course = record { first = c.args.state; book = c.args.book.now; written = g.K.Sink.written c.args.out.now; stalls = c.args.stalls.now } in
     let i = c.loop-i.i in
-    let state = c.loop-i.state in
     let old = c.loop-i.progress in
     let written = g.K.Sink.written c.loop-i.out in
     let stalls = c.loop-i.stalls in
-    let here = place_at state old written stalls in
+    let here = place_at old written stalls in
     let now = g.K.Sink.written c.end_phase.new.out in
     let after = c.end_phase.new.stalls in
-    let w = c.world-world.result.now in
     let new = c.end_phase.new.progress in
-    let ended : EndsPhase names bounds w last old written stalls new now after = subst (λ (ns : List (List ℕ)). EndsPhase ns bounds w last old written stalls new now after) c.loop-i.invariant.texts c.in_ok-end_phase.ensures.ok in
-    let q = place_at state new now after in
-    let s = phase_leads names bounds last state w c.world-world.ensures.world old written now stalls after new ended course i c.loop-i.invariant.stands in
+    let ended : EndsPhase names bounds last old written stalls new now after = subst (λ (ns : List (List ℕ)). EndsPhase ns bounds last old written stalls new now after) c.loop-i.invariant.texts c.in_ok-end_phase.ensures.ok in
+    let q = place_at new now after in
+    let s = phase_leads names bounds last old written now stalls after new ended course i c.loop-i.invariant.stands in
     let r = refusal_of c.args.book.now.finish in
     let ends = ends_whole names bounds last course i q s (omega (arith, c.loop-i-test.false, c.len-i-end.ensures)) in
     when_ok c.close-2.result _ (WritesWalk names bounds course.first course.book last course.written _ course.stalls _) (rw c.refusal_of.ensures at c.close-2.ensures.ok) (rw c.refusal_of.ensures at c.close-2.ensures.status)
@@ -166,22 +157,20 @@ returns-clause-ok g c =
 pub returns-clause-front : goal.returns-clause-front
 returns-clause-front g c =
     let names = c.args.texts.now in
-    let bounds = bounds_of c.args.limits.now in
-    let last = c.args.last_only in
-    let course : Course = record { first = c.args.state.now; book = c.args.book.now; written = g.K.Sink.written c.args.out.now; stalls = c.args.stalls.now } in
+    let bounds = bounds_of c.args.run.now.limits.now in
+    let last = c.args.run.now.last_only in
+    let course : Course = record { first = c.args.state; book = c.args.book.now; written = g.K.Sink.written c.args.out.now; stalls = c.args.stalls.now } in
     let i = c.loop-i.i in
-    let state = c.loop-i.state in
     let old = c.loop-i.progress in
     let written = g.K.Sink.written c.loop-i.out in
     let stalls = c.loop-i.stalls in
-    let here = place_at state old written stalls in
+    let here = place_at old written stalls in
     let now = g.K.Sink.written c.end_phase.new.out in
     let after = c.end_phase.new.stalls in
-    let w = c.world-world.result.now in
     let new = c.end_phase.new.progress in
-    let ended : EndsPhase names bounds w last old written stalls new now after = subst (λ (ns : List (List ℕ)). EndsPhase ns bounds w last old written stalls new now after) c.loop-i.invariant.texts c.in_ok-end_phase.ensures.ok in
-    let q = place_at state new now after in
-    let s = phase_leads names bounds last state w c.world-world.ensures.world old written now stalls after new ended course i c.loop-i.invariant.stands in
+    let ended : EndsPhase names bounds last old written stalls new now after = subst (λ (ns : List (List ℕ)). EndsPhase ns bounds last old written stalls new now after) c.loop-i.invariant.texts c.in_ok-end_phase.ensures.ok in
+    let q = place_at new now after in
+    let s = phase_leads names bounds last old written now stalls after new ended course i c.loop-i.invariant.stands in
     let r = refusal_of c.args.book.now.finish in
     let ends = ends_whole names bounds last course i q s (omega (arith, c.loop-i-test.false, c.len-i-end.ensures)) in
     when_err c.close-2.result (rw c.refusal_of.ensures at c.close-2.ensures.front) (λ k. front_closing names bounds last course i q s ended.none r ends _ k)

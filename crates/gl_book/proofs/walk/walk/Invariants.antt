@@ -8,6 +8,6 @@ invariant-loop-i g l = record {
   faults : g.K.Sink.faults l.out ≡ g.K.Sink.faults l.fn.out;
   texts : l.texts ≡ l.fn.texts;
   stands :
-      Stands l.fn.texts (bounds_of l.limits) l.last_only (record { first = l.fn.state; book = l.book; written = g.K.Sink.written l.fn.out; stalls = l.fn.stalls }) l.i
-      (place_at l.state l.progress (g.K.Sink.written l.out) l.stalls);
+      Stands l.fn.texts (bounds_of l.run.limits.now) l.run.last_only (record { first = l.fn.state; book = l.book; written = g.K.Sink.written l.fn.out; stalls = l.fn.stalls }) l.i
+      (place_at l.progress (g.K.Sink.written l.out) l.stalls);
 }
