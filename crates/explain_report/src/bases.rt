@@ -33,3 +33,23 @@ pub(crate) fn put_bases(alloc: Global, report: &mut Report, object: &[u8]) -> Re
         }
     }
 }
+
+/// An object; of an integer behind it hexadecimal and binary digits, of the latter at least so many.
+pub fn put_in_bases(
+    alloc: Global,
+    report: &mut Report,
+    object: &[u8],
+    bits: usize,
+) -> Result<(), NoMemory> {
+    report.text(object)?;
+    let Some(integer) = integer_of(object) else {
+        return Ok(());
+    };
+    let sign = if integer < 0 { "-" } else { "" };
+    let size = integer.unsigned_abs();
+    let digits = format!(in alloc; "{size:b}")?;
+    let hexadecimal = format!(in alloc; " = #x{sign}{size:X} = #b{sign}")?;
+    report.say(hexadecimal.as_str())?;
+    report.times(bits.saturating_sub(digits.len()), b'0')?;
+    report.say(digits.as_str())
+}

@@ -45,7 +45,7 @@ fn put_number_of(report: &mut Report, name: &str, number: u32) -> Result<(), NoM
 }
 
 /// The variable of a line of an input, and its object.
-pub(crate) fn parts_of_input(line: &[u8]) -> (&[u8], &[u8]) {
+pub fn parts_of_input(line: &[u8]) -> (&[u8], &[u8]) {
     let text = behind(line, 2);
     for (i, byte) in text.iter().enumerate() {
         if *byte == b' ' {

@@ -17,8 +17,9 @@ mod report;
 mod shown;
 mod summary;
 
+pub use bases::put_in_bases;
 pub use html::put_page;
-pub use json::put_object;
+pub use json::{parts_of_input, put_object};
 pub use record::{Record, Verdict, behind_word, first_word, name_in};
 pub use report::Report;
 pub use shown::{PutEnd, Style, append_shown, put_line};
