@@ -1,8 +1,8 @@
 //! The codes of refusals, and what each means in words.
 
-use crate::replay::FormFault;
 use book_shelf::ShelfCode;
 use event_world::EventFault;
+use explain_findings::FormFault;
 use gl_book::Cause;
 use gl_translate::TermFault;
 use sexp_reader::ReadCode;

@@ -6,17 +6,19 @@ ghost use Rattle.book_shelf.specs.NumberedItems.{IsNumberedItem};
 
 use crate::blame::Judge;
 use crate::codes::Fault;
+use crate::earlier::put_earlier;
 use crate::manner::{Format, Outlet};
 use crate::refusal::{
     Refusal, explain_constant, explain_event_fault, explain_text_fault, put_words,
 };
-use crate::replay::{FormFault, Refused, first_refused};
 use crate::shown::{Kept, Shown};
 use crate::sources::{put_sources, text_of};
 use crate::spots::{Spot, Spots, spots_of};
 use crate::told::put_told;
-use book_shelf::{Finish, Library, LoadEnd, ShelfCode, load};
+use book_shelf::{Finish, Item, Library, LoadEnd, ShelfCode, load};
 use book_state::State;
+use event_world::EventFault;
+use explain_findings::{Asker, FormFault, Refused, Replay, put_finding};
 use explain_report::{PutEnd, Record, Report, Verdict};
 use gl_base::limits::Limits;
 use gl_base::shelf::Shelf;
@@ -85,18 +87,77 @@ fn run_shown<R: Threads + Sync + Clock, S: Shelf, K: Sink + Drop, E: Sink + Drop
     if status == Status::WriteFault || status == Status::NoMemory {
         return status;
     }
-    if status == Status::BookRefused {
-        let book = Book {
-            library,
-            spots: &spots,
-            limits,
-        };
-        let Ok(message) = refusal_of(rt, alloc, &book, texts, shelf) else {
-            return Status::NoMemory;
-        };
-        keep_refusal(&mut records, message);
+    let book = Book {
+        library,
+        spots: &spots,
+        limits,
+        tries: outlet.manner.tries,
+    };
+    match say_all(rt, alloc, &book, texts, shelf, &mut records) {
+        Ok(()) => tell(alloc, outlet, &spots, records, shelf, status),
+        Err(_) => Status::NoMemory,
     }
-    tell(alloc, outlet, &spots, records, shelf, status)
+}
+
+/// Whether something is to be said of a record.
+fn asks_for_a_look(records: &[Record]) -> bool {
+    for record in records {
+        if record.verdict().is_trouble() {
+            return true;
+        }
+    }
+    false
+}
+
+/// Says of each record what is to be said, with its events taken in once more.
+fn say_all<R: Threads + Sync + Clock, S: Shelf>(
+    rt: &R,
+    alloc: Global,
+    book: &Book,
+    texts: &mut Texts,
+    shelf: &mut S,
+    records: &mut [Record],
+) -> Result<(), NoMemory> {
+    if !asks_for_a_look(records) {
+        return Ok(());
+    }
+    let mut replay = Replay::new(alloc, texts)?;
+    for record in records {
+        let verdict = record.verdict();
+        if verdict == Verdict::Refused {
+            record.message = refusal_of(rt, alloc, book, &mut replay, texts, shelf)?;
+        } else if verdict.is_trouble() {
+            record.message = finding_of(rt, alloc, book, &mut replay, texts, record)?;
+        }
+    }
+    Ok(())
+}
+
+/// What is said of a record that asks for a look.
+fn finding_of<R: Threads + Sync + Clock>(
+    rt: &R,
+    alloc: Global,
+    book: &Book,
+    replay: &mut Replay,
+    texts: &mut Texts,
+    record: &Record,
+) -> Result<Vec<u8>, NoMemory> {
+    let mut report = Report::new(alloc);
+    let item = record.item as u64;
+    if item < book.library.items.len() {
+        if let Item::Form(form) = book.library.items.at(item) {
+            let _refused = replay.go_to(rt, alloc, book.library, book.limits, texts, item)?;
+            let asker = Asker {
+                rt,
+                alloc,
+                state: replay.state(),
+                limits: book.limits,
+                tries: book.tries,
+            };
+            put_finding(&asker, texts, &mut report, &form.tree, record)?;
+        }
+    }
+    Ok(report.into_bytes())
 }
 
 /// What is said of a book that is refused.
@@ -104,22 +165,13 @@ fn refusal_of<R: Threads + Sync, S: Shelf>(
     rt: &R,
     alloc: Global,
     book: &Book,
+    replay: &mut Replay,
     texts: &mut Texts,
     shelf: &mut S,
 ) -> Result<Vec<u8>, NoMemory> {
     let mut report = Report::new(alloc);
-    say_why(rt, alloc, book, texts, shelf, &mut report)?;
+    say_why(rt, alloc, book, replay, texts, shelf, &mut report)?;
     Ok(report.into_bytes())
-}
-
-/// Keeps what is said of a refusal with its line.
-fn keep_refusal(records: &mut [Record], message: Vec<u8>) {
-    for record in records {
-        if record.verdict() == Verdict::Refused {
-            record.message = message;
-            return;
-        }
-    }
 }
 
 /// Tells what is to be told behind a run. The status.
@@ -143,18 +195,20 @@ fn tell<S: Shelf, K: Sink + Drop, E: Sink + Drop>(
     }
 }
 
-/// A list of books, where its items stand, and the limits of its run.
+/// A list of books, where its items stand, the limits of its run, and whether what may decide an event is tried.
 #[derive(Clone, Copy)]
 struct Book<'a> {
     library: &'a Library,
     spots: &'a Spots,
     limits: &'a Limits,
+    tries: bool,
 }
 
-/// What is refused of a list of books.
+/// What is refused of a list of books: where, by which item, and why.
 #[derive(Clone, Copy)]
 struct Place {
     spot: Spot,
+    item: u64,
     fault: Fault,
 }
 
@@ -168,6 +222,7 @@ fn finish_of(finish: Finish, end: Spot) -> Option<Place> {
                 column,
                 ..end
             },
+            item: 0,
             fault: Fault::Shelf(code),
         }),
     }
@@ -178,26 +233,28 @@ fn place_of(spots: &Spots, refused: Refused) -> Option<Place> {
     let spot = spots.items.get(refused.item as usize)?;
     Some(Place {
         spot: *spot,
+        item: refused.item,
         fault: Fault::Form(refused.fault),
     })
 }
 
-/// Says why a list of books is refused, by taking it in once more.
+/// Says why a list of books is refused, by taking the rest of it in once more.
 fn say_why<R: Threads + Sync, S: Shelf>(
     rt: &R,
     alloc: Global,
     book: &Book,
+    replay: &mut Replay,
     texts: &mut Texts,
     shelf: &mut S,
     report: &mut Report,
 ) -> Result<(), NoMemory> {
-    let mut state = State::new(alloc, texts)?;
-    let place = match first_refused(rt, alloc, book.library, book.limits, &mut state, texts)? {
+    let end = book.library.items.len();
+    let place = match replay.go_to(rt, alloc, book.library, book.limits, texts, end)? {
         Some(refused) => place_of(book.spots, refused),
         None => finish_of(book.library.finish, book.spots.end()),
     };
     match place {
-        Some(place) => explain_place(alloc, report, book.spots, &place, &state, texts, shelf),
+        Some(place) => { explain_place(alloc, report, book, &place, replay.state(), texts, shelf) }
         None => Ok(()),
     }
 }
@@ -206,13 +263,13 @@ fn say_why<R: Threads + Sync, S: Shelf>(
 fn explain_place<S: Shelf>(
     alloc: Global,
     report: &mut Report,
-    spots: &Spots,
+    book: &Book,
     place: &Place,
     state: &State,
     texts: &mut Texts,
     shelf: &mut S,
 ) -> Result<(), NoMemory> {
-    let file = spots.file(place.spot);
+    let file = book.spots.file(place.spot);
     let Some(text) = text_of(alloc, shelf, file)? else {
         return explain_unread(report, file, place);
     };
@@ -235,7 +292,13 @@ fn explain_place<S: Shelf>(
                 memoized: state.memoized(),
                 fault,
             };
-            explain_event_fault(alloc, report, &refusal, &judge, texts)
+            explain_event_fault(alloc, report, &refusal, &judge, texts)?;
+            match fault {
+                EventFault::Redefined => {
+                    put_earlier(report, book.library, book.spots, texts, place.item)
+                }
+                _ => Ok(()),
+            }
         }
     }
 }

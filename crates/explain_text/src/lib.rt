@@ -1,33 +1,34 @@
 //! A book run, with each line of its transcript at its event's place, and what is refused explained in words.
 //!
 //! The verdicts are those of the run. What is said beside them is found by asking the same library once more: the events in
-//! front of a refused form are taken in again (`replay`), and the part of the form that is at fault is the one without which
-//! it is not refused for the same reason (`blame`). Places inside a form are told by the reader of books (`elements`).
+//! front of a refused form are taken in again, and the part of the form that is at fault is the one without which it is not
+//! refused for the same reason (`blame`). Places inside a form are told by the reader of books (`elements`).
 //!
 //! - what is shown: `shown`, a sink that puts places in front of lines, by `spots`, and names the event that is `running`;
 //!   `explain`, a run with its explanation; `told`, what is told behind a run, with `sources`;
-//! - what is said: `refusal`, by `codes`, `known` and `excerpt`, into a `report`;
-//! - where it stands: `span`, `elements`, `terms`, `blame`.
+//! - what is said: `refusal`, by `codes`, `known`, `missing`, `governing`, `earlier` and `excerpt`, into a `report`;
+//! - where it stands: `span`, `elements`, `terms`, `blame`, `items`.
 //!
 //! Tests: .ci/explain, through the built program.
 #![tactic(auto)]
 
-mod advice;
 mod blame;
 mod codes;
+mod earlier;
 mod elements;
 mod excerpt;
 mod explain;
+mod governing;
+mod items;
 mod known;
 mod manner;
+mod missing;
 mod refusal;
-mod replay;
 mod running;
 mod shown;
 mod sources;
 mod span;
 mod spots;
-mod stopwatch;
 mod terms;
 mod told;
 

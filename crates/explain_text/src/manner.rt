@@ -14,12 +14,14 @@ pub enum Format {
     Html,
 }
 
-/// How a run is told: the format, and of text whether it has colors, and whether seconds and a summary are told.
+/// How a run is told: the format; of text whether it has colors, and whether seconds and a summary are told; and whether what may
+/// decide an event that is undecided is tried.
 #[derive(Clone, Copy, Debug, PartialEq, Eq)]
 pub struct Manner {
     pub format: Format,
     pub colors: bool,
     pub seconds: bool,
+    pub tries: bool,
 }
 
 /// What ends a color.

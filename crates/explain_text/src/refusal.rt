@@ -4,11 +4,15 @@ use crate::blame::{Blamed, Judge, blame, odd_option};
 use crate::codes::{Fault, words_of};
 use crate::elements::{behind_forms, elements, form_alone, offset_of};
 use crate::excerpt::{put_excerpt, put_part, put_place};
+use crate::governing::put_call;
+use crate::items::{odd_binding, odd_case, odd_part, unbound};
 use crate::known::{instead_of_event, instead_of_term, nearest_function};
+use crate::missing::put_missing;
 use crate::span::{Span, cut, is_word, token, without_package};
-use crate::terms::head_of;
+use crate::terms::{head_of, terms_of_event};
 use book_shelf::ShelfCode;
 use event_world::EventFault;
+use explain_findings::bindings_of_text;
 use explain_report::Report;
 use gl_logic::{FnId, NoMemory, Texts, World};
 use gl_translate::TermFault;
@@ -161,6 +165,51 @@ fn element_of(alloc: Global, text: &[u8], list: Span, number: usize) -> Result<S
     }
 }
 
+/// The head of the term at fault.
+fn head_at_fault(
+    alloc: Global,
+    judge: &Judge,
+    texts: &mut Texts,
+    event: &[u8],
+) -> Result<Span, NoMemory> {
+    let Blamed { span, text } = blame(alloc, judge, texts, event)?;
+    element_of(alloc, &text, span, 0)
+}
+
+/// The term at fault.
+fn term_at_fault(
+    alloc: Global,
+    judge: &Judge,
+    texts: &mut Texts,
+    event: &[u8],
+) -> Result<Span, NoMemory> {
+    let Blamed { span, text } = blame(alloc, judge, texts, event)?;
+    form_alone(alloc, &text, span)
+}
+
+/// The part at fault of the form that is malformed.
+fn malformed_part(
+    alloc: Global,
+    judge: &Judge,
+    texts: &mut Texts,
+    event: &[u8],
+) -> Result<Span, NoMemory> {
+    let Blamed { span, text } = blame(alloc, judge, texts, event)?;
+    let form = form_alone(alloc, &text, span)?;
+    odd_part(alloc, judge, texts, &text, form)
+}
+
+/// The case at fault of a theorem by cases.
+fn case_at_fault(
+    alloc: Global,
+    judge: &Judge,
+    texts: &mut Texts,
+    event: &[u8],
+) -> Result<Span, NoMemory> {
+    let cases = bindings_of(alloc, event, b":param-bindings")?;
+    odd_case(alloc, judge, texts, event, cases)
+}
+
 /// The part at fault of an event, by its code.
 fn part_at_fault(
     alloc: Global,
@@ -176,17 +225,17 @@ fn part_at_fault(
         EventFault::UnknownEvent => element_of(alloc, event, whole, 0),
         EventFault::Redefined => element_of(alloc, event, whole, 1),
         EventFault::BadOption => odd_option(alloc, judge, texts, event),
-        EventFault::Term(TermFault::UnknownFunction) => {
-            let Blamed { span, text } = blame(alloc, judge, texts, event)?;
-            element_of(alloc, &text, span, 0)
-        }
+        EventFault::Term(TermFault::UnknownFunction) => head_at_fault(alloc, judge, texts, event),
         EventFault::Term(TermFault::TooDeep) | EventFault::BadEvent => Ok(whole),
+        EventFault::Term(TermFault::BadUse) => malformed_part(alloc, judge, texts, event),
         EventFault::Term(_) | EventFault::NotAdmitted(_) => {
-            let Blamed { span, text } = blame(alloc, judge, texts, event)?;
-            form_alone(alloc, &text, span)
+            term_at_fault(alloc, judge, texts, event)
         }
-        EventFault::BadBindings => bindings_of(alloc, event, b":g-bindings"),
-        EventFault::BadCases => bindings_of(alloc, event, b":param-bindings"),
+        EventFault::BadBindings => {
+            let bindings = theorem_bindings(alloc, texts, event)?;
+            odd_binding(alloc, texts, event, bindings)
+        }
+        EventFault::BadCases => case_at_fault(alloc, judge, texts, event),
         EventFault::Memory => Ok(whole),
     }
 }
@@ -294,6 +343,51 @@ fn count_taken(head: &[u8], world: &World, texts: &Texts) -> Option<u64> {
     None
 }
 
+/// The bindings of a theorem; of one by cases the cases, where its cover has bindings.
+fn theorem_bindings(alloc: Global, texts: &mut Texts, event: &[u8]) -> Result<Span, NoMemory> {
+    let parts = elements(
+        alloc,
+        event,
+        Span {
+            start: 0,
+            end: event.len(),
+        },
+    )?;
+    if !is_word(head_of(event, &parts), b"def-gl-param-thm") {
+        return bindings_of(alloc, event, b":g-bindings");
+    }
+    let cover = bindings_of(alloc, event, b":cov-bindings")?;
+    if bindings_of_text(alloc, texts, cut(event, cover))?.is_none() {
+        return Ok(cover);
+    }
+    bindings_of(alloc, event, b":param-bindings")
+}
+
+/// Puts the variable of a theorem that its bindings lack, where they are bindings.
+fn put_unbound(
+    alloc: Global,
+    report: &mut Report,
+    judge: &Judge,
+    texts: &mut Texts,
+    event: &[u8],
+) -> Result<(), NoMemory> {
+    let bindings = theorem_bindings(alloc, texts, event)?;
+    if bindings_of_text(alloc, texts, cut(event, bindings))?.is_none() {
+        return Ok(());
+    }
+    let whole = Span {
+        start: 0,
+        end: event.len(),
+    };
+    let terms = terms_of_event(alloc, event, whole)?;
+    if let Some(word) = unbound(alloc, judge, texts, event, bindings, &terms)? {
+        report.say("   = note: `")?;
+        report.text(cut(event, word))?;
+        report.say("` is a variable of the theorem and has no shape\n")?;
+    }
+    Ok(())
+}
+
 /// Puts the help that looks at the part at fault.
 fn put_help_of_part(
     alloc: Global,
@@ -312,6 +406,9 @@ fn put_help_of_part(
         EventFault::Term(TermFault::WrongCount) => {
             put_counts(alloc, report, event, part, judge.world, texts)
         }
+        EventFault::BadEvent => put_missing(alloc, report, event),
+        EventFault::NotAdmitted(_) => put_call(alloc, report, event, part),
+        EventFault::BadBindings => put_unbound(alloc, report, judge, texts, event),
         _ => Ok(()),
     }
 }

@@ -2,11 +2,10 @@
 
 ghost use Rattle.std.specs.Prelude.{◌≡◌, None};
 
-use crate::advice::{advice_of_line, put_advice};
 use crate::manner::{Format, Manner, Outlet, PLAIN};
 use crate::running::{put_running, wipe};
 use crate::spots::{Spot, Spots};
-use crate::stopwatch::Stopwatch;
+use explain_findings::Stopwatch;
 use explain_report::{PutEnd, Record, Report, Style, name_in, put_line};
 use gl_base::failed::Failed;
 use gl_base::sink::Sink;
@@ -167,15 +166,6 @@ fn put_seen(alloc: Global, record: &mut Record, spots: &Spots, seen: Seen) -> Re
     Ok(())
 }
 
-/// The message with which a record begins: what its line means, and what to try.
-fn first_message(alloc: Global, text: &[u8]) -> Result<Vec<u8>, NoMemory> {
-    let mut report = Report::new(alloc);
-    if let Some(advice) = advice_of_line(text) {
-        put_advice(&mut report, advice)?;
-    }
-    Ok(report.into_bytes())
-}
-
 /// What stands in front of a line: the place of its event.
 fn front_of(alloc: Global, manner: Manner, record: &Record) -> Result<Report, NoMemory> {
     let mut front = Report::new(alloc);
@@ -250,7 +240,6 @@ impl<'a, R: Clock, K: Sink + Drop, E: Sink + Drop> Shown<'a, R, K, E> {
         let mut record = Record::new(self.alloc, text.to_vec(self.alloc)?);
         record.micros = self.watch.lap();
         record.name = name_in(text).to_vec(self.alloc)?;
-        record.message = first_message(self.alloc, text)?;
         if let Some(seen) = self.seen_of(text) {
             put_seen(self.alloc, &mut record, &self.spots, seen)?;
         }

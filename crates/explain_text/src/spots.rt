@@ -1,7 +1,8 @@
 //! Where each event of a book stands, and how many lines of its transcript are its own.
 
 use book_shelf::{Item, Library, Mark};
-use gl_logic::{NoMemory, TextId, Texts, Tree, TreeKind};
+use explain_findings::{head_of, word_of};
+use gl_logic::{NoMemory, TextId, Texts, Tree};
 use sexp_reader::Form;
 use std::alloc::Global;
 
@@ -32,24 +33,8 @@ pub(crate) struct Spots {
     open: Vec<usize>,
 }
 
-/// The word that an object is.
-fn word_of<'a>(texts: &'a Texts, tree: &Tree) -> &'a [u8] {
-    match tree.kind() {
-        TreeKind::Symbol(name) => texts.text(name),
-        _ => &[],
-    }
-}
-
-/// The word with which a form begins.
-fn head_of<'a>(texts: &'a Texts, form: &Tree) -> &'a [u8] {
-    match form.elements() {
-        [.., head] => word_of(texts, head),
-        [] => &[],
-    }
-}
-
 /// The word behind the one with which a form begins.
-fn name_of<'a>(texts: &'a Texts, form: &Tree) -> &'a [u8] {
+pub(crate) fn name_of<'a>(texts: &'a Texts, form: &Tree) -> &'a [u8] {
     match form.elements() {
         [.., name, _] => word_of(texts, name),
         _ => &[],

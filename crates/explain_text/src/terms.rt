@@ -36,7 +36,7 @@ fn only_last(alloc: Global, spans: &[Span], first: usize) -> Result<Spans, NoMem
 }
 
 /// Whether a word is one of a list of words, which are parted by blanks.
-fn is_among(word: &[u8], words: &str) -> bool {
+pub(crate) fn is_among(word: &[u8], words: &str) -> bool {
     for other in words.split_whitespace() {
         if is_word(word, other.as_bytes()) {
             return true;

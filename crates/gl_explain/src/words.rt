@@ -71,6 +71,12 @@ fn with_manner<'a>(alloc: Global, command: Command<'a>) -> Result<Command<'a>, A
         "format",
         "What is written: text, json or html",
     )?;
+    let command = command.arg(
+        Arg::new(alloc, "try")
+            .long("try")
+            .help("Tries what may decide an event that is undecided")
+            .action(ArgAction::SetTrue),
+    )?;
     with_option(
         alloc,
         command,
@@ -148,5 +154,6 @@ pub(crate) fn manner_of(matches: &ArgMatches, is_terminal: bool) -> Option<Manne
         format,
         colors,
         seconds,
+        tries: matches.get_flag("try"),
     })
 }

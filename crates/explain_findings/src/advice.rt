@@ -108,7 +108,7 @@ pub(crate) fn advice_of_line(line: &[u8]) -> Option<Advice> {
         "REFUTED" => made(
             "refuted",
             "the input that is shown meets the hypothesis and makes the conclusion NIL",
-            "evaluate the parts of the conclusion on it by `(value-triple (let ((x ..)) ..))`; a hypothesis that is too weak looks the same as a bug",
+            "look for the first part that is not what you expect; a hypothesis that is too weak looks the same as a bug",
         ),
         "UNDECIDED" => advice_behind(rest),
         "VALUE" if rest.starts_with("undecided ") => advice_behind(rest),
@@ -116,18 +116,25 @@ pub(crate) fn advice_of_line(line: &[u8]) -> Option<Advice> {
         "ASSERT" if rest.starts_with("nil") => made(
             "assert",
             "the asserted value is NIL",
-            "evaluate its parts by `value-triple`",
+            "look for the first part that is not what you expect",
         ),
         _ => None,
     }
 }
 
-/// Puts an advice.
-pub(crate) fn put_advice(report: &mut Report, advice: Advice) -> Result<(), NoMemory> {
-    report.say(advice.word)?;
-    report.say(": ")?;
-    report.say(advice.meaning)?;
-    report.say("\n   = help: ")?;
-    report.say(advice.help)?;
-    report.say("\n")
+impl Advice {
+    /// Puts what is meant.
+    pub(crate) fn put_meaning(self, report: &mut Report) -> Result<(), NoMemory> {
+        report.say(self.word)?;
+        report.say(": ")?;
+        report.say(self.meaning)?;
+        report.say("\n")
+    }
+
+    /// Puts what to try.
+    pub(crate) fn put_help(self, report: &mut Report) -> Result<(), NoMemory> {
+        report.say("   = help: ")?;
+        report.say(self.help)?;
+        report.say("\n")
+    }
 }

@@ -1,7 +1,5 @@
-//! The events of a book taken in once more, without deciding a theorem, up to the place that is to be explained.
+//! The events of a book taken in once more, without deciding a theorem, up to a place that is to be explained.
 
-ghost use Rattle.gl_logic.specs.Names.{with_name};
-ghost use Rattle.std.specs.Prelude.{◌≡◌, []};
 ghost use Rattle.event_world.specs.Seen.{event_seen};
 ghost use Rattle.event_world.specs.Suits.{Suits};
 ghost use Rattle.book_state.specs.Answerable.{IsAnswerable};
@@ -18,7 +16,7 @@ use std::thread::Threads;
 
 /// Why a form is refused.
 #[derive(Clone, Copy, Debug, PartialEq, Eq)]
-pub(crate) enum FormFault {
+pub enum FormFault {
     /// It means no event.
     Event(EventFault),
     /// It is a constant without a value.
@@ -88,10 +86,9 @@ fn take_form<R: Threads + Sync>(
     limits: &Limits,
     state: &mut State,
     texts: &mut Texts,
-) -> Result<Option<FormFault>, NoMemory>
-    requires empty { with_name texts.old [] ≡ texts.old }
-    ensures texts { texts.new ≡ texts.old }
-{
+) -> Result<Option<FormFault>, NoMemory> {
+    let _empty = texts.id_of(b"")?;
+    texts.is_table();
     match state.event(alloc, &form.tree, texts) {
         Ok(event) => take_event(rt, alloc, form, event, limits, state),
         Err(fault) => match fault {
@@ -103,28 +100,53 @@ fn take_form<R: Threads + Sync>(
 
 /// The item that is refused, by its number, and why.
 #[derive(Clone, Copy, Debug, PartialEq, Eq)]
-pub(crate) struct Refused {
+pub struct Refused {
     pub item: u64,
     pub fault: FormFault,
 }
 
-/// Takes the items of a book in, up to the first that is refused.
-pub(crate) fn first_refused<R: Threads + Sync>(
-    rt: &R,
-    alloc: Global,
-    library: &Library,
-    limits: &Limits,
-    state: &mut State,
-    texts: &mut Texts,
-) -> Result<Option<Refused>, NoMemory>
-    requires empty { with_name texts.old [] ≡ texts.old }
-{
-    for item in 0..library.items.len() {
-        if let Item::Form(form) = library.items.at(item) {
-            if let Some(fault) = take_form(rt, alloc, form, limits, state, texts)? {
-                return Ok(Some(Refused { item, fault }));
-            }
-        }
+/// The state behind the first items of a list of books.
+#[derive(Drop)]
+pub struct Replay {
+    state: State,
+    next: u64,
+}
+
+impl Replay {
+    /// The state in front of the first item.
+    pub fn new(alloc: Global, texts: &mut Texts) -> Result<Replay, NoMemory> {
+        Ok(Replay {
+            state: State::new(alloc, texts)?,
+            next: 0,
+        })
     }
-    Ok(None)
+
+    /// The state so far.
+    pub fn state(&self) -> &State {
+        &self.state
+    }
+
+    /// Takes items in, up to the one of a number or the first that is refused.
+    pub fn go_to<R: Threads + Sync>(
+        &mut self,
+        rt: &R,
+        alloc: Global,
+        library: &Library,
+        limits: &Limits,
+        texts: &mut Texts,
+        end: u64,
+    ) -> Result<Option<Refused>, NoMemory> {
+        for item in self.next..end {
+            if item >= library.items.len() {
+                return Ok(None);
+            }
+            if let Item::Form(form) = library.items.at(item) {
+                if let Some(fault) = take_form(rt, alloc, form, limits, &mut self.state, texts)? {
+                    return Ok(Some(Refused { item, fault }));
+                }
+            }
+            self.next = item.saturating_add(1);
+        }
+        Ok(None)
+    }
 }

@@ -5,7 +5,7 @@ use std::time::Instant;
 
 /// A clock, and when it was read last; none where it could not be read.
 #[derive(Drop)]
-pub(crate) struct Stopwatch<'a, R: Clock> {
+pub struct Stopwatch<'a, R: Clock> {
     clock: &'a R,
     last: Option<Instant>,
 }
@@ -23,7 +23,7 @@ fn micros_since<R: Clock>(clock: &R, last: Instant) -> u64 {
 
 impl<'a, R: Clock> Stopwatch<'a, R> {
     /// Begins.
-    pub(crate) fn new(clock: &'a R) -> Stopwatch<'a, R> {
+    pub fn new(clock: &'a R) -> Stopwatch<'a, R> {
         Stopwatch {
             clock,
             last: Instant::now(clock).ok(),
@@ -31,7 +31,7 @@ impl<'a, R: Clock> Stopwatch<'a, R> {
     }
 
     /// Microseconds since it was asked last, or began.
-    pub(crate) fn lap(&mut self) -> u64 {
+    pub fn lap(&mut self) -> u64 {
         let micros = match self.last {
             Some(last) => micros_since(self.clock, last),
             None => 0,

@@ -1,0 +1,110 @@
+//! What comes of theorems that are asked.
+
+use crate::forms::printed;
+use gl_book::{Answer, CasesVerdict};
+use gl_decide::Verdict;
+use gl_logic::{NoMemory, Texts};
+use shape_spec::Inputs;
+use std::alloc::Global;
+
+/// What a theorem comes to.
+#[derive(Clone, Copy, Debug, PartialEq, Eq)]
+pub(crate) enum Outcome {
+    Proved,
+    Vacuous,
+    Refuted,
+    /// A value is there.
+    Valued,
+    Open,
+}
+
+/// What a theorem comes to, and the lines of the input that refutes it.
+#[derive(Drop)]
+pub(crate) struct Decision {
+    pub outcome: Outcome,
+    pub inputs: Vec<Vec<u8>>,
+}
+
+/// The lines of an input, as a transcript has them.
+fn lines_of(alloc: Global, texts: &Texts, inputs: &Inputs) -> Result<Vec<Vec<u8>>, NoMemory> {
+    let mut lines = Vec::new(alloc);
+    for i in 0..inputs.len() {
+        let (variable, object) = inputs.at(i);
+        let mut line = b"  ".to_vec(alloc)?;
+        line.extend_from_slice(texts.text(variable))?;
+        line.extend_from_slice(b" = ")?;
+        line.extend_from_slice(&printed(alloc, object, texts)?)?;
+        lines.push(line)?;
+    }
+    Ok(lines)
+}
+
+fn decided(alloc: Global, outcome: Outcome) -> Decision {
+    Decision {
+        outcome,
+        inputs: Vec::new(alloc),
+    }
+}
+
+fn refuted(alloc: Global, texts: &Texts, inputs: &Inputs) -> Result<Decision, NoMemory> {
+    Ok(Decision {
+        outcome: Outcome::Refuted,
+        inputs: lines_of(alloc, texts, inputs)?,
+    })
+}
+
+fn decision_of_verdict(
+    alloc: Global,
+    texts: &Texts,
+    verdict: &Verdict,
+) -> Result<Decision, NoMemory> {
+    match verdict {
+        Verdict::Proved => Ok(decided(alloc, Outcome::Proved)),
+        Verdict::Vacuous => Ok(decided(alloc, Outcome::Vacuous)),
+        Verdict::Refuted(inputs) => refuted(alloc, texts, inputs),
+        _ => Ok(decided(alloc, Outcome::Open)),
+    }
+}
+
+fn decision_of_cases(
+    alloc: Global,
+    texts: &Texts,
+    verdict: &CasesVerdict,
+) -> Result<Decision, NoMemory> {
+    match verdict {
+        CasesVerdict::Proved => Ok(decided(alloc, Outcome::Proved)),
+        CasesVerdict::Vacuous => Ok(decided(alloc, Outcome::Vacuous)),
+        CasesVerdict::Refuted(inputs) => refuted(alloc, texts, inputs),
+        _ => Ok(decided(alloc, Outcome::Open)),
+    }
+}
+
+fn truth(holds: bool) -> Outcome {
+    if holds {
+        Outcome::Proved
+    } else {
+        Outcome::Refuted
+    }
+}
+
+fn decision_of_answer(alloc: Global, texts: &Texts, answer: &Answer) -> Result<Decision, NoMemory> {
+    match answer {
+        Answer::Decided(verdict) => decision_of_verdict(alloc, texts, verdict),
+        Answer::ByCases(verdict) => decision_of_cases(alloc, texts, verdict),
+        Answer::Value(_) => Ok(decided(alloc, Outcome::Valued)),
+        Answer::Truth(holds) => Ok(decided(alloc, truth(*holds))),
+        _ => Ok(decided(alloc, Outcome::Open)),
+    }
+}
+
+/// What an answer comes to. An assert counts as proved or refuted.
+pub(crate) fn decision_of(
+    alloc: Global,
+    texts: &Texts,
+    answer: Option<Answer>,
+) -> Result<Decision, NoMemory> {
+    match answer {
+        Some(answer) => decision_of_answer(alloc, texts, &answer),
+        None => Ok(decided(alloc, Outcome::Open)),
+    }
+}

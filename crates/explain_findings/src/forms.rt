@@ -1,0 +1,164 @@
+//! Forms: their words, what stands behind their heads, and the options of an event.
+
+use gl_logic::{NoMemory, Texts, Tree, TreeKind};
+use sexp_print::print;
+use std::alloc::Global;
+
+/// How many parts of a form are looked into.
+const MOST_PARTS: usize = 4000;
+
+/// The word that an object is; empty where it is no symbol.
+pub fn word_of<'a>(texts: &'a Texts, tree: &Tree) -> &'a [u8] {
+    match tree.kind() {
+        TreeKind::Symbol(name) => texts.text(name),
+        _ => &[],
+    }
+}
+
+/// The word with which a form begins.
+pub fn head_of<'a>(texts: &'a Texts, form: &Tree) -> &'a [u8] {
+    match form.elements() {
+        [.., head] => word_of(texts, head),
+        [] => &[],
+    }
+}
+
+/// What stands behind the head of a form, from the last to the first.
+pub(crate) fn operands(form: &Tree) -> &[Tree] {
+    match form.elements() {
+        [rest @ .., _] => rest,
+        [] => &[],
+    }
+}
+
+/// An element of a form by its number, from 0 for the head.
+pub(crate) fn element(form: &Tree, number: usize) -> Option<&Tree> {
+    let all = form.elements();
+    if number < all.len() {
+        Some(&all[all.len() - 1 - number])
+    } else {
+        None
+    }
+}
+
+/// What stands behind a keyword of an event.
+pub(crate) fn option_of<'a>(texts: &Texts, form: &'a Tree, keyword: &[u8]) -> Option<&'a Tree> {
+    for number in 0..form.elements().len() {
+        if let Some(part) = element(form, number) {
+            if word_of(texts, part) == keyword {
+                return element(form, number.saturating_add(1));
+            }
+        }
+    }
+    None
+}
+
+/// Whether a word is one of a list of words, which are parted by blanks.
+pub(crate) fn is_among(word: &[u8], words: &str) -> bool {
+    for other in words.split_whitespace() {
+        if word == other.as_bytes() {
+            return true;
+        }
+    }
+    false
+}
+
+/// The bytes of an object.
+pub(crate) fn printed(alloc: Global, tree: &Tree, texts: &Texts) -> Result<Vec<u8>, NoMemory> {
+    let mut bytes = Vec::new(alloc);
+    print(alloc, tree, texts, &mut bytes)?;
+    Ok(bytes)
+}
+
+/// A part of a term, and how deep it stands in it.
+#[derive(Clone, Copy)]
+pub(crate) struct Part<'a> {
+    pub tree: &'a Tree,
+    pub depth: usize,
+}
+
+/// A term in front of the parts that calls of some functions have, down to a depth; without these calls themselves where they
+/// are only to be parted.
+fn parted<'a>(
+    alloc: Global,
+    texts: &Texts,
+    term: &'a Tree,
+    heads: &str,
+    deepest: usize,
+    keeps_calls: bool,
+) -> Result<Vec<Part<'a>>, NoMemory> {
+    let mut found = Vec::new(alloc);
+    let mut left = Vec::new(alloc);
+    left.push(Part {
+        tree: term,
+        depth: 0,
+    })?;
+    for _ in 0..MOST_PARTS {
+        let Some(part) = left.pop() else {
+            return Ok(found);
+        };
+        let is_parted = part.depth < deepest && is_among(head_of(texts, part.tree), heads);
+        if keeps_calls || !is_parted {
+            found.push(part)?;
+        }
+        if is_parted {
+            for operand in operands(part.tree) {
+                left.push(Part {
+                    tree: operand,
+                    depth: part.depth.saturating_add(1),
+                })?;
+            }
+        }
+    }
+    Ok(found)
+}
+
+/// The conjuncts of a hypothesis, in the order of the text.
+pub(crate) fn conjuncts<'a>(
+    alloc: Global,
+    texts: &Texts,
+    hyp: &'a Tree,
+) -> Result<Vec<Part<'a>>, NoMemory> {
+    parted(alloc, texts, hyp, "AND", MOST_PARTS, false)
+}
+
+/// A conclusion, and the sides and parts of what it says.
+pub(crate) fn claims<'a>(
+    alloc: Global,
+    texts: &Texts,
+    concl: &'a Tree,
+) -> Result<Vec<Part<'a>>, NoMemory> {
+    parted(
+        alloc,
+        texts,
+        concl,
+        "EQUAL = EQL EQ < <= > >= AND OR NOT IMPLIES IFF",
+        3,
+        true,
+    )
+}
+
+/// Whether a symbol stands in a term outside quotes.
+pub(crate) fn speaks_of(
+    alloc: Global,
+    texts: &Texts,
+    term: &Tree,
+    name: &[u8],
+) -> Result<bool, NoMemory> {
+    let mut left = Vec::new(alloc);
+    left.push(term)?;
+    for _ in 0..MOST_PARTS {
+        let Some(part) = left.pop() else {
+            return Ok(false);
+        };
+        if word_of(texts, part) == name {
+            return Ok(true);
+        }
+        if head_of(texts, part) != b"QUOTE".as_slice() {
+            for inner in part.elements() {
+                left.push(inner)?;
+            }
+        }
+    }
+    Ok(false)
+}

@@ -1,0 +1,255 @@
+//! The tests that govern a call in the text of a definition, its measure, and the row of the table of steps that is nearest.
+
+use crate::elements::{elements, form_alone};
+use crate::excerpt::put_part;
+use crate::span::{Span, is_word, token};
+use crate::terms::{head_of, is_among};
+use explain_report::Report;
+use gl_logic::NoMemory;
+use std::alloc::Global;
+
+/// How deep a call is looked for, and how many bytes of a test are shown.
+const MOST_DEEP: usize = 1000;
+
+const MOST_NAMED: usize = 60;
+
+/// The number of the element in which an offset stands.
+fn number_around(parts: &[Span], offset: usize) -> Option<usize> {
+    for (i, part) in parts.iter().enumerate() {
+        if part.start <= offset && offset < part.end {
+            return Some(i);
+        }
+    }
+    None
+}
+
+/// Puts a test, and whether it holds around the call.
+fn put_test(
+    alloc: Global,
+    report: &mut Report,
+    text: &[u8],
+    test: Span,
+    holds: bool,
+) -> Result<(), NoMemory> {
+    report.say("   = note: around it ")?;
+    put_part(report, text, form_alone(alloc, text, test)?, MOST_NAMED)?;
+    report.say(if holds { " holds\n" } else { " is false\n" })
+}
+
+/// Puts what the tests of the elements up to a number are around it.
+fn put_tests(
+    alloc: Global,
+    report: &mut Report,
+    text: &[u8],
+    parts: &[Span],
+    number: usize,
+    holds: bool,
+) -> Result<(), NoMemory> {
+    for (i, part) in parts.iter().enumerate() {
+        if 1 <= i && i < number {
+            put_test(alloc, report, text, *part, holds)?;
+        }
+    }
+    Ok(())
+}
+
+/// Puts what the tests of a `cond` are around a part of a clause.
+fn put_clauses(
+    alloc: Global,
+    report: &mut Report,
+    text: &[u8],
+    parts: &[Span],
+    number: usize,
+    offset: usize,
+) -> Result<(), NoMemory> {
+    for (i, part) in parts.iter().enumerate() {
+        let clause = elements(alloc, text, *part)?;
+        if let Some(test) = clause.first() {
+            if 1 <= i && i < number {
+                put_test(alloc, report, text, *test, false)?;
+            } else if i == number && test.end <= offset {
+                put_test(alloc, report, text, *test, true)?;
+            }
+        }
+    }
+    Ok(())
+}
+
+/// Puts what one form around a call tells of the tests there.
+fn put_around(
+    alloc: Global,
+    report: &mut Report,
+    text: &[u8],
+    parts: &[Span],
+    number: usize,
+    offset: usize,
+) -> Result<(), NoMemory> {
+    let head = head_of(text, parts);
+    if is_word(head, b"if") {
+        put_tests(alloc, report, text, parts, number.min(2), number == 2)
+    } else if is_word(head, b"and") {
+        put_tests(alloc, report, text, parts, number, true)
+    } else if is_word(head, b"or") {
+        put_tests(alloc, report, text, parts, number, false)
+    } else if is_word(head, b"cond") {
+        put_clauses(alloc, report, text, parts, number, offset)
+    } else {
+        Ok(())
+    }
+}
+
+/// Puts the tests that govern a call in an event, from the outside in.
+fn put_governing(
+    alloc: Global,
+    report: &mut Report,
+    event: &[u8],
+    call: Span,
+) -> Result<(), NoMemory> {
+    let mut around = Span {
+        start: 0,
+        end: event.len(),
+    };
+    for _ in 0..MOST_DEEP {
+        if call.start <= around.start {
+            return Ok(());
+        }
+        let parts = elements(alloc, event, around)?;
+        let Some(number) = number_around(&parts, call.start) else {
+            return Ok(());
+        };
+        put_around(alloc, report, event, &parts, number, call.start)?;
+        if let Some(part) = parts.get(number) {
+            around = *part;
+        }
+    }
+    Ok(())
+}
+
+/// The measure that a list of declarations states.
+fn measure_in(alloc: Global, text: &[u8], list: Span) -> Result<Option<Span>, NoMemory> {
+    for part in &elements(alloc, text, list)? {
+        let inner = elements(alloc, text, *part)?;
+        let mut is_next = false;
+        for word in &inner {
+            if is_next {
+                return Ok(Some(form_alone(alloc, text, *word)?));
+            }
+            is_next = is_word(token(text, *word), b":measure");
+        }
+    }
+    Ok(None)
+}
+
+/// Puts the measure of a definition.
+fn put_measure(
+    alloc: Global,
+    report: &mut Report,
+    text: &[u8],
+    parts: &[Span],
+) -> Result<(), NoMemory> {
+    for part in parts {
+        if is_word(head_of(text, &elements(alloc, text, *part)?), b"declare") {
+            if let Some(measure) = measure_in(alloc, text, *part)? {
+                report.say("   = note: the measure that is stated is ")?;
+                put_part(report, text, measure, MOST_NAMED)?;
+                return report.say("\n");
+            }
+        }
+    }
+    report.say("   = note: no measure is stated, so (acl2-count v) is tried of each formal v\n")
+}
+
+/// What the row of the table of steps says that is nearest to an argument, which begins so; none where there is no such row.
+fn row_of(head: &[u8], number: &[u8]) -> Option<&'static str> {
+    let is_negative = match number {
+        [b'-', _, ..] => true,
+        _ => false,
+    };
+    if is_among(head, "- 1-") || is_word(head, b"+") && is_negative {
+        Some(
+            "`(- v k)` is a step of `(nfix v)`, and with k = 1 of `(acl2-count v)`, where `(zp v)` is false, `(posp v)` holds, or `(integerp v)` and `(< 0 v)` do",
+        )
+    } else if is_among(head, "cdr car rest cddr cdddr") {
+        Some(
+            "`(cdr v)` is a step of `(acl2-count v)` and of `(len v)`, where `(consp v)` holds, or `(endp v)` or `(atom v)` is false; `(car v)` of the first alone",
+        )
+    } else if is_among(head, "floor ash") {
+        Some(
+            "`(floor v k)` with k >= 2 and `(ash v -k)` with k >= 1 are steps of `(acl2-count v)` and of `(nfix v)`, where `(zp v)` is false or `(posp v)` holds",
+        )
+    } else if is_among(head, "+ 1+") {
+        Some(
+            "`(+ v k)` is a step of `(nfix (- b v))`, with b a formal that stays, where `(zp (- b v))` is false, or `(< v b)`, `(natp v)` and `(natp b)` hold; state `(declare (xargs :measure (nfix (- b v))))`",
+        )
+    } else {
+        None
+    }
+}
+
+/// The row that is nearest to an argument.
+fn row_of_argument(
+    alloc: Global,
+    text: &[u8],
+    argument: Span,
+) -> Result<Option<&'static str>, NoMemory> {
+    let parts = elements(alloc, text, argument)?;
+    let number = match parts.last() {
+        Some(part) => token(text, *part),
+        None => b"",
+    };
+    let first = match parts.get(1) {
+        Some(part) => token(text, *part),
+        None => b"",
+    };
+    let is_first_negative = matches!(first, [b'-', _, ..]);
+    Ok(row_of(
+        head_of(text, &parts),
+        if is_first_negative { first } else { number },
+    ))
+}
+
+/// Puts the row of the table of steps that is nearest to a call.
+fn put_row(alloc: Global, report: &mut Report, text: &[u8], call: Span) -> Result<(), NoMemory> {
+    for (i, part) in elements(alloc, text, call)?.iter().enumerate() {
+        if 1 <= i {
+            if let Some(row) = row_of_argument(alloc, text, *part)? {
+                report.say("   = note: of ")?;
+                put_part(report, text, form_alone(alloc, text, *part)?, MOST_NAMED)?;
+                report.say(" the nearest row is: ")?;
+                report.say(row)?;
+                return report.say("\n");
+            }
+        }
+    }
+    report.say("   = note: no argument is made smaller as a row of the table has it\n")
+}
+
+/// The definition of an event in which an offset stands.
+fn definition_around(alloc: Global, event: &[u8], offset: usize) -> Result<Span, NoMemory> {
+    let whole = Span {
+        start: 0,
+        end: event.len(),
+    };
+    let parts = elements(alloc, event, whole)?;
+    if is_word(head_of(event, &parts), b"mutual-recursion") {
+        if let Some(number) = number_around(&parts, offset) {
+            if let Some(part) = parts.get(number) {
+                return Ok(*part);
+            }
+        }
+    }
+    Ok(whole)
+}
+
+/// Puts what a recursive call stands under: the measure, the tests that govern it, and the row that is nearest.
+pub(crate) fn put_call(
+    alloc: Global,
+    report: &mut Report,
+    event: &[u8],
+    call: Span,
+) -> Result<(), NoMemory> {
+    let definition = definition_around(alloc, event, call.start)?;
+    put_measure(alloc, report, event, &elements(alloc, event, definition)?)?;
+    put_governing(alloc, report, event, call)?;
+    put_row(alloc, report, event, call)
+}

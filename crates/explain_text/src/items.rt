@@ -1,0 +1,261 @@
+//! The item of a list that is at fault: of bindings, of cases, of the clauses of a form.
+
+use crate::blame::Judge;
+use crate::elements::{elements, form_alone};
+use crate::span::{Span, byte_at, cut, is_word, token};
+use crate::terms::head_of;
+use explain_findings::{bindings_of_text, is_bound};
+use explain_report::Report;
+use gl_logic::{NoMemory, Texts};
+use std::alloc::Global;
+
+/// How many items of a list are tried.
+const MOST_ITEMS: usize = 64;
+
+/// The elements from a number on.
+fn behind(alloc: Global, parts: &[Span], first: usize) -> Result<Vec<Span>, NoMemory> {
+    let mut found = Vec::new(alloc);
+    for (i, part) in parts.iter().enumerate() {
+        if first <= i {
+            found.push(*part)?;
+        }
+    }
+    Ok(found)
+}
+
+/// The elements of the list that stands behind a quote.
+fn quoted_elements(alloc: Global, text: &[u8], span: Span) -> Result<Vec<Span>, NoMemory> {
+    let first = byte_at(text, span.start);
+    if first == b'\'' || first == b'`' {
+        let list = Span {
+            start: span.start.saturating_add(1),
+            end: span.end,
+        };
+        return elements(alloc, text, list);
+    }
+    let parts = elements(alloc, text, span)?;
+    behind(alloc, &parts, 1)
+}
+
+/// A text with what stands between two offsets taken out.
+fn without(alloc: Global, text: &[u8], start: usize, end: usize) -> Result<Vec<u8>, NoMemory> {
+    let mut out = cut(
+        text,
+        Span {
+            start: 0,
+            end: start,
+        },
+    )
+    .to_vec(alloc)?;
+    out.extend_from_slice(cut(
+        text,
+        Span {
+            start: end,
+            end: text.len(),
+        },
+    ))?;
+    Ok(out)
+}
+
+/// A text without those of a list's items that stand behind one of them.
+fn up_to(alloc: Global, text: &[u8], items: &[Span], item: Span) -> Result<Vec<u8>, NoMemory> {
+    match items.last() {
+        Some(last) => without(alloc, text, item.end, last.end),
+        None => Ok(text.to_vec(alloc)?),
+    }
+}
+
+/// The first of some items such that an event keeps its fault with those behind it taken out; the whole where there is none.
+pub(crate) fn first_odd(
+    alloc: Global,
+    judge: &Judge,
+    texts: &mut Texts,
+    event: &[u8],
+    items: &[Span],
+    whole: Span,
+) -> Result<Span, NoMemory> {
+    for (i, item) in items.iter().enumerate() {
+        if i < MOST_ITEMS {
+            let tried = up_to(alloc, event, items, *item)?;
+            if judge.refuses(alloc, texts, &tried)? {
+                return form_alone(alloc, event, *item);
+            }
+        }
+    }
+    Ok(whole)
+}
+
+/// The case that is at fault among those behind a keyword.
+pub(crate) fn odd_case(
+    alloc: Global,
+    judge: &Judge,
+    texts: &mut Texts,
+    event: &[u8],
+    cases: Span,
+) -> Result<Span, NoMemory> {
+    let items = quoted_elements(alloc, event, cases)?;
+    first_odd(alloc, judge, texts, event, &items, cases)
+}
+
+/// The parts of a form that may be malformed by themselves: bindings, clauses, formals.
+fn parts_of(alloc: Global, text: &[u8], form: Span) -> Result<Vec<Span>, NoMemory> {
+    let parts = elements(alloc, text, form)?;
+    let head = head_of(text, &parts);
+    if is_word(head, b"cond") {
+        return behind(alloc, &parts, 1);
+    }
+    if is_word(head, b"case") {
+        return behind(alloc, &parts, 2);
+    }
+    let number = if is_word(head, b"defun") { 2 } else { 1 };
+    match parts.get(number) {
+        Some(list) => elements(alloc, text, *list),
+        None => Ok(Vec::new(alloc)),
+    }
+}
+
+/// The part of a malformed form that is at fault; the form where there is none.
+pub(crate) fn odd_part(
+    alloc: Global,
+    judge: &Judge,
+    texts: &mut Texts,
+    text: &[u8],
+    form: Span,
+) -> Result<Span, NoMemory> {
+    let items = parts_of(alloc, text, form)?;
+    first_odd(alloc, judge, texts, text, &items, form)
+}
+
+/// The first item of bindings such that those up to it are none; the bindings where there is none.
+pub(crate) fn odd_binding(
+    alloc: Global,
+    texts: &mut Texts,
+    event: &[u8],
+    bindings: Span,
+) -> Result<Span, NoMemory> {
+    let items = quoted_elements(alloc, event, bindings)?;
+    for (i, item) in items.iter().enumerate() {
+        if i < MOST_ITEMS {
+            let tried = up_to(alloc, event, &items, *item)?;
+            let taken = tried
+                .len()
+                .saturating_add(bindings.end)
+                .saturating_sub(event.len());
+            let part = cut(
+                &tried,
+                Span {
+                    start: bindings.start,
+                    end: taken,
+                },
+            );
+            if bindings_of_text(alloc, texts, part)?.is_none() {
+                return form_alone(alloc, event, *item);
+            }
+        }
+    }
+    Ok(bindings)
+}
+
+/// Whether a word may be a variable.
+fn may_be_variable(word: &[u8]) -> bool {
+    let is_odd = match word {
+        [] => true,
+        [first, ..] => {
+            [b':', b'*', b'#', b'&', b'-', b'+', b'.'].contains(first)
+                || *first >= b'0' && *first <= b'9'
+        }
+    };
+    !is_odd && !is_word(word, b"t") && !is_word(word, b"nil")
+}
+
+/// Puts the words of a part of a text that may be variables, each once.
+fn add_words(text: &[u8], span: Span, words: &mut Vec<Span>) -> Result<(), NoMemory> {
+    let mut end = span.start;
+    for offset in span.start..span.end {
+        if end <= offset && words.len() < MOST_ITEMS {
+            let rest = Span {
+                start: offset,
+                end: span.end,
+            };
+            let word = token(text, rest);
+            end = offset.saturating_add(word.len()).saturating_add(1);
+            if may_be_variable(word) && !contains(text, words, word) {
+                words.push(Span {
+                    start: offset,
+                    end: offset.saturating_add(word.len()),
+                })?;
+            }
+        }
+    }
+    Ok(())
+}
+
+fn contains(text: &[u8], words: &[Span], word: &[u8]) -> bool {
+    for other in words {
+        if is_word(cut(text, *other), word) {
+            return true;
+        }
+    }
+    false
+}
+
+/// An event with all of some words bound but one, in the place of its bindings.
+fn all_bound_but(
+    alloc: Global,
+    event: &[u8],
+    bindings: Span,
+    words: &[Span],
+    number: usize,
+) -> Result<Vec<u8>, NoMemory> {
+    let mut text = Report::new(alloc);
+    text.text(cut(
+        event,
+        Span {
+            start: 0,
+            end: bindings.start,
+        },
+    ))?;
+    text.say("'(")?;
+    for (i, word) in words.iter().enumerate() {
+        if i != number {
+            text.say("(")?;
+            text.text(cut(event, *word))?;
+            text.say(" (:g-boolean . ")?;
+            text.number(i as u64)?;
+            text.say("))")?;
+        }
+    }
+    text.say(") ")?;
+    text.text(cut(
+        event,
+        Span {
+            start: bindings.end,
+            end: event.len(),
+        },
+    ))?;
+    Ok(text.into_bytes())
+}
+
+/// The first word of some terms that is a variable of them and not bound.
+pub(crate) fn unbound(
+    alloc: Global,
+    judge: &Judge,
+    texts: &mut Texts,
+    event: &[u8],
+    bindings: Span,
+    terms: &[Span],
+) -> Result<Option<Span>, NoMemory> {
+    let mut words = Vec::new(alloc);
+    for term in terms {
+        add_words(event, *term, &mut words)?;
+    }
+    for (i, word) in words.iter().enumerate() {
+        if !is_bound(alloc, texts, cut(event, bindings), cut(event, *word))? {
+            let tried = all_bound_but(alloc, event, bindings, &words, i)?;
+            if judge.refuses(alloc, texts, &tried)? {
+                return Ok(Some(*word));
+            }
+        }
+    }
+    Ok(None)
+}
