@@ -126,6 +126,7 @@ impl ClauseBook {
         ensures book { IsBook self.now }
         ensures follow { AllFollow self.now }
     {
+        // Read for what it tells of the entries: each follows from the first ones.
         let _first = self.first;
         self.entries.len() as u32
     }
@@ -135,6 +136,7 @@ impl ClauseBook {
         ensures first { result ≡ self.now.first }
         ensures within { result ≤ length self.now.entries }
     {
+        // Read for what it tells of the entries: the first ones are among them.
         let _count = self.entries.len();
         self.first
     }

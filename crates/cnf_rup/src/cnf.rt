@@ -130,6 +130,7 @@ pub fn cnf_of(alloc: Global, aig: &Aig, e: Edge) -> Result<ClauseBook, NoMemory>
     ensures variables { IfOk result (λ b. All (IsUpTo (length aig.now.nodes)) (clauses_of b.entries)) }
     ensures extends { IfOk result (λ b. IsTrueWhereSatisfied aig.now.nodes e (clauses_of b.entries)) }
 {
+    // Read for what they tell of the nodes: they are few, and in order.
     let _limit = aig.limit();
     let _width = aig.width();
     let root = aig.number_of(e);

@@ -145,6 +145,7 @@ pub fn trimmed(alloc: Global, book: ClauseBook) -> ClauseBook
     ensures book { IsBook result }
     ensures refutes { IsRefutation book → IsRefutation result }
 {
+    // Read for what it tells of the book, and below of the shorter one: each clause follows from the first ones.
     let _count = book.count();
     match tried(alloc, &book) {
         Ok(Some(shorter)) => {

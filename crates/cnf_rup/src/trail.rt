@@ -97,6 +97,7 @@ impl Trail {
         requires { IsWithin self.now.room literal }
         ensures { result ≡ is_among self.now.literals (neg_ℤ literal) }
     {
+        // Read for what it tells of the marks: there are two for each variable.
         let _marks = &self.marks;
         self.is_true(-literal)
     }

@@ -122,6 +122,7 @@ fn take_book(objs: &mut Sobs<AigSat>) -> Option<ClauseBook>
     ensures book { IfSome result IsRefutation }
 {
     let store = objs.store();
+    // Read for what it tells of the count of nodes, and below of the book: each clause follows from the first ones.
     let _count = store.count();
     let book = store.take_book();
     if let Some(book) = &book {

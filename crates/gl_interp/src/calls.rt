@@ -148,6 +148,7 @@ fn place_one<B: Bits>(
     requires constant { IsConstant B.Meaning objs.now x }
     ensures places { (a : ℕ → Bool) → PlacesOne (stands_for B.Meaning objs.now x a) machine.old machine.new result }
 {
+    // Read for what it tells of the machine's arena: no cell is there twice.
     let _held = machine.mark();
     match objs.to_arena(alloc, x, machine.arena_mut()) {
         Ok(id) => Ok(id),

@@ -56,6 +56,7 @@ impl Envs {
         ensures live { result.number < length self.now }
         ensures empty { get_or self.now result.number [] ≡ [] }
     {
+        // Read for what it tells of the environments: the first is empty.
         let _cells = &self.cells;
         EnvId { number: 0 }
     }

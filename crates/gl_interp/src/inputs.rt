@@ -35,6 +35,7 @@ pub fn symbolic_over<B: Bits>(
     ensures cause { IfErr result (HasInputCause B.Meaning objs.new b.now machine.old) }
     ensures rests { Rests machine.old machine.new }
 {
+    // Read for what it tells of the machine's arena: no cell is there twice.
     let _held = machine.mark();
     let mut found = Assignment::new(alloc, bit_count(b))?;
     let mut env = SymEnv::new(alloc);

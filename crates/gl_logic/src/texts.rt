@@ -87,6 +87,7 @@ impl Texts {
     pub fn is_table(&self)
         ensures { IsTable self.now }
     {
+        // Read for what it tells of the table: it begins with the first four, and no two are equal.
         let _names = &self.names;
     }
 }

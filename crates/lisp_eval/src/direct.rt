@@ -309,6 +309,7 @@ fn answered(
     requires answered { IsTrue (is_among (answered_in setting.now.world.now.definitions) f.number) }
     ensures { TellsIn setting.now scope.now (Call f.number (terms_of terms.now)) (left + 1) arena.old arena.new alists.new result }
 {
+    // Read for what it tells of the world: its definitions are cliques of admissible ones.
     let _count = setting.world.count();
     let given = arguments(setting, arena, alists, terms, scope, levels, left)?;
     match ids_of(arena, given) {

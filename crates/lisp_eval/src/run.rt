@@ -60,6 +60,7 @@ pub fn run<'a>(
     ensures grown { HasGrown arena.old.objects arena.new.objects }
     ensures limit { arena.new.limit ≡ arena.old.limit }
 {
+    // Read for what it tells of the world: every term of it has a value.
     let _count = world.count();
     let mut frames = Vec::new(alloc);
     let mut focus = Focus::Visit(term, env);

@@ -38,6 +38,7 @@ pub fn answer(
         id_at(args, 1),
         id_at(args, 2),
     );
+    // Read for what it tells of the arena: no cell is there twice.
     let _count = arena.count();
     answer
 }

@@ -90,6 +90,7 @@ impl Clauses {
     pub(crate) fn len(&self) -> usize
         ensures { result ≡ length self.now.lists }
     {
+        // Read for what it tells of the places: there is one at least.
         let _literals = &self.literals;
         self.places.len() - 1
     }

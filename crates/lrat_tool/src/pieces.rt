@@ -172,6 +172,7 @@ fn answers<R: Threads + Sync>(
         requires { (piece.end ≤ length log.now.clauses.lists) × AreChecked room formula.now log.now }
         ensures { IsFoundOf (log_seen formula.entry.now log.entry.now) piece result }
     { check_piece(alloc, formula, log, room, piece) };
+    // Read for what it tells of the pieces: they end within the log.
     let _end = end;
     thread::map_vec(rt, pieces, &each)
 }

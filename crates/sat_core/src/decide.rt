@@ -21,6 +21,7 @@ fn is_refuted(book: &ClauseBook) -> bool
     ensures book { IsBook book.now }
     ensures follow { AllFollow book.now }
 {
+    // Read for what it tells of the book: each clause follows from the first ones.
     let _count = book.count();
     book.empty_shown()
 }
@@ -68,6 +69,7 @@ fn begin(alloc: Global, aig: &Aig, e: Edge) -> Result<ClauseBook, NoMemory>
     requires { IsLive aig.now e }
     ensures { IfOk result (λ b. IsBookOf aig.now.nodes e b 0) }
 {
+    // Read for what they tell of the count of nodes: it is within the limit, which is small.
     let _within = aig.count();
     let _small = aig.limit();
     let book = cnf_of(alloc, aig, e)?;

@@ -118,6 +118,7 @@ pub fn mask<B: Bits>(store: &B, edge: Edge) -> Bitvec
     ensures value { (x : ℕ → Bool) → integer_under B.Meaning store.now result x ≡ sign_value (B.truth_of store.now edge x) }
     ensures width { length result ≡ 1 }
 {
+    // Read for its meaning, by which the bit stands for an integer.
     let _store = store;
     Bitvec::of(&[edge])
 }

@@ -36,6 +36,7 @@ impl<B: Bits> Sobs<B> {
         requires constant { IsConstant B.Meaning self.now s }
         ensures places { (a : ℕ → Bool) → Places arena.old arena.new (stands_for B.Meaning self.now s a) result }
     {
+        // Read for what it tells of the arena: no cell is there twice.
         let _count = arena.count();
         let mut memo = Memo::new(alloc);
         let mut frames = Stack::new(alloc);

@@ -162,6 +162,7 @@ fn give<B: Bits>(
     ensures memo { IfOk result (λ f. AreRight id_of (IsConstantOf B.Meaning objs.new arena.now.objects) memo.new) }
     ensures full { IsErrOf result fault.Full → length objs.new.nodes ≡ objs.new.limit }
 {
+    // Read for what it tells of the arena: no cell is there twice.
     let _count = arena.count();
     match frame.found {
         None => {

@@ -89,6 +89,7 @@ impl Table {
         requires { number < length self.now.nodes }
         ensures { slice_get self.now.nodes number ≡ Some result }
     {
+        // Read for what it tells of the nodes: each has its mark.
         let _limit = self.limit;
         self.nodes[number as usize]
     }
@@ -98,6 +99,7 @@ impl Table {
         requires { number < length self.now.nodes }
         ensures { slice_get self.now.marks number ≡ Some result }
     {
+        // Read for what it tells of the nodes: each has its mark.
         let _limit = self.limit;
         self.marks[number as usize]
     }

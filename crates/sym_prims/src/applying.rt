@@ -148,6 +148,7 @@ fn work_out<B: Bits>(
     ensures step { IfOk result (λ f. Steps B.Meaning prim objs.old objs.new frames.old frames.new (focus.Apply task) f) }
     ensures cause { IfErr result (λ f. HasCause B.Meaning objs.new task.path (λ a. IsTooWide (value_of B.Meaning objs.old prim task a)) f) }
 {
+    // Read for the frames' values: they stay as they are.
     let _frames = frames;
     Ok(Focus::Give(simple(alloc, objs, prim, task)?))
 }
@@ -270,6 +271,7 @@ fn give<B: Bits>(
     ensures memo { IfOk result (λ f. IsMemo B.Meaning objs.new prim memo.new) }
     ensures cause { IfErr result (λ f. (e : _) → HasCause B.Meaning objs.new e (λ a. ⊥) f) }
 {
+    // Read for the primitive by which the frame's value is right.
     let _prim = prim;
     match frame {
         Frame::Second(joining, task) => {
