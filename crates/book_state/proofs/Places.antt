@@ -28,7 +28,7 @@ use Rattle.event_world.specs.DefunMeant.{defun_parts, formals_meant, body_meant,
 use Rattle.event_world.specs.CliqueMeant.{clique_parts, all_stated, are_new, all_made, owns_of, members_meant, with_settled, clique_admitted, clique_judged, clique_made, clique_meant}
 use Rattle.admission.specs.Refused.{first_refused}
 use Rattle.event_world.specs.TheoremMeant.{theorem_parts, clocks_meant, claim_meant, hyp_meant, bound_meant, theorem_made, theorem_meant}
-use Rattle.gl_cases.specs.TheoremSeen.{set_by}
+use Rattle.shape_spec.specs.TheoremSeen.{set_by}
 use Rattle.gl_cases.specs.ParamMade.{param_set}
 use Rattle.event_world.specs.KeywordTexts.{case_texts, option_texts}
 use Rattle.event_world.specs.CasesMeant.{cases_parts, quoted_cases, cases_claimed, param_meant}

@@ -1,8 +1,9 @@
 -- States of a book, and what the next form means in one.
-use Rattle.std.specs.Prelude.{◌≡◌, ℕ, zero, suc, Bool, true, false, List, [], refl}
+use Rattle.std.specs.Prelude.{◌≡◌, ℕ, Bool, true, false, List, [], refl}
 use Rattle.std.specs.Coded.{Coded, code_by, coded×, coded_ℕ, coded_list}
 use Rattle.gl_logic.specs.Object.{Object, nil}
 use Rattle.gl_logic.specs.WorldSeen.{WorldSeen, IsWorld, coded_world}
+use Rattle.shape_spec.specs.TheoremSeen.{coded_mode}
 use Rattle.shape_spec.specs.declared.theorem.Mode.{Mode}
 use Rattle.shape_spec.specs.declared.theorem.Mode.TheVariants as mode
 use Rattle.event_world.specs.EventSeen.{EventSeen, Value, Assert, Theorem, Cases}
@@ -42,21 +43,6 @@ abbrev pub state_noted : BookState → Object → EventSeen → BookState
 state_noted s form e = next_state s form e nil
 
 -- ---- how a ghost value keeps a state
-abbrev pub mode_code : Mode → ℕ
-mode_code mode.Bdd = 0
-mode_code mode.Sat = 1
-mode_code mode.Param = 2
-
-abbrev pub mode_from : ℕ → Mode
-mode_from zero = mode.Bdd
-mode_from (suc zero) = mode.Sat
-mode_from _ = mode.Param
-
-abbrev pub mode_back : (m : Mode) → mode_from (mode_code m) ≡ m
-mode_back mode.Bdd = refl
-mode_back mode.Sat = refl
-mode_back mode.Param = refl
-
 abbrev pub coded_state : Coded BookState
 coded_state =
-    code_by (WorldSeen × (ℕ × List ℕ)) (coded× coded_world (coded× coded_ℕ (coded_list coded_ℕ))) (λ s. (s.world, (mode_code s.mode, s.memoized))) (λ p. record { world = p.0; mode = mode_from p.1.0; memoized = p.1.1 }) (λ s. λ i. record { world = s.world; mode = mode_back s.mode i; memoized = s.memoized })
+    code_by (WorldSeen × (Mode × List ℕ)) (coded× coded_world (coded× coded_mode (coded_list coded_ℕ))) (λ s. (s.world, (s.mode, s.memoized))) (λ p. record { world = p.0; mode = p.1.0; memoized = p.1.1 }) (λ _. refl)

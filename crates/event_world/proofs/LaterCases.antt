@@ -9,7 +9,7 @@ use Rattle.gl_logic.specs.WorldSeen.{WorldSeen}
 use Rattle.gl_logic.specs.Wording.{elements, all_meant}
 use Rattle.shape_spec.specs.BindingsMeant.{is_backquote}
 use Rattle.shape_spec.specs.declared.theorem.Mode.{Mode}
-use Rattle.gl_cases.specs.TheoremSeen.{plain_theorem}
+use Rattle.shape_spec.specs.TheoremSeen.{plain_theorem}
 use Rattle.gl_cases.specs.Parts.{ParamSeen, parts_made}
 use Rattle.gl_cases.specs.ParamMade.{param_set}
 use Rattle.event_world.specs.declared.fault.EventFault.TheVariants as code

@@ -16,7 +16,7 @@ use Rattle.shape_spec.specs.Indices.{variables_of}
 use Rattle.gl_logic.specs.Wording.{both, elements, all_meant}
 use Rattle.shape_spec.specs.BindingsMeant.{bindings_meant}
 use Rattle.shape_spec.specs.declared.theorem.Mode.{Mode}
-use Rattle.gl_cases.specs.TheoremSeen.{TheoremSeen, plain_theorem, set_by}
+use Rattle.shape_spec.specs.TheoremSeen.{TheoremSeen, plain_theorem, set_by}
 use Rattle.gl_cases.specs.Constants.{constant_in}
 use Rattle.gl_cases.specs.Parts.{CaseSeen, ParamSeen, cover_made, case_made, parts_made}
 use Rattle.gl_cases.specs.ParamMade.{param_set}

@@ -10,7 +10,7 @@ use Rattle.gl_logic.specs.Wording.{spells, elements, all_meant}
 use Rattle.shape_spec.specs.BindingsMeant.{bindings_meant, is_backquote}
 use Rattle.gl_logic.specs.NameSets.{are_different}
 use Rattle.shape_spec.specs.declared.theorem.Mode.{Mode}
-use Rattle.gl_cases.specs.TheoremSeen.{TheoremSeen, plain_theorem}
+use Rattle.shape_spec.specs.TheoremSeen.{TheoremSeen, plain_theorem}
 use Rattle.gl_cases.specs.Parts.{CaseSeen, ParamSeen, parts_made}
 use Rattle.gl_cases.specs.ParamMade.{param_set}
 use Rattle.event_world.specs.declared.fault.EventFault.TheVariants as code

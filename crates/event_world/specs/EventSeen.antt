@@ -4,7 +4,7 @@ use Rattle.gl_logic.specs.Exp.{Exp}
 use Rattle.gl_logic.specs.Definition.{Definition}
 use Rattle.shape_spec.specs.declared.theorem.Mode.{Mode}
 use Rattle.gl_cases.specs.Parts.{ParamSeen}
-pub use Rattle.gl_cases.specs.TheoremSeen.{TheoremSeen}
+pub use Rattle.shape_spec.specs.TheoremSeen.{TheoremSeen}
 
 -- names, definitions and functions by their numbers
 pub data EventSeen : Type 0 where

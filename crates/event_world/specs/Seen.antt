@@ -1,7 +1,7 @@
 -- The event that a value of the program stands for.
 use Rattle.gl_logic.specs.TermOf.{term_of}
 use Rattle.gl_logic.specs.DefinitionOf.{definition_of}
-pub use Rattle.gl_cases.specs.TheoremSeen.{theorem_seen}
+pub use Rattle.shape_spec.specs.TheoremSeen.{theorem_seen}
 use Rattle.gl_cases.specs.ParamMade.{param_seen}
 use Rattle.event_world.specs.declared.event.Event.{Event}
 use Rattle.event_world.specs.declared.event.Event.TheVariants as event

@@ -6,7 +6,7 @@ ghost use Rattle.gl_logic.specs.Object.{Cons, nil};
 ghost use Rattle.gl_logic.specs.Names.{with_name};
 ghost use Rattle.gl_logic.specs.Wording.{all_meant};
 ghost use Rattle.shape_spec.specs.BindingsMeant.{bindings_meant};
-ghost use Rattle.gl_cases.specs.TheoremSeen.{theorem_seen};
+ghost use Rattle.shape_spec.specs.TheoremSeen.{theorem_seen};
 ghost use Rattle.gl_cases.specs.Parts.{case_seen};
 ghost use Rattle.gl_cases.specs.ParamMade.{param_seen};
 ghost use Rattle.event_world.specs.Outcomes.{Gives};

@@ -14,7 +14,6 @@ use Rattle.gl_decide.specs.Verdicts.{IsProperVerdict}
 use Rattle.gl_decide.specs.Certificates.{IsCertificate, IsOpen, unscanned}
 use Rattle.gl_decide.specs.declared.verdict.Verdict.{Verdict}
 use Rattle.gl_decide.specs.declared.verdict.Verdict.TheVariants as verdict
-use Rattle.gl_book.specs.Cases.{decided_theorem}
 use Rattle.gl_book.specs.Entry.{verdict_stalls}
 use Rattle.gl_book.specs.Lines.{verdict_lines}
 use Rattle.gl_book.specs.Lasts.{HasNone, IsLastOf}
@@ -56,11 +55,11 @@ pub data TellsProof (bounds : Bounds) (part : ProofPart) (bytes : List ℕ) : Li
   -- none is due
   none_due : IsNotDue bounds bytes → TellsProof bounds part bytes (no_proof_line ∷ []) [] status.Undecided
   -- the text of that part, of a book that shows the theorem
-  shown : (names : List (List ℕ)) (w : WorldSeen) (thm : TheoremSeen) (b : BookSeen) → IsDue names bounds bytes w thm → IsCertificate w (decided_theorem thm) b
+  shown : (names : List (List ℕ)) (w : WorldSeen) (thm : TheoremSeen) (b : BookSeen) → IsDue names bounds bytes w thm → IsCertificate w thm b
       → TellsProof bounds part bytes (part_text part b ∷ []) [] status.Good
   -- or what the theorem comes to where no inputs are tried, neither proved nor vacuous
   left_open : (names : List (List ℕ)) (w : WorldSeen) (thm : TheoremSeen) (v : Verdict) → IsDue names bounds bytes w thm
-      → IsProperVerdict w (unscanned bounds) (decided_theorem thm) v → IsOpen v → TellsProof bounds part bytes (verdict_lines names thm.name v) (verdict_stalls v) (open_status v)
+      → IsProperVerdict w (unscanned bounds) thm v → IsOpen v → TellsProof bounds part bytes (verdict_lines names thm.name v) (verdict_stalls v) (open_status v)
 
 -- ---- what is written
 -- all that is told, with its stalls and its status; fronts of it where a write failed, and a front or nothing where memory was refused. No text is refused

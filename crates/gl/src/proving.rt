@@ -6,7 +6,7 @@ ghost use Rattle.event_world.specs.Seen.{theorem_seen};
 ghost use Rattle.cnf_rup.specs.Refutations.{IsRefutation};
 ghost use Rattle.gl_decide.specs.Bounds.{Bounds, bounds_of};
 ghost use Rattle.gl_decide.specs.Stalls.{StallSeen};
-ghost use Rattle.gl_decide.specs.TheoremOf.{theorem_of};
+ghost use Rattle.shape_spec.specs.TheoremSeen.{theorem_seen};
 ghost use Rattle.gl_decide.specs.Verdicts.{IsProperVerdict};
 ghost use Rattle.gl_decide.specs.Certificates.{IsCertificate, IsOpen, unscanned};
 ghost use Rattle.book_state.specs.Answerable.{IsReadyTheorem};
@@ -143,8 +143,8 @@ fn certified(
 ) -> Result<ClauseBook, Verdict>
     requires ready { IsReadyTheorem world.now.definitions (theorem_seen thm.now) }
     requires searched { IsSearched (theorem_seen thm.now) }
-    ensures book { IfOk result (IsCertificate world.now (theorem_of thm.now)) }
-    ensures proper { IfErr result (IsProperVerdict world.now (unscanned (bounds_of limits.now)) (theorem_of thm.now)) }
+    ensures book { IfOk result (IsCertificate world.now (theorem_seen thm.now)) }
+    ensures proper { IfErr result (IsProperVerdict world.now (unscanned (bounds_of limits.now)) (theorem_seen thm.now)) }
     ensures not_shown { IfErr result IsOpen }
 {
     let mut room = Room::Empty;

@@ -9,13 +9,13 @@ use Rattle.gl_logic.specs.Definition.{Definition}
 use Rattle.gl_logic.specs.Every.{Every}
 use Rattle.gl_logic.specs.WorldSeen.{WorldSeen}
 use Rattle.event_world.specs.EventSeen.{EventSeen, Nothing, Redundant, Defun, Defconst, Value, Assert, Memoize, Unmemoize, SetMode, Theorem, Cases, Clique, RedundantClique}
-use Rattle.gl_cases.specs.TheoremSeen.{TheoremSeen}
+use Rattle.shape_spec.specs.TheoremSeen.{TheoremSeen}
 use Rattle.gl_cases.specs.Parts.{ParamSeen}
 use Rattle.gl_decide.specs.Bounds.{Bounds}
 use Rattle.gl_decide.specs.Verdicts.{IsProperVerdict}
 use Rattle.gl_decide.specs.declared.verdict.Verdict.{Verdict}
 use Rattle.book_state.specs.Answerable.{IsAnswerable, IsReadyTheorem}
-use Rattle.gl_book.specs.Cases.{AreProperVerdicts, IsDecidedByCases, decided_theorem, settled_of, verdict_from}
+use Rattle.gl_book.specs.Cases.{AreProperVerdicts, IsDecidedByCases, settled_of, verdict_from}
 use Rattle.gl_book.specs.Phases.{JobSeen, new_job, CanBeAnswered, IsAnsweredBy, AreAnswered}
 use Rattle.book_state.specs.States.{is_job}
 use Rattle.gl_book.specs.Tasks.{parts_of, tasks_of, theorem_tasks, HasFewParts, TakesAnswer, TakesVerdict, TakesVerdicts}

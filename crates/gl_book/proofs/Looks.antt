@@ -7,13 +7,13 @@ use Rattle.event_world.specs.EventSeen.{TheoremSeen, EventSeen, Nothing, Redunda
 use Rattle.gl_decide.specs.Bounds.{Bounds}
 use Rattle.gl_decide.specs.Causes.{IsOutOfSteps, IsOutOfCells}
 use Rattle.gl_decide.specs.Stalls.{StallSeen, IsStallOf}
-use Rattle.gl_decide.specs.Theorem as decide
+use Rattle.shape_spec.specs.TheoremSeen.{TheoremSeen}
 use Rattle.gl_decide.specs.Verdicts.{IsProperVerdict}
 use Rattle.gl_decide.specs.declared.stall.StallCause.{StallCause}
 use Rattle.gl_decide.specs.declared.verdict.Verdict.{Verdict}
 use Rattle.gl_decide.specs.declared.verdict.Verdict.TheVariants as verdict
 use Rattle.gl_cases.specs.Parts.{ParamSeen}
-use Rattle.gl_book.specs.Cases.{AreProperVerdicts, IsDecidedByCases, decided_theorem}
+use Rattle.gl_book.specs.Cases.{AreProperVerdicts, IsDecidedByCases}
 use Rattle.gl_book.specs.Answers.{IsValue, HasCause, IsProperValue, IsProperTruth, IsDecided, IsSettled, IsFunctionNamed, IsProperAnswer}
 use Rattle.gl_book.specs.Phases.{JobSeen, AreAnswered}
 use Rattle.gl_book.specs.declared.answer.Cause.{Cause}
@@ -62,10 +62,10 @@ module _ (bounds : Bounds) (w : WorldSeen) (cliques : List ℕ) (events : List (
   truth_answer_looks memoized t (answer.ByCases v) h = absurd h
 
   -- ---- verdicts
-  stall_looks : (thm : decide.Theorem) (c : StallCause) (s : StallSeen) → IsStallOf w thm c s → IsStallOf later thm c s
+  stall_looks : (thm : TheoremSeen) (c : StallCause) (s : StallSeen) → IsStallOf w thm c s → IsStallOf later thm c s
   stall_looks thm c s h = record { cause = h.cause; theorem = h.theorem; definitions = h.definitions; constants = h.constants }
 
-  verdict_looks : (thm : decide.Theorem) (v : Verdict) → IsProperVerdict w bounds thm v → IsProperVerdict later bounds thm v
+  verdict_looks : (thm : TheoremSeen) (v : Verdict) → IsProperVerdict w bounds thm v → IsProperVerdict later bounds thm v
   verdict_looks thm verdict.Proved h = h
   verdict_looks thm verdict.Vacuous h = h
   verdict_looks thm (verdict.Refuted env) h = h
@@ -79,7 +79,7 @@ module _ (bounds : Bounds) (w : WorldSeen) (cliques : List ℕ) (events : List (
   verdict_looks thm verdict.Memory h = tt
 
   decided_looks : (thm : TheoremSeen) (a : Answer) → IsDecided bounds w thm a → IsDecided bounds later thm a
-  decided_looks thm (answer.Decided v) h = verdict_looks (decided_theorem thm) v h
+  decided_looks thm (answer.Decided v) h = verdict_looks thm v h
   decided_looks thm answer.Done h = absurd h
   decided_looks thm (answer.Function f) h = absurd h
   decided_looks thm (answer.Value x) h = absurd h
@@ -89,7 +89,7 @@ module _ (bounds : Bounds) (w : WorldSeen) (cliques : List ℕ) (events : List (
 
   verdicts_look : (thms : List TheoremSeen) (vs : List Verdict) → AreProperVerdicts bounds w thms vs → AreProperVerdicts bounds later thms vs
   verdicts_look [] [] h = tt
-  verdicts_look (thm ∷ thms) (v ∷ vs) h = (verdict_looks (decided_theorem thm) v h.0, verdicts_look thms vs h.1)
+  verdicts_look (thm ∷ thms) (v ∷ vs) h = (verdict_looks thm v h.0, verdicts_look thms vs h.1)
   verdicts_look [] (v ∷ vs) h = absurd h
   verdicts_look (thm ∷ thms) [] h = absurd h
 
@@ -97,7 +97,7 @@ module _ (bounds : Bounds) (w : WorldSeen) (cliques : List ℕ) (events : List (
   settled_looks thm (answer.ByCases v) h = record {
     cover = h.cover;
     cases = h.cases;
-    covered = verdict_looks (decided_theorem thm.cover) h.cover h.covered;
+    covered = verdict_looks thm.cover h.cover h.covered;
     each = verdicts_look thm.cases h.cases h.each;
     comes = h.comes;
     proper = h.proper;

@@ -4,7 +4,7 @@ use Rattle.std.specs.List.{position_from}
 use Rattle.std.proofs.Math.ListN.{get_or-map}
 use Rattle.std.proofs.lemmas.List.{length-map, length-take-le, take_all}
 use Rattle.gl_logic.specs.WorldSeen.{WorldSeen}
-use Rattle.gl_cases.specs.TheoremSeen.{TheoremSeen}
+use Rattle.shape_spec.specs.TheoremSeen.{TheoremSeen}
 use Rattle.gl_cases.specs.Parts.{ParamSeen, IsByCases}
 use Rattle.gl_cases.specs.Settles.{is_open, is_refuted, refuted_or, settled_by}
 use Rattle.gl_cases.specs.ProperCases.{IsProperOutcome, AreProperOutcomes, IsProperCases, input_shown}
@@ -17,7 +17,7 @@ use Rattle.gl_decide.specs.Bounds.{Bounds}
 use Rattle.gl_decide.specs.Verdicts.{IsProperVerdict}
 use Rattle.gl_decide.specs.declared.verdict.Verdict.{Verdict}
 use Rattle.gl_decide.specs.declared.verdict.Verdict.TheVariants as verdict
-use Rattle.gl_book.specs.Cases.{decided_theorem, outcome_of, outcomes_of, input_of, settled_of, verdict_from, input_told, AreProperVerdicts, IsDecidedByCases}
+use Rattle.gl_book.specs.Cases.{outcome_of, outcomes_of, input_of, settled_of, verdict_from, input_told, AreProperVerdicts, IsDecidedByCases}
 use Rattle.gl_book.specs.declared.cases.CasesVerdict.{CasesVerdict}
 use Rattle.gl_book.specs.declared.cases.CasesVerdict.TheVariants as whole
 use Rattle.gl_book.proofs.Phases.{take_next}
@@ -67,7 +67,7 @@ module _ (o : Outcome) (os : List Outcome) (vs : List Verdict) (are : os ≡ out
 
 -- ---- the whole
 module _ (bounds : Bounds) (w : WorldSeen) where
-  proper_outcome : (thm : TheoremSeen) (v : Verdict) → IsProperVerdict w bounds (decided_theorem thm) v → IsProperOutcome w.definitions thm (outcome_of v) (input_of v)
+  proper_outcome : (thm : TheoremSeen) (v : Verdict) → IsProperVerdict w bounds thm v → IsProperOutcome w.definitions thm (outcome_of v) (input_of v)
   proper_outcome thm verdict.Proved h = (h.1, (h.2.0, h.2.1.1))
   proper_outcome thm verdict.Vacuous h = h.1
   proper_outcome thm (verdict.Refuted env) h = (h.1.1, h.2)
@@ -95,7 +95,7 @@ module _ (bounds : Bounds) (w : WorldSeen) where
   told_input settled.Cover cover cases = refl
   told_input (settled.Case i) cover cases = refl
 
-  pub parts_decide : (thm : ParamSeen) (cover : Verdict) (cases : List Verdict) → IsByCases thm → IsProperVerdict w bounds (decided_theorem thm.cover) cover → AreProperVerdicts bounds w thm.cases cases
+  pub parts_decide : (thm : ParamSeen) (cover : Verdict) (cases : List Verdict) → IsByCases thm → IsProperVerdict w bounds thm.cover cover → AreProperVerdicts bounds w thm.cases cases
       → IsDecidedByCases bounds w thm (verdict_from (settled_of cover cases) cover cases)
   parts_decide thm cover cases parts covered each =
       let s = settled_of cover cases in
@@ -118,13 +118,13 @@ module _ (bounds : Bounds) (w : WorldSeen) where
   memory_decides thm parts = parts_decide thm verdict.Memory (map (λ c. verdict.Memory) thm.cases) parts tt (all_memory thm.cases)
 
   -- ---- one verdict more
-  verdicts_push : (thms : List TheoremSeen) (vs : List Verdict) (thm : TheoremSeen) (v : Verdict) → AreProperVerdicts bounds w thms vs → IsProperVerdict w bounds (decided_theorem thm) v → AreProperVerdicts bounds w (thms ++ thm ∷ []) (vs ++ v ∷ [])
+  verdicts_push : (thms : List TheoremSeen) (vs : List Verdict) (thm : TheoremSeen) (v : Verdict) → AreProperVerdicts bounds w thms vs → IsProperVerdict w bounds thm v → AreProperVerdicts bounds w (thms ++ thm ∷ []) (vs ++ v ∷ [])
   verdicts_push [] [] thm v h k = (k, tt)
   verdicts_push (t ∷ thms) (u ∷ vs) thm v h k = (h.0, verdicts_push thms vs thm v h.1 k)
   verdicts_push [] (u ∷ vs) thm v h k = absurd h
   verdicts_push (t ∷ thms) [] thm v h k = absurd h
 
-  pub verdicts_next : (thms : List TheoremSeen) (i : ℕ) (vs : List Verdict) (thm : TheoremSeen) (v : Verdict) → slice_get thms i ≡ Some thm → AreProperVerdicts bounds w (take i thms) vs → IsProperVerdict w bounds (decided_theorem thm) v
+  pub verdicts_next : (thms : List TheoremSeen) (i : ℕ) (vs : List Verdict) (thm : TheoremSeen) (v : Verdict) → slice_get thms i ≡ Some thm → AreProperVerdicts bounds w (take i thms) vs → IsProperVerdict w bounds thm v
       → AreProperVerdicts bounds w (take (i + 1) thms) (vs ++ v ∷ [])
   verdicts_next thms i vs thm v at h k = subst (λ ts. AreProperVerdicts bounds w ts (vs ++ v ∷ [])) (sym (take_next thms i thm at)) (verdicts_push (take i thms) vs thm v h k)
 
@@ -138,7 +138,7 @@ module _ (bounds : Bounds) (w : WorldSeen) where
   few_verdicts thms i vs within few h = let n = as_many_verdicts (take i thms) vs h in let m = length-take-le i thms within in omega (arith, n, m, within, few)
 
   -- the last one
-  pub all_decide : (thm : ParamSeen) (cover : Verdict) (cases : List Verdict) (i : ℕ) (v : CasesVerdict) → IsByCases thm → IsProperVerdict w bounds (decided_theorem thm.cover) cover → length thm.cases ≤ i → AreProperVerdicts bounds w (take i thm.cases) cases
+  pub all_decide : (thm : ParamSeen) (cover : Verdict) (cases : List Verdict) (i : ℕ) (v : CasesVerdict) → IsByCases thm → IsProperVerdict w bounds thm.cover cover → length thm.cases ≤ i → AreProperVerdicts bounds w (take i thm.cases) cases
       → v ≡ verdict_from (settled_of cover cases) cover cases → IsDecidedByCases bounds w thm v
   all_decide thm cover cases i v parts covered past each comes =
       subst (IsDecidedByCases bounds w thm) (sym comes) (parts_decide thm cover cases parts covered (subst (λ (ts : List TheoremSeen). AreProperVerdicts bounds w ts cases) (take_all i thm.cases past) each))

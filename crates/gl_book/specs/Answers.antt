@@ -16,7 +16,7 @@ use Rattle.gl_cases.specs.Parts.{ParamSeen, IsByCases}
 use Rattle.gl_decide.specs.Bounds.{Bounds}
 use Rattle.gl_decide.specs.Causes.{IsOutOfWidth, IsOutOfSteps, IsOutOfCells}
 use Rattle.gl_decide.specs.Verdicts.{IsProperVerdict}
-use Rattle.gl_book.specs.Cases.{IsDecidedByCases, decided_theorem}
+use Rattle.gl_book.specs.Cases.{IsDecidedByCases}
 use Rattle.gl_book.specs.declared.answer.Cause.{Cause}
 use Rattle.gl_book.specs.declared.answer.Cause.TheVariants as cause
 use Rattle.gl_book.specs.declared.answer.Answer.{Answer}
@@ -74,7 +74,7 @@ IsFunctionNamed w f _ = ⊥
 
 -- of a theorem
 abbrev pub IsDecided : Bounds → WorldSeen → TheoremSeen → Answer → Type 0
-IsDecided bounds w thm (answer.Decided v) = IsProperVerdict w bounds (decided_theorem thm) v
+IsDecided bounds w thm (answer.Decided v) = IsProperVerdict w bounds thm v
 IsDecided bounds w thm _ = ⊥
 
 -- of a theorem by cases

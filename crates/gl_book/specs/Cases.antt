@@ -2,7 +2,7 @@
 use Rattle.std.specs.Prelude.{◌≡◌, ℕ, ◌-◌, List, [], ◌∷◌, map, get_or}
 use Rattle.gl_logic.specs.Object.{Object}
 use Rattle.gl_logic.specs.WorldSeen.{WorldSeen}
-use Rattle.gl_cases.specs.TheoremSeen.{TheoremSeen}
+use Rattle.shape_spec.specs.TheoremSeen.{TheoremSeen}
 use Rattle.gl_cases.specs.Parts.{ParamSeen}
 use Rattle.gl_cases.specs.Settles.{settled_by}
 use Rattle.gl_cases.specs.ProperCases.{IsProperCases}
@@ -11,25 +11,11 @@ use Rattle.gl_cases.specs.declared.outcome.Outcome.TheVariants as outcome
 use Rattle.gl_cases.specs.declared.settling.Settled.{Settled}
 use Rattle.gl_cases.specs.declared.settling.Settled.TheVariants as settled
 use Rattle.gl_decide.specs.Bounds.{Bounds}
-use Rattle.gl_decide.specs.Theorem as decide
 use Rattle.gl_decide.specs.Verdicts.{IsProperVerdict}
 use Rattle.gl_decide.specs.declared.verdict.Verdict.{Verdict}
 use Rattle.gl_decide.specs.declared.verdict.Verdict.TheVariants as verdict
 use Rattle.gl_book.specs.declared.cases.CasesVerdict.{CasesVerdict}
 use Rattle.gl_book.specs.declared.cases.CasesVerdict.TheVariants as whole
-
--- a theorem as it is decided
-abbrev pub decided_theorem : TheoremSeen → decide.Theorem
-decided_theorem thm = record {
-  name = thm.name;
-  hyp = thm.hyp;
-  concl = thm.concl;
-  bindings = thm.bindings;
-  hyp_clk = thm.hyp_clk;
-  concl_clk = thm.concl_clk;
-  mode = thm.mode;
-  memoized = thm.memoized;
-}
 
 -- ---- parts
 -- what a part's verdict comes to
@@ -51,7 +37,7 @@ input_of _ = []
 -- not looked at since the others fix the answer
 abbrev pub AreProperVerdicts : Bounds → WorldSeen → List TheoremSeen → List Verdict → Type 0
 AreProperVerdicts bounds w [] [] = Unit {0}
-AreProperVerdicts bounds w (thm ∷ thms) (v ∷ vs) = IsProperVerdict w bounds (decided_theorem thm) v × AreProperVerdicts bounds w thms vs
+AreProperVerdicts bounds w (thm ∷ thms) (v ∷ vs) = IsProperVerdict w bounds thm v × AreProperVerdicts bounds w thms vs
 AreProperVerdicts bounds w _ _ = ⊥
 
 -- ---- the whole
@@ -82,7 +68,7 @@ input_told _ = []
 pub record IsDecidedByCases (bounds : Bounds) (w : WorldSeen) (thm : ParamSeen) (v : CasesVerdict) : Type 0 where
   pub cover : Verdict
   pub cases : List Verdict
-  pub covered : IsProperVerdict w bounds (decided_theorem thm.cover) cover
+  pub covered : IsProperVerdict w bounds thm.cover cover
   pub each : AreProperVerdicts bounds w thm.cases cases
   pub comes : v ≡ verdict_from (settled_of cover cases) cover cases
   pub proper : IsProperCases w.definitions thm (settled_of cover cases) (input_told v)

@@ -5,11 +5,11 @@ use Rattle.gl_logic.specs.WorldSeen.{WorldSeen}
 use Rattle.shape_spec.specs.declared.fn_set.FnSet.{FnSet}
 use Rattle.event_world.specs.EventSeen.{EventSeen, Theorem, Cases}
 use Rattle.event_world.specs.Seen.{event_seen}
-use Rattle.gl_cases.specs.TheoremSeen.{TheoremSeen, theorem_seen}
+use Rattle.shape_spec.specs.TheoremSeen.{TheoremSeen, theorem_seen}
 use Rattle.gl_decide.specs.Bounds.{Bounds}
 use Rattle.gl_decide.specs.Verdicts.{IsProperVerdict}
 use Rattle.gl_decide.specs.declared.verdict.Verdict.{Verdict}
-use Rattle.gl_book.specs.Cases.{AreProperVerdicts, decided_theorem}
+use Rattle.gl_book.specs.Cases.{AreProperVerdicts}
 use Rattle.gl_book.specs.Phases.{JobSeen, new_job, CanBeAnswered, IsAnsweredBy, AreAnswered}
 use Rattle.gl_book.specs.declared.answer.Answer.{Answer}
 use Rattle.gl_book.specs.declared.task.Task.{Task}
@@ -55,7 +55,7 @@ TakesAnswer j given a left =
 abbrev pub TakesVerdict : List Answer → Verdict → List Answer → Type 0
 TakesVerdict given v left =
     (bounds : Bounds) (w : WorldSeen) (thm : TheoremSeen) (memoized : List ℕ) (tasks : List JobSeen) → AreAnswered bounds w (new_job (Theorem thm) memoized ∷ tasks) given
-    → IsProperVerdict w bounds (decided_theorem thm) v × AreAnswered bounds w tasks left
+    → IsProperVerdict w bounds thm v × AreAnswered bounds w tasks left
 
 -- wherever the first answers are those to theorems, these are their verdicts
 abbrev pub TakesVerdicts : ℕ → List Answer → List Verdict → List Answer → Type 0

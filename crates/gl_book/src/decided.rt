@@ -1,11 +1,11 @@
 //! Verdicts on theorems, and on theorems by cases.
 
 ghost use Rattle.gl_cases.specs.ParamMade.{param_seen};
-ghost use Rattle.gl_cases.specs.TheoremSeen.{theorem_seen};
+ghost use Rattle.shape_spec.specs.TheoremSeen.{theorem_seen};
 ghost use Rattle.gl_decide.specs.Bounds.{bounds_of};
 ghost use Rattle.gl_decide.specs.Verdicts.{IsProperVerdict};
 ghost use Rattle.book_state.specs.Answerable.{IsReadyParam, IsReadyTheorem};
-ghost use Rattle.gl_book.specs.Cases.{IsDecidedByCases, decided_theorem};
+ghost use Rattle.gl_book.specs.Cases.{IsDecidedByCases};
 ghost use Rattle.std.specs.Prelude.{IfOk};
 
 use super::cases::{CasesVerdict, outcome, whole_of};
@@ -26,7 +26,7 @@ pub(crate) fn decided<R: Threads + Sync>(
     limits: &Limits,
 ) -> Verdict
     requires { IsReadyTheorem world.now.definitions (theorem_seen thm.now) }
-    ensures { IsProperVerdict world.now (bounds_of limits.now) (decided_theorem (theorem_seen thm.now)) result }
+    ensures { IsProperVerdict world.now (bounds_of limits.now) (theorem_seen thm.now) result }
 {
     let mut room = Room::Empty;
     decide_theorem(rt, alloc, world, thm, limits, &mut room)
@@ -83,7 +83,7 @@ fn decided_unless<R: Threads + Sync>(
     limits: &Limits,
 ) -> Verdict
     requires { IsReadyTheorem world.now.definitions (theorem_seen thm.now) }
-    ensures { IsProperVerdict world.now (bounds_of limits.now) (decided_theorem (theorem_seen thm.now)) result }
+    ensures { IsProperVerdict world.now (bounds_of limits.now) (theorem_seen thm.now) result }
 {
     if is_fixed {
         Verdict::Memory

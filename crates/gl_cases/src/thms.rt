@@ -1,7 +1,7 @@
 //! Theorems in order.
 
 ghost use Rattle.std.specs.Prelude.{◌≡◌, ◌<◌, [], ◌∷◌, ◌++◌, map, length, slice_get, Some, OnOk, OnErr, IfOk};
-ghost use Rattle.gl_cases.specs.TheoremSeen.{theorem_seen, set_by};
+ghost use Rattle.shape_spec.specs.TheoremSeen.{theorem_seen, set_by};
 
 use super::functions::copied_functions;
 use gl_logic::NoMemory;
@@ -18,7 +18,7 @@ pub struct Thms {
 impl Model for Thms {
     ghost use Rattle.std.specs.Prelude.{List, map};
     ghost use Rattle.std.specs.Coded.{coded_list};
-    ghost use Rattle.gl_cases.specs.TheoremSeen.{TheoremSeen, coded_theorem, theorem_seen};
+    ghost use Rattle.shape_spec.specs.TheoremSeen.{TheoremSeen, coded_theorem, theorem_seen};
 
     ghost Value = { List TheoremSeen };
 

@@ -8,7 +8,7 @@ use Rattle.gl_logic.proofs.Walks.{value_unique}
 use Rattle.shape_spec.specs.Theorems.{IsMet, Holds}
 use Rattle.coverage.specs.Covered.{first_uncovered}
 use Rattle.gl_decide.specs.Bounds.{Bounds}
-use Rattle.gl_decide.specs.Theorem.{Theorem}
+use Rattle.shape_spec.specs.TheoremSeen.{TheoremSeen}
 use Rattle.gl_decide.specs.Scans.{IsProperScan}
 use Rattle.gl_decide.specs.Verdicts.{IsCovered, IsLeastRefuting, IsProperVerdict}
 use Rattle.gl_decide.specs.Agreement.{Agree}
@@ -16,7 +16,7 @@ use Rattle.gl_decide.specs.declared.scanned.Scan.TheVariants as scan
 use Rattle.gl_decide.specs.declared.verdict.Verdict.{Verdict}
 use Rattle.gl_decide.specs.declared.verdict.Verdict.TheVariants.{Proved, Vacuous, Refuted, Uncovered}
 
-module _ (w : WorldSeen) (bounds : Bounds) (thm : Theorem) where
+module _ (w : WorldSeen) (bounds : Bounds) (thm : TheoremSeen) where
   -- what holds is not refuted
   unrefuted : (env : List (ℕ × Object)) → Holds w.definitions thm.hyp thm.concl → IsMet w.definitions thm.hyp env → HasValue w.definitions env thm.concl nil → ⊥
   unrefuted env h m n = let c = h env m in c.2 (value_unique w.definitions env thm.concl c.0 nil c.1 n)
@@ -41,7 +41,7 @@ module _ (w : WorldSeen) (bounds : Bounds) (thm : Theorem) where
   one_verdict _ _ p q = tt
 
 -- ---- scans
-pub one_least : (w : WorldSeen) (thm : Theorem) (j k : ℕ) → IsLeastRefuting w thm j → IsLeastRefuting w thm k → j ≡ k
+pub one_least : (w : WorldSeen) (thm : TheoremSeen) (j k : ℕ) → IsLeastRefuting w thm j → IsLeastRefuting w thm k → j ≡ k
 one_least w thm j k a b = elim (cases_order j k) [
   | inl e ↦ e
   | inr d ↦ elim d [
@@ -50,8 +50,8 @@ one_least w thm j k a b = elim (cases_order j k) [
   ]
 ]
 
-pub scan_least : (w : WorldSeen) (bounds : Bounds) (thm : Theorem) (k : ℕ) → IsProperScan w bounds thm (scan.Refutes k) → IsLeastRefuting w thm k
+pub scan_least : (w : WorldSeen) (bounds : Bounds) (thm : TheoremSeen) (k : ℕ) → IsProperScan w bounds thm (scan.Refutes k) → IsLeastRefuting w thm k
 scan_least w bounds thm k s = (s.2, λ j l. s.3 j (omega arith) l)
 
-pub scan_clean : (w : WorldSeen) (bounds : Bounds) (thm : Theorem) (met : Bool) (k : ℕ) → IsProperScan w bounds thm (scan.Clean met) → IsProperScan w bounds thm (scan.Refutes k) → ⊥
+pub scan_clean : (w : WorldSeen) (bounds : Bounds) (thm : TheoremSeen) (met : Bool) (k : ℕ) → IsProperScan w bounds thm (scan.Clean met) → IsProperScan w bounds thm (scan.Refutes k) → ⊥
 scan_clean w bounds thm met k c s = c.0 k s.0 s.1 s.2

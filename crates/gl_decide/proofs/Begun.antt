@@ -13,7 +13,8 @@ use Rattle.lisp_eval.specs.Machines.{MachineSeen}
 use Rattle.lisp_eval.specs.MachineCalls.{BeginsWith, RefusesForCells}
 use Rattle.lisp_eval.specs.declared.fault.EvalFault.{EvalFault}
 use Rattle.lisp_eval.specs.declared.fault.EvalFault.TheVariants as fault
-use Rattle.gl_decide.specs.Theorem.{Theorem, input_at}
+use Rattle.shape_spec.specs.TheoremSeen.{TheoremSeen}
+use Rattle.gl_decide.specs.TheoremAt.{input_at}
 use Rattle.gl_decide.specs.Scans.{HasCause, IsProperAmong}
 use Rattle.gl_decide.specs.Trials.{IsReady}
 use Rattle.gl_decide.specs.declared.scanned.Scan.{Scan}
@@ -21,16 +22,16 @@ use Rattle.gl_decide.specs.declared.scanned.Scan.TheVariants as scan
 use Rattle.gl_decide.proofs.Causes.{from_constants}
 use Rattle.gl_decide.proofs.Ranges.{none_yet}
 
-pub ready : (w : WorldSeen) (thm : Theorem) (old new : MachineSeen) → BeginsWith w thm.memoized old new → IsReady w thm new
+pub ready : (w : WorldSeen) (thm : TheoremSeen) (old new : MachineSeen) → BeginsWith w thm.memoized old new → IsReady w thm new
 ready w thm old new b = record { fits = b.fits; functions = b.functions; cells = λ y c. All-contains (Contains (constant_cells w)) new.arena.objects y b.cells c }
 
-pub among_at : (w : WorldSeen) (thm : Theorem) (s t l m first end : ℕ) (r : Scan) → s ≡ t → l ≡ m → IsProperAmong w s l thm first end r → IsProperAmong w t m thm first end r
+pub among_at : (w : WorldSeen) (thm : TheoremSeen) (s t l m first end : ℕ) (r : Scan) → s ≡ t → l ≡ m → IsProperAmong w s l thm first end r → IsProperAmong w t m thm first end r
 among_at w thm s t l m first end r e f h = subst (λ (k : ℕ). IsProperAmong w t k thm first end r) f (subst (λ (k : ℕ). IsProperAmong w k l thm first end r) e h)
 
 refusal : EvalFault → Result (Unit {0}) EvalFault
 refusal f = Err f
 
-module _ (w : WorldSeen) (thm : Theorem) (steps cells : ℕ) (total : IsTotal w.definitions) (of : IsTermOf w.definitions thm.hyp) where
+module _ (w : WorldSeen) (thm : TheoremSeen) (steps cells : ℕ) (total : IsTotal w.definitions) (of : IsTermOf w.definitions thm.hyp) where
   begin_cause : (env : List (ℕ × Object)) (f : EvalFault) (r : Result (Unit {0}) EvalFault) → r ≡ Err f → f ≢ fault.Memory → RefusesForCells w cells r → HasCause w steps cells thm part.Hyp env f
   begin_cause env fault.Width r e n h = absurd (h.no_width (rw e refl))
   begin_cause env fault.Steps r e n h = absurd (h.no_steps (rw e refl))

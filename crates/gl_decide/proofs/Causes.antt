@@ -23,7 +23,8 @@ use Rattle.lisp_eval.specs.declared.fault.EvalFault.{EvalFault}
 use Rattle.lisp_eval.specs.declared.fault.EvalFault.TheVariants as fault
 use Rattle.shape_spec.specs.declared.theorem.Part.{Part}
 use Rattle.gl_decide.specs.Causes.{IsOutOfSteps, IsOutOfCells}
-use Rattle.gl_decide.specs.Theorem.{Theorem, term_at}
+use Rattle.shape_spec.specs.TheoremSeen.{TheoremSeen}
+use Rattle.gl_decide.specs.TheoremAt.{term_at}
 use Rattle.gl_decide.specs.Scans.{HasCause}
 use Rattle.gl_decide.specs.Placed.{input_cells, HasLicense}
 
@@ -73,7 +74,7 @@ license_of w functions env t steps arena r fault.Steps e l = l.steps_more (rw e 
 license_of w functions env t steps arena r fault.Cells e l = l.cells_more (rw e refl)
 license_of w functions env t steps arena r fault.Memory e l = tt
 
-pub cause_of : (w : WorldSeen) (functions : List ℕ) (thm : Theorem) (part : Part) (env : List (ℕ × Object)) (steps : ℕ) (arena : Held) (f : EvalFault) → functions ≡ thm.memoized → ((y : Object) → Contains arena.objects y → Contains (input_cells env) y ⊎ Contains (constant_cells w) y)
+pub cause_of : (w : WorldSeen) (functions : List ℕ) (thm : TheoremSeen) (part : Part) (env : List (ℕ × Object)) (steps : ℕ) (arena : Held) (f : EvalFault) → functions ≡ thm.memoized → ((y : Object) → Contains arena.objects y → Contains (input_cells env) y ⊎ Contains (constant_cells w) y)
     → HasLicense w functions env (term_at thm part) steps arena f → f ≢ fault.Memory → HasCause w steps arena.limit thm part env f
 cause_of w functions thm part env steps arena fault.Width m h l n = l
 cause_of w functions thm part env steps arena fault.Steps m h l n = from_dear w env (term_at thm part) functions thm.memoized steps m l

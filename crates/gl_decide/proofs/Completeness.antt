@@ -3,12 +3,12 @@ use Rattle.std.proofs.Common.{◌≡◌, ◌∙◌, sym, Some, None}
 use Rattle.gl_logic.specs.WorldSeen.{WorldSeen}
 use Rattle.gl_decide.specs.Bounds.{Bounds}
 use Rattle.gl_decide.specs.Completeness.{StaysWithin, IsDecided}
-use Rattle.gl_decide.specs.Theorem.{Theorem}
+use Rattle.shape_spec.specs.TheoremSeen.{TheoremSeen}
 use Rattle.gl_decide.specs.Verdicts.{IsCovered, IsProperVerdict}
 use Rattle.gl_decide.specs.declared.verdict.Verdict.{Verdict}
 use Rattle.gl_decide.specs.declared.verdict.Verdict.TheVariants.{Proved, Vacuous, Refuted, Uncovered, Clock, Width, Steps, Cells, Nodes, Clauses, Memory}
 
-pub decided : (w : WorldSeen) (bounds : Bounds) (thm : Theorem) (v : Verdict) → IsCovered thm → StaysWithin w bounds thm → IsProperVerdict w bounds thm v → IsDecided bounds thm v
+pub decided : (w : WorldSeen) (bounds : Bounds) (thm : TheoremSeen) (v : Verdict) → IsCovered thm → StaysWithin w bounds thm → IsProperVerdict w bounds thm v → IsDecided bounds thm v
 decided w bounds thm Proved c s p = tt
 decided w bounds thm Vacuous c s p = tt
 decided w bounds thm (Refuted env) c s p = tt

@@ -12,7 +12,8 @@ use Rattle.coverage.proofs.Covering.{holds_from_numbers, never_from_numbers}
 use Rattle.lisp_eval.specs.declared.fault.EvalFault.{EvalFault}
 use Rattle.lisp_eval.specs.declared.fault.EvalFault.TheVariants as fault
 use Rattle.gl_decide.specs.Bounds.{Bounds}
-use Rattle.gl_decide.specs.Theorem.{Theorem, input_at}
+use Rattle.shape_spec.specs.TheoremSeen.{TheoremSeen}
+use Rattle.gl_decide.specs.TheoremAt.{input_at}
 use Rattle.gl_decide.specs.Scans.{NoneRefutes, HasCause, IsProperScan}
 use Rattle.gl_decide.proofs.Nil.{nil_or_not}
 use Rattle.gl_decide.specs.Answered.{IsCoveredIn, IsRefutedAt, IsStoppedAt}
@@ -21,7 +22,7 @@ use Rattle.gl_decide.specs.declared.scanned.Scan.TheVariants as scan
 use Rattle.gl_decide.specs.declared.verdict.Verdict.{Verdict}
 use Rattle.gl_decide.specs.declared.verdict.Verdict.TheVariants as verdict
 
-module _ (w : WorldSeen) (bounds : Bounds) (thm : Theorem) (known : IsCoveredIn w thm) where
+module _ (w : WorldSeen) (bounds : Bounds) (thm : TheoremSeen) (known : IsCoveredIn w thm) where
   -- ---- all inputs
   -- where the hypothesis is met and nothing refutes, the conclusion is met
   concluded : (n : ℕ) → NoneRefutes w thm 0 (2 ^ width_of thm.bindings) → n < 2 ^ width_of thm.bindings → IsMet w.definitions thm.hyp (input_at thm n) → IsMet w.definitions thm.concl (input_at thm n)

@@ -20,8 +20,7 @@ use Rattle.gl_symbolic.specs.declared.room.Room.TheVariants as room
 use Rattle.gl_decide.specs.Answered.{IsAnswered, IsDecidedOtherwise, IsOtherwise, IsRunOut, IsStalled, IsTold}
 use Rattle.gl_decide.specs.Bounds.{Bounds}
 use Rattle.gl_decide.specs.Rooms.{AreStoresFor, IsFullAfter, IsGivenUpAfter, IsShownAfter, IsUnbegun, LeavesStores}
-use Rattle.gl_decide.specs.Theorem.{Theorem}
-use Rattle.gl_decide.specs.TheoremOf.{theorem_of}
+use Rattle.shape_spec.specs.TheoremSeen.{TheoremSeen, theorem_seen}
 use Rattle.gl_decide.specs.Verdicts.{IsCovered, IsProperVerdict}
 use Rattle.gl_decide.specs.declared.stall.StallCause.{StallCause}
 use Rattle.gl_decide.specs.declared.stall.StallCause.TheVariants as why
@@ -32,7 +31,7 @@ stores_for : {B : Type 0} (g : Ghosts B) (nodes : ℕ) (s : SobsSeen B) (d : Dec
 stores_for g nodes s d v h f = record { whole = h.whole; table = h.table; store = h.store; full = f }
 
 -- ---- verdicts that are told
-unbegun_told : (thm : Theorem) (d : Decision) (v : Verdict) → symbolic.IsUnbegun d → IsTold thm d v → IsUnbegun v
+unbegun_told : (thm : TheoremSeen) (d : Decision) (v : Verdict) → symbolic.IsUnbegun d → IsTold thm d v → IsUnbegun v
 unbegun_told thm (decision.Cells p a) (verdict.Cells q env) h e = tt
 unbegun_told thm decision.Proved v h e = absurd h
 unbegun_told thm decision.Vacuous v h e = absurd h
@@ -44,7 +43,7 @@ unbegun_told thm decision.Full v h e = absurd h
 unbegun_told thm decision.Spent v h e = absurd h
 unbegun_told thm d v h e = absurd e
 
-full_told : {B : Type 0} (g : Ghosts B) (s : SobsSeen B) (thm : Theorem) (d : Decision) (v : Verdict) → IsTold thm d v → IsFullAfter g s v
+full_told : {B : Type 0} (g : Ghosts B) (s : SobsSeen B) (thm : TheoremSeen) (d : Decision) (v : Verdict) → IsTold thm d v → IsFullAfter g s v
 full_told g s thm decision.Proved (verdict.Nodes st) e = absurd e
 full_told g s thm decision.Vacuous (verdict.Nodes st) e = absurd e
 full_told g s thm (decision.Refuted a) (verdict.Nodes st) e = absurd e
@@ -57,7 +56,7 @@ full_told g s thm decision.Spent (verdict.Nodes st) e = absurd e
 full_told g s thm decision.Memory (verdict.Nodes st) e = absurd e
 full_told g s thm _ _ e = tt
 
-given_up_told : (clauses : ℕ) (s : SatSeen) (thm : Theorem) (d : Decision) (v : Verdict) → IsTold thm d v → IsGivenUpAfter clauses s v
+given_up_told : (clauses : ℕ) (s : SatSeen) (thm : TheoremSeen) (d : Decision) (v : Verdict) → IsTold thm d v → IsGivenUpAfter clauses s v
 given_up_told clauses s thm decision.Proved (verdict.Clauses st) e = absurd e
 given_up_told clauses s thm decision.Vacuous (verdict.Clauses st) e = absurd e
 given_up_told clauses s thm (decision.Refuted a) (verdict.Clauses st) e = absurd e
@@ -70,7 +69,7 @@ given_up_told clauses s thm decision.Spent (verdict.Clauses st) e = absurd e
 given_up_told clauses s thm decision.Memory (verdict.Clauses st) e = absurd e
 given_up_told clauses s thm _ _ e = tt
 
-shown_told : (s : SatSeen) (thm : Theorem) (d : Decision) (v : Verdict) → IsTold thm d v → IsShown (HoldsEmpty s) d → IsShownAfter s v
+shown_told : (s : SatSeen) (thm : TheoremSeen) (d : Decision) (v : Verdict) → IsTold thm d v → IsShown (HoldsEmpty s) d → IsShownAfter s v
 shown_told s thm decision.Proved verdict.Proved e h = h
 shown_told s thm decision.Vacuous verdict.Vacuous e h = h
 shown_told s thm (decision.Refuted a) (verdict.Refuted env) e h = tt
@@ -80,7 +79,7 @@ shown_told s thm (decision.Steps p a) (verdict.Steps q env) e h = tt
 shown_told s thm (decision.Cells p a) (verdict.Cells q env) e h = tt
 shown_told s thm d v e h = absurd e
 
-pub told_answered : (thm : Theorem) (d : Decision) (v : Verdict) → IsTold thm d v → IsAnswered v
+pub told_answered : (thm : TheoremSeen) (d : Decision) (v : Verdict) → IsTold thm d v → IsAnswered v
 told_answered thm decision.Proved verdict.Proved e = tt
 told_answered thm decision.Vacuous verdict.Vacuous e = tt
 told_answered thm (decision.Refuted a) (verdict.Refuted env) e = tt
@@ -91,28 +90,28 @@ told_answered thm (decision.Cells p a) (verdict.Cells q env) e = tt
 told_answered thm d v e = absurd e
 
 module _ (g : Ghosts Diagrams) (h : Ghosts SatSeen) (bounds : Bounds) (t : Thm) (d : Decision) where
-  pub left_told : (r : Room) (v : Verdict) → IsTold (theorem_of t) d v → LeavesRoom g h bounds.nodes bounds.clauses t.mode d r → LeavesStores g h bounds (theorem_of t) v r
-  left_told room.Empty v e l = unbegun_told (theorem_of t) d v l e
-  left_told (room.Bdd s) v e l = (l.0, stores_for g bounds.nodes s d v l.1 (full_told g s (theorem_of t) d v e))
+  pub left_told : (r : Room) (v : Verdict) → IsTold (theorem_seen t) d v → LeavesRoom g h bounds.nodes bounds.clauses t.mode d r → LeavesStores g h bounds (theorem_seen t) v r
+  left_told room.Empty v e l = unbegun_told (theorem_seen t) d v l e
+  left_told (room.Bdd s) v e l = (l.0, stores_for g bounds.nodes s d v l.1 (full_told g s (theorem_seen t) d v e))
   left_told (room.Sat s) v e l = (
     l.0,
-    stores_for h bounds.nodes s d v l.1 (full_told h s (theorem_of t) d v e),
-    given_up_told bounds.clauses s.store (theorem_of t) d v e,
-    λ _. shown_told s.store (theorem_of t) d v e l.2,
+    stores_for h bounds.nodes s d v l.1 (full_told h s (theorem_seen t) d v e),
+    given_up_told bounds.clauses s.store (theorem_seen t) d v e,
+    λ _. shown_told s.store (theorem_seen t) d v e l.2,
   )
 
   -- memory was refused
-  pub left_refused : (r : Room) → LeavesRoom g h bounds.nodes bounds.clauses t.mode d r → LeavesStores g h bounds (theorem_of t) verdict.Memory r
+  pub left_refused : (r : Room) → LeavesRoom g h bounds.nodes bounds.clauses t.mode d r → LeavesStores g h bounds (theorem_seen t) verdict.Memory r
   left_refused room.Empty l = tt
   left_refused (room.Bdd s) l = (l.0, stores_for g bounds.nodes s d verdict.Memory l.1 tt)
   left_refused (room.Sat s) l = (l.0, stores_for h bounds.nodes s d verdict.Memory l.1 tt, tt, λ _. tt)
 
 -- ---- verdicts of scans
-narrow_full : {B : Type 0} (g : Ghosts B) (s : SobsSeen B) (w : WorldSeen) (bounds : Bounds) (thm : Theorem) (v : Verdict) → width_of thm.bindings ≤ bounds.enum_bits → IsProperVerdict w bounds thm v → IsFullAfter g s v
+narrow_full : {B : Type 0} (g : Ghosts B) (s : SobsSeen B) (w : WorldSeen) (bounds : Bounds) (thm : TheoremSeen) (v : Verdict) → width_of thm.bindings ≤ bounds.enum_bits → IsProperVerdict w bounds thm v → IsFullAfter g s v
 narrow_full g s w bounds thm (verdict.Nodes st) few p = absurd (omega (arith, few, p.1))
 narrow_full g s w bounds thm _ few p = tt
 
-narrow_given_up : (clauses : ℕ) (s : SatSeen) (w : WorldSeen) (bounds : Bounds) (thm : Theorem) (v : Verdict) → width_of thm.bindings ≤ bounds.enum_bits → IsProperVerdict w bounds thm v → IsGivenUpAfter clauses s v
+narrow_given_up : (clauses : ℕ) (s : SatSeen) (w : WorldSeen) (bounds : Bounds) (thm : TheoremSeen) (v : Verdict) → width_of thm.bindings ≤ bounds.enum_bits → IsProperVerdict w bounds thm v → IsGivenUpAfter clauses s v
 narrow_given_up clauses s w bounds thm (verdict.Clauses st) few p = absurd (omega (arith, few, p.2))
 narrow_given_up clauses s w bounds thm _ few p = tt
 
@@ -134,40 +133,40 @@ begun bounds (decision.Cells p a) c o u = o
 begun bounds decision.Memory c o u = o
 
 module _ (g : Ghosts Diagrams) (h : Ghosts SatSeen) (w : WorldSeen) (bounds : Bounds) (t : Thm) (d : Decision) (c : StallCause) (out : IsRunOut bounds d c) where
-  pub left_scanned : (r : Room) (v : Verdict) → width_of t.bindings ≤ bounds.enum_bits → IsProperVerdict w bounds (theorem_of t) v → LeavesRoom g h bounds.nodes bounds.clauses t.mode d r → LeavesStores g h bounds (theorem_of t) v r
+  pub left_scanned : (r : Room) (v : Verdict) → width_of t.bindings ≤ bounds.enum_bits → IsProperVerdict w bounds (theorem_seen t) v → LeavesRoom g h bounds.nodes bounds.clauses t.mode d r → LeavesStores g h bounds (theorem_seen t) v r
   left_scanned room.Empty v few p l = absurd (begun bounds d c out l)
-  left_scanned (room.Bdd s) v few p l = (l.0, stores_for g bounds.nodes s d v l.1 (narrow_full g s w bounds (theorem_of t) v few p))
+  left_scanned (room.Bdd s) v few p l = (l.0, stores_for g bounds.nodes s d v l.1 (narrow_full g s w bounds (theorem_seen t) v few p))
   left_scanned (room.Sat s) v few p l = (
     l.0,
-    stores_for h bounds.nodes s d v l.1 (narrow_full h s w bounds (theorem_of t) v few p),
-    narrow_given_up bounds.clauses s.store w bounds (theorem_of t) v few p,
+    stores_for h bounds.nodes s d v l.1 (narrow_full h s w bounds (theorem_seen t) v few p),
+    narrow_given_up bounds.clauses s.store w bounds (theorem_seen t) v few p,
     λ more. absurd (omega (arith, few, more)),
   )
 
   -- ---- verdicts of other modes
-  pub left_otherwise : (r : Room) (v : Verdict) → IsDecidedOtherwise w bounds (theorem_of t) v → LeavesRoom g h bounds.nodes bounds.clauses t.mode d r → LeavesStores g h bounds (theorem_of t) v r
+  pub left_otherwise : (r : Room) (v : Verdict) → IsDecidedOtherwise w bounds (theorem_seen t) v → LeavesRoom g h bounds.nodes bounds.clauses t.mode d r → LeavesStores g h bounds (theorem_seen t) v r
   left_otherwise room.Empty v o l = absurd (begun bounds d c out l)
   left_otherwise (room.Bdd s) v o l = (l.0, stores_for g bounds.nodes s d v l.1 (answered_full g s v o.answered))
   left_otherwise (room.Sat s) v o l = absurd (o.own l.0)
 
 -- ---- stalls, where diagrams never give up
-module _ (g : Ghosts Diagrams) (h : Ghosts SatSeen) (w : WorldSeen) (bounds : Bounds) (t : Thm) (covered : IsCovered (theorem_of t)) (never : (s : Diagrams) → IsTrue (g.spent s) → ⊥) where
-  full_left : (wide : bounds.enum_bits < width_of t.bindings) (r : Room) (v : Verdict) → IsStalled w (theorem_of t) (why.Nodes bounds.nodes) v → LeavesRoom g h bounds.nodes bounds.clauses t.mode decision.Full r → IsProperVerdict w bounds (theorem_of t) v × LeavesStores g h bounds (theorem_of t) v r
+module _ (g : Ghosts Diagrams) (h : Ghosts SatSeen) (w : WorldSeen) (bounds : Bounds) (t : Thm) (covered : IsCovered (theorem_seen t)) (never : (s : Diagrams) → IsTrue (g.spent s) → ⊥) where
+  full_left : (wide : bounds.enum_bits < width_of t.bindings) (r : Room) (v : Verdict) → IsStalled w (theorem_seen t) (why.Nodes bounds.nodes) v → LeavesRoom g h bounds.nodes bounds.clauses t.mode decision.Full r → IsProperVerdict w bounds (theorem_seen t) v × LeavesStores g h bounds (theorem_seen t) v r
   full_left wide room.Empty v st l = absurd l
   full_left wide (room.Bdd s) (verdict.Nodes k) st l = ((covered, wide, st), (l.0, stores_for g bounds.nodes s decision.Full (verdict.Nodes k) l.1 l.1.run_out))
   full_left wide (room.Sat s) (verdict.Nodes k) st l = ((covered, wide, st), (l.0, stores_for h bounds.nodes s decision.Full (verdict.Nodes k) l.1 l.1.run_out, tt, λ _. tt))
   full_left wide r v st l = absurd st
 
-  spent_left : (wide : bounds.enum_bits < width_of t.bindings) (r : Room) (v : Verdict) → IsStalled w (theorem_of t) (why.Clauses bounds.clauses) v → LeavesRoom g h bounds.nodes bounds.clauses t.mode decision.Spent r → IsProperVerdict w bounds (theorem_of t) v × LeavesStores g h bounds (theorem_of t) v r
+  spent_left : (wide : bounds.enum_bits < width_of t.bindings) (r : Room) (v : Verdict) → IsStalled w (theorem_seen t) (why.Clauses bounds.clauses) v → LeavesRoom g h bounds.nodes bounds.clauses t.mode decision.Spent r → IsProperVerdict w bounds (theorem_seen t) v × LeavesStores g h bounds (theorem_seen t) v r
   spent_left wide room.Empty v st l = absurd l
   spent_left wide (room.Bdd s) v st l = absurd (never s.store l.1.run_out)
   spent_left wide (room.Sat s) (verdict.Clauses k) st l = ((covered, l.0, wide, st), (l.0, stores_for h bounds.nodes s decision.Spent (verdict.Clauses k) l.1 tt, l.3, λ _. tt))
   spent_left wide r v st l = absurd st
 
-  left_stalled : (wide : bounds.enum_bits < width_of t.bindings) (d : Decision) (c : StallCause) (r : Room) (v : Verdict) → IsRunOut bounds d c → IsStalled w (theorem_of t) c v → LeavesRoom g h bounds.nodes bounds.clauses t.mode d r
-      → IsProperVerdict w bounds (theorem_of t) v × LeavesStores g h bounds (theorem_of t) v r
-  left_stalled wide decision.Full c r v out st l = full_left wide r v (subst (λ (k : StallCause). IsStalled w (theorem_of t) k v) out st) l
-  left_stalled wide decision.Spent c r v out st l = spent_left wide r v (subst (λ (k : StallCause). IsStalled w (theorem_of t) k v) out st) l
+  left_stalled : (wide : bounds.enum_bits < width_of t.bindings) (d : Decision) (c : StallCause) (r : Room) (v : Verdict) → IsRunOut bounds d c → IsStalled w (theorem_seen t) c v → LeavesRoom g h bounds.nodes bounds.clauses t.mode d r
+      → IsProperVerdict w bounds (theorem_seen t) v × LeavesStores g h bounds (theorem_seen t) v r
+  left_stalled wide decision.Full c r v out st l = full_left wide r v (subst (λ (k : StallCause). IsStalled w (theorem_seen t) k v) out st) l
+  left_stalled wide decision.Spent c r v out st l = spent_left wide r v (subst (λ (k : StallCause). IsStalled w (theorem_seen t) k v) out st) l
   left_stalled wide decision.Proved c r v out st l = absurd out
   left_stalled wide decision.Vacuous c r v out st l = absurd out
   left_stalled wide (decision.Refuted a) c r v out st l = absurd out
@@ -178,8 +177,8 @@ module _ (g : Ghosts Diagrams) (h : Ghosts SatSeen) (w : WorldSeen) (bounds : Bo
   left_stalled wide decision.Memory c r v out st l = absurd out
 
   -- a decision that ran out: a scan, another mode's answer, or a stall
-  pub ran_out : (d : Decision) (c : StallCause) (r : Room) (v : Verdict) → IsRunOut bounds d c → (width_of t.bindings ≤ bounds.enum_bits → IsProperVerdict w bounds (theorem_of t) v) → (bounds.enum_bits < width_of t.bindings → IsOtherwise w bounds (theorem_of t) c v)
-      → LeavesRoom g h bounds.nodes bounds.clauses t.mode d r → IsProperVerdict w bounds (theorem_of t) v × LeavesStores g h bounds (theorem_of t) v r
+  pub ran_out : (d : Decision) (c : StallCause) (r : Room) (v : Verdict) → IsRunOut bounds d c → (width_of t.bindings ≤ bounds.enum_bits → IsProperVerdict w bounds (theorem_seen t) v) → (bounds.enum_bits < width_of t.bindings → IsOtherwise w bounds (theorem_seen t) c v)
+      → LeavesRoom g h bounds.nodes bounds.clauses t.mode d r → IsProperVerdict w bounds (theorem_seen t) v × LeavesStores g h bounds (theorem_seen t) v r
   ran_out d c r v out scanned otherwise l = elim (cases_lt bounds.enum_bits (width_of t.bindings)) [
     | inl wide ↦ elim (otherwise wide) [
       | inl o ↦ (o.proper, left_otherwise g h w bounds t d c out r v o l)

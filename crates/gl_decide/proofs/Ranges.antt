@@ -9,7 +9,8 @@ use Rattle.gl_logic.specs.Evaluate.{HasValue}
 use Rattle.gl_logic.specs.WorldSeen.{WorldSeen}
 use Rattle.gl_logic.proofs.Walks.{value_unique}
 use Rattle.shape_spec.specs.Theorems.{IsMet}
-use Rattle.gl_decide.specs.Theorem.{Theorem, input_at}
+use Rattle.shape_spec.specs.TheoremSeen.{TheoremSeen}
+use Rattle.gl_decide.specs.TheoremAt.{input_at}
 use Rattle.gl_decide.specs.Verdicts.{Refutes}
 use Rattle.gl_decide.specs.Scans.{NoneRefutes, SomeMeets, IsProperAmong}
 use Rattle.gl_decide.specs.Pieces.{Follow, IsProperOf, AreProper, joined_with}
@@ -17,7 +18,7 @@ use Rattle.gl_decide.specs.declared.piece.Piece.{Piece}
 use Rattle.gl_decide.specs.declared.scanned.Scan.{Scan}
 use Rattle.gl_decide.specs.declared.scanned.Scan.TheVariants as scan
 
-module _ (w : WorldSeen) (thm : Theorem) where
+module _ (w : WorldSeen) (thm : TheoremSeen) where
   -- ---- what one input tells
   pub unmet : (env : List (ℕ × Object)) → HasValue w.definitions env thm.hyp nil → IsMet w.definitions thm.hyp env → ⊥
   unmet env h m = m.2 (value_unique w.definitions env thm.hyp m.0 nil m.1 h)

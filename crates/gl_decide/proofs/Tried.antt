@@ -16,7 +16,8 @@ use Rattle.shape_spec.specs.declared.theorem.Part.TheVariants as part
 use Rattle.lisp_eval.specs.Answers.{HasGrown}
 use Rattle.lisp_eval.specs.Machines.{MachineSeen}
 use Rattle.lisp_eval.specs.declared.fault.EvalFault.{EvalFault}
-use Rattle.gl_decide.specs.Theorem.{Theorem, input_at}
+use Rattle.shape_spec.specs.TheoremSeen.{TheoremSeen}
+use Rattle.gl_decide.specs.TheoremAt.{input_at}
 use Rattle.gl_decide.specs.Scans.{HasCause}
 use Rattle.gl_decide.specs.Placed.{input_cells, IsTruthOf, HasLicense, LacksCells}
 use Rattle.gl_decide.specs.Trials.{IsReady, HoldsInput, IsInputOf, IsProperTrial}
@@ -42,7 +43,7 @@ module _ (w : WorldSeen) (env : List (ℕ × Object)) (t : Exp) where
   nil_from h = subst (λ (x : Object). HasValue w.definitions env t x) (nil_told h.value (not_false (is_nil h.value) h.is)) h.has
 
 -- ---- parts without an answer
-module _ (w : WorldSeen) (thm : Theorem) (env : List (ℕ × Object)) (m : MachineSeen) (holds : HoldsInput w thm env m) (input : IsInputOf thm env) (f : EvalFault) where
+module _ (w : WorldSeen) (thm : TheoremSeen) (env : List (ℕ × Object)) (m : MachineSeen) (holds : HoldsInput w thm env m) (input : IsInputOf thm env) (f : EvalFault) where
   pub stopped_hyp : HasLicense w m.functions env thm.hyp m.steps m.arena f → IsProperTrial w m.steps m.arena.limit thm env (trial.Stopped part.Hyp f)
   stopped_hyp l = λ n. (input, cause_of w m.functions thm part.Hyp env m.steps m.arena f holds.functions holds.cells l n)
 
@@ -50,7 +51,7 @@ module _ (w : WorldSeen) (thm : Theorem) (env : List (ℕ × Object)) (m : Machi
   stopped_concl met l = λ n. ((input.0, input.1, met), cause_of w m.functions thm part.Concl env m.steps m.arena f holds.functions holds.cells l n)
 
 -- ---- an input that has no room
-pub stopped_placing : (w : WorldSeen) (thm : Theorem) (n : ℕ) (old new : MachineSeen) (f : EvalFault) → IsTotal w.definitions → IsTermOf w.definitions thm.hyp → IsReady w thm old → LacksCells (input_at thm n) old new f
+pub stopped_placing : (w : WorldSeen) (thm : TheoremSeen) (n : ℕ) (old new : MachineSeen) (f : EvalFault) → IsTotal w.definitions → IsTermOf w.definitions thm.hyp → IsReady w thm old → LacksCells (input_at thm n) old new f
     → IsProperTrial w old.steps old.arena.limit thm (input_at thm n) (trial.Stopped part.Hyp f)
 stopped_placing w thm n old new f total of ready lacks = λ q.
     let env = input_at thm n in
@@ -64,7 +65,7 @@ stopped_placing w thm n old new f total of ready lacks = λ q.
     )
 
 -- ---- the same trial, said of other names for what it speaks of
-pub trial_at : (w : WorldSeen) (thm : Theorem) (s t l m : ℕ) (env other : List (ℕ × Object)) (r : Trial) → s ≡ t → l ≡ m → env ≡ other → IsProperTrial w s l thm env r → IsProperTrial w t m thm other r
+pub trial_at : (w : WorldSeen) (thm : TheoremSeen) (s t l m : ℕ) (env other : List (ℕ × Object)) (r : Trial) → s ≡ t → l ≡ m → env ≡ other → IsProperTrial w s l thm env r → IsProperTrial w t m thm other r
 trial_at w thm s t l m env other r e f g h =
     subst (λ (i : List (ℕ × Object)). IsProperTrial w t m thm i r) g (subst (λ (k : ℕ). IsProperTrial w t k thm env r) f (subst (λ (k : ℕ). IsProperTrial w k l thm env r) e h))
 

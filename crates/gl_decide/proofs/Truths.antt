@@ -8,7 +8,7 @@ use Rattle.lisp_eval.specs.Answers.{HasGrown}
 use Rattle.lisp_eval.specs.Machines.{MachineSeen, Fits}
 use Rattle.lisp_eval.specs.MachineCalls.{KeepsSettings}
 use Rattle.lisp_eval.proofs.Grown.{grown_back, grown_count}
-use Rattle.gl_decide.specs.Theorem.{Theorem}
+use Rattle.shape_spec.specs.TheoremSeen.{TheoremSeen}
 use Rattle.gl_decide.specs.Placed.{AddsCellsOfInput, Rests}
 use Rattle.gl_decide.specs.Trials.{IsReady, HoldsInput}
 
@@ -34,7 +34,7 @@ pub grown_by_input : (input : List (ℕ × Object)) (old new : List Object) → 
 grown_by_input input old new a = (a.made, a.is)
 
 -- ---- what a machine holds
-pub holds_after : (w : WorldSeen) (thm : Theorem) (env : List (ℕ × Object)) (old new : MachineSeen) → IsReady w thm old → AddsCellsOfInput env old.arena.objects new.arena.objects → KeepsSettings old new → Fits w new → HoldsInput w thm env new
+pub holds_after : (w : WorldSeen) (thm : TheoremSeen) (env : List (ℕ × Object)) (old new : MachineSeen) → IsReady w thm old → AddsCellsOfInput env old.arena.objects new.arena.objects → KeepsSettings old new → Fits w new → HoldsInput w thm env new
 holds_after w thm env old new r a k f = record {
   fits = f;
   functions = k.functions ∙ r.functions;
@@ -44,14 +44,14 @@ holds_after w thm env old new r a k f = record {
   ];
 }
 
-pub holds_still : (w : WorldSeen) (thm : Theorem) (env : List (ℕ × Object)) (old new : MachineSeen) → HoldsInput w thm env old → Rests w old new → HoldsInput w thm env new
+pub holds_still : (w : WorldSeen) (thm : TheoremSeen) (env : List (ℕ × Object)) (old new : MachineSeen) → HoldsInput w thm env old → Rests w old new → HoldsInput w thm env new
 holds_still w thm env old new h r = record {
   fits = r.fits;
   functions = r.settings.functions ∙ h.functions;
   cells = λ y c. h.cells y (subst (λ (zs : List Object). Contains zs y) r.arena c);
 }
 
-pub ready_still : (w : WorldSeen) (thm : Theorem) (old new : MachineSeen) → IsReady w thm old → Rests w old new → IsReady w thm new
+pub ready_still : (w : WorldSeen) (thm : TheoremSeen) (old new : MachineSeen) → IsReady w thm old → Rests w old new → IsReady w thm new
 ready_still w thm old new h r = record {
   fits = r.fits;
   functions = r.settings.functions ∙ h.functions;

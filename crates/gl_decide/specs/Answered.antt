@@ -18,7 +18,8 @@ use Rattle.gl_symbolic.specs.declared.decision.Decision.{Decision}
 use Rattle.gl_symbolic.specs.declared.decision.Decision.TheVariants as decision
 use Rattle.gl_decide.specs.Bounds.{Bounds}
 use Rattle.gl_decide.specs.Stalls.{IsStallOf}
-use Rattle.gl_decide.specs.Theorem.{Theorem, input_at}
+use Rattle.shape_spec.specs.TheoremSeen.{TheoremSeen}
+use Rattle.gl_decide.specs.TheoremAt.{input_at}
 use Rattle.gl_decide.specs.Verdicts.{IsCovered, IsProperVerdict}
 use Rattle.gl_decide.specs.declared.stall.StallCause.{StallCause}
 use Rattle.gl_decide.specs.declared.stall.StallCause.TheVariants as why
@@ -27,7 +28,7 @@ use Rattle.gl_decide.specs.declared.verdict.Verdict.TheVariants as verdict
 
 -- ---- covered theorems
 -- a covered theorem of a world in which each term has a value
-pub record IsCoveredIn (w : WorldSeen) (thm : Theorem) : Type 0 where
+pub record IsCoveredIn (w : WorldSeen) (thm : TheoremSeen) : Type 0 where
   pub ground : AreGround w.definitions
   pub total : IsTotal w.definitions
   pub hyp : IsTermOf w.definitions thm.hyp
@@ -38,13 +39,13 @@ pub record IsCoveredIn (w : WorldSeen) (thm : Theorem) : Type 0 where
 
 -- ---- scans
 -- the input of a number refutes, or memory was refused
-abbrev pub IsRefutedAt : Theorem → ℕ → Verdict → Type 0
+abbrev pub IsRefutedAt : TheoremSeen → ℕ → Verdict → Type 0
 IsRefutedAt thm n (verdict.Refuted env) = env ≡ input_at thm n
 IsRefutedAt thm n verdict.Memory = Unit {0}
 IsRefutedAt thm n _ = ⊥
 
 -- a part has no answer on the input of a number, for this fault's cause
-abbrev pub IsStoppedAt : Theorem → ℕ → Part → EvalFault → Verdict → Type 0
+abbrev pub IsStoppedAt : TheoremSeen → ℕ → Part → EvalFault → Verdict → Type 0
 IsStoppedAt thm n part f (verdict.Width p env) = (f ≡ fault.Width) × (p ≡ part) × (env ≡ input_at thm n)
 IsStoppedAt thm n part f (verdict.Steps p env) = (f ≡ fault.Steps) × (p ≡ part) × (env ≡ input_at thm n)
 IsStoppedAt thm n part f (verdict.Cells p env) = (f ≡ fault.Cells) × (p ≡ part) × (env ≡ input_at thm n)
@@ -65,7 +66,7 @@ HasVerdict decision.Spent = ⊥
 HasVerdict _ = Unit {0}
 
 -- its assignment, if it has one, has a truth value for each index of the theorem
-abbrev pub HasAssignment : Theorem → Decision → Type 0
+abbrev pub HasAssignment : TheoremSeen → Decision → Type 0
 HasAssignment thm (decision.Refuted a) = length a ≡ width_of thm.bindings
 HasAssignment thm (decision.Clock part a) = length a ≡ width_of thm.bindings
 HasAssignment thm (decision.Width part a) = length a ≡ width_of thm.bindings
@@ -74,11 +75,11 @@ HasAssignment thm (decision.Cells part a) = length a ≡ width_of thm.bindings
 HasAssignment thm _ = Unit {0}
 
 -- the input of such an assignment
-abbrev pub input_of_bits : Theorem → List Bool → List (ℕ × Object)
+abbrev pub input_of_bits : TheoremSeen → List Bool → List (ℕ × Object)
 input_of_bits thm a = input_meant thm.bindings (value_at a)
 
 -- the verdict that a decision is, with the input of its assignment
-abbrev pub IsTold : Theorem → Decision → Verdict → Type 0
+abbrev pub IsTold : TheoremSeen → Decision → Verdict → Type 0
 IsTold thm decision.Proved verdict.Proved = Unit {0}
 IsTold thm decision.Vacuous verdict.Vacuous = Unit {0}
 IsTold thm (decision.Refuted a) (verdict.Refuted env) = env ≡ input_of_bits thm a
@@ -89,7 +90,7 @@ IsTold thm (decision.Cells part a) (verdict.Cells p env) = (p ≡ part) × (env 
 IsTold thm d _ = ⊥
 
 -- the verdict with the stall of this cause
-abbrev pub IsStalled : WorldSeen → Theorem → StallCause → Verdict → Type 0
+abbrev pub IsStalled : WorldSeen → TheoremSeen → StallCause → Verdict → Type 0
 IsStalled w thm (why.Nodes n) (verdict.Nodes s) = IsStallOf w thm (why.Nodes n) s
 IsStalled w thm (why.Clauses n) (verdict.Clauses s) = IsStallOf w thm (why.Clauses n) s
 IsStalled w thm c _ = ⊥
@@ -104,11 +105,11 @@ IsAnswered verdict.Memory = ⊥
 IsAnswered _ = Unit {0}
 
 -- a proper answer to a theorem that is not searched in its own mode
-pub record IsDecidedOtherwise (w : WorldSeen) (bounds : Bounds) (thm : Theorem) (v : Verdict) : Type 0 where
+pub record IsDecidedOtherwise (w : WorldSeen) (bounds : Bounds) (thm : TheoremSeen) (v : Verdict) : Type 0 where
   pub own : thm.mode ≢ mode.Sat
   pub answered : IsAnswered v
   pub proper : IsProperVerdict w bounds thm v
 
 -- such an answer, or the stall of this cause
-abbrev pub IsOtherwise : WorldSeen → Bounds → Theorem → StallCause → Verdict → Type 0
+abbrev pub IsOtherwise : WorldSeen → Bounds → TheoremSeen → StallCause → Verdict → Type 0
 IsOtherwise w bounds thm c v = IsDecidedOtherwise w bounds thm v ⊎ IsStalled w thm c v

@@ -1,6 +1,5 @@
 pub mod Bounds
-pub mod Theorem
-pub mod TheoremOf
+pub mod TheoremAt
 pub mod Causes
 pub mod Stalls
 pub mod Verdicts

@@ -1,7 +1,7 @@
 -- Pieces of numbers that follow one another.
 use Rattle.std.specs.Prelude.{◌≡◌, ℕ, Bool, ◌||◌, List, [], ◌∷◌}
 use Rattle.gl_logic.specs.WorldSeen.{WorldSeen}
-use Rattle.gl_decide.specs.Theorem.{Theorem}
+use Rattle.shape_spec.specs.TheoremSeen.{TheoremSeen}
 use Rattle.gl_decide.specs.Scans.{IsProperAmong}
 use Rattle.gl_decide.specs.declared.piece.Piece.{Piece}
 use Rattle.gl_decide.specs.declared.scanned.Scan.{Scan}
@@ -13,10 +13,10 @@ Follow first [] end = first ≡ end
 Follow first (p ∷ ps) end = (p.first ≡ first) × Follow p.end ps end
 
 -- what is found of a piece's numbers
-abbrev pub IsProperOf : WorldSeen → ℕ → ℕ → Theorem → Piece → Scan → Type 0
+abbrev pub IsProperOf : WorldSeen → ℕ → ℕ → TheoremSeen → Piece → Scan → Type 0
 IsProperOf w steps cells thm p s = IsProperAmong w steps cells thm p.first p.end s
 
-abbrev pub AreProper : WorldSeen → ℕ → ℕ → Theorem → List Piece → List Scan → Type 0
+abbrev pub AreProper : WorldSeen → ℕ → ℕ → TheoremSeen → List Piece → List Scan → Type 0
 AreProper w steps cells thm [] [] = Unit {0}
 AreProper w steps cells thm (p ∷ ps) (s ∷ ss) = IsProperOf w steps cells thm p s × AreProper w steps cells thm ps ss
 AreProper w steps cells thm _ _ = ⊥

@@ -10,7 +10,7 @@ use Rattle.gl_symbolic.specs.Books.{HoldsEmpty, IsGivenUp}
 use Rattle.gl_symbolic.specs.declared.room.Room.{Room}
 use Rattle.gl_symbolic.specs.declared.room.Room.TheVariants as room
 use Rattle.gl_decide.specs.Bounds.{Bounds}
-use Rattle.gl_decide.specs.Theorem.{Theorem}
+use Rattle.shape_spec.specs.TheoremSeen.{TheoremSeen}
 use Rattle.gl_decide.specs.declared.verdict.Verdict.{Verdict}
 use Rattle.gl_decide.specs.declared.verdict.Verdict.TheVariants.{Proved, Vacuous, Uncovered, Cells, Nodes, Clauses, Memory}
 
@@ -46,7 +46,7 @@ pub record AreStoresFor {B : Type 0} (g : Ghosts B) (nodes : ℕ) (s : SobsSeen 
 
 -- the stores are those of the theorem's mode, diagrams in each but Sat; so there are none of decision diagrams after Clauses, which is a verdict of
 -- mode Sat
-abbrev pub LeavesStores : Ghosts Diagrams → Ghosts SatSeen → Bounds → Theorem → Verdict → Room → Type 0
+abbrev pub LeavesStores : Ghosts Diagrams → Ghosts SatSeen → Bounds → TheoremSeen → Verdict → Room → Type 0
 LeavesStores g h bounds thm v room.Empty = IsUnbegun v
 LeavesStores g h bounds thm v (room.Bdd s) = (thm.mode ≢ mode.Sat) × AreStoresFor g bounds.nodes s v
 LeavesStores g h bounds thm v (room.Sat s) = (thm.mode ≡ mode.Sat) × AreStoresFor h bounds.nodes s v × IsGivenUpAfter bounds.clauses s.store v × (bounds.enum_bits < width_of thm.bindings → IsShownAfter s.store v)

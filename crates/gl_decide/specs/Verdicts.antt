@@ -12,27 +12,28 @@ use Rattle.coverage.specs.Covered.{first_uncovered}
 use Rattle.gl_decide.specs.Bounds.{Bounds}
 use Rattle.gl_decide.specs.Causes.{IsOutOfClock, IsOutOfWidth, IsOutOfSteps, IsOutOfCells}
 use Rattle.gl_decide.specs.Stalls.{IsStallOf}
-use Rattle.gl_decide.specs.Theorem.{Theorem, term_at, clock_at, input_at}
+use Rattle.shape_spec.specs.TheoremSeen.{TheoremSeen}
+use Rattle.gl_decide.specs.TheoremAt.{term_at, clock_at, input_at}
 use Rattle.gl_decide.specs.declared.stall.StallCause.TheVariants as why
 use Rattle.gl_decide.specs.declared.verdict.Verdict.{Verdict}
 use Rattle.gl_decide.specs.declared.verdict.Verdict.TheVariants.{Proved, Vacuous, Refuted, Uncovered, Clock, Width, Steps, Cells, Nodes, Clauses, Memory}
 
-abbrev pub IsCovered : Theorem → Type 0
+abbrev pub IsCovered : TheoremSeen → Type 0
 IsCovered thm = first_uncovered thm.hyp thm.concl thm.bindings ≡ None
 
 -- it has more indices than are scanned
-abbrev pub IsWider : Bounds → Theorem → Type 0
+abbrev pub IsWider : Bounds → TheoremSeen → Type 0
 IsWider bounds thm = bounds.enum_bits < width_of thm.bindings
 
 -- an input of a part: for the conclusion the hypothesis is met on it
-abbrev pub IsInputFor : WorldSeen → Theorem → Part → List (ℕ × Object) → Type 0
+abbrev pub IsInputFor : WorldSeen → TheoremSeen → Part → List (ℕ × Object) → Type 0
 IsInputFor w thm part env = IsInput w.definitions thm.hyp thm.bindings part env
 
 -- an input that meets the hypothesis
-abbrev pub MeetsHypothesis : WorldSeen → Theorem → List (ℕ × Object) → Type 0
+abbrev pub MeetsHypothesis : WorldSeen → TheoremSeen → List (ℕ × Object) → Type 0
 MeetsHypothesis w thm env = IsInputFor w thm Hyp env × IsMet w.definitions thm.hyp env
 
-abbrev pub IsProperVerdict : WorldSeen → Bounds → Theorem → Verdict → Type 0
+abbrev pub IsProperVerdict : WorldSeen → Bounds → TheoremSeen → Verdict → Type 0
 -- the conclusion is met wherever the hypothesis is, and some input meets the hypothesis
 IsProperVerdict w bounds thm Proved = IsCovered thm × Holds w.definitions thm.hyp thm.concl × ((env : List (ℕ × Object)) × MeetsHypothesis w thm env)
 -- nothing meets the hypothesis
@@ -53,9 +54,9 @@ IsProperVerdict w bounds thm (Clauses s) = IsCovered thm × (thm.mode ≡ mode.S
 IsProperVerdict w bounds thm Memory = Unit {0}
 
 -- ---- inputs that refute
-abbrev pub Refutes : WorldSeen → Theorem → List (ℕ × Object) → Type 0
+abbrev pub Refutes : WorldSeen → TheoremSeen → List (ℕ × Object) → Type 0
 Refutes w thm env = IsMet w.definitions thm.hyp env × HasValue w.definitions env thm.concl nil
 
 -- the least number of an assignment whose input meets the hypothesis and makes the conclusion NIL
-abbrev pub IsLeastRefuting : WorldSeen → Theorem → ℕ → Type 0
+abbrev pub IsLeastRefuting : WorldSeen → TheoremSeen → ℕ → Type 0
 IsLeastRefuting w thm n = Refutes w thm (input_at thm n) × ((k : ℕ) → k < n → Refutes w thm (input_at thm k) → ⊥)

@@ -10,7 +10,7 @@ ghost use Rattle.cnf_rup.specs.Refutations.{IsRefutation};
 ghost use Rattle.gl_symbolic.specs.Books.{HoldsEmpty};
 ghost use Rattle.gl_decide.specs.Bounds.{bounds_of};
 ghost use Rattle.gl_decide.specs.Rooms.{LeavesStores};
-ghost use Rattle.gl_decide.specs.TheoremOf.{theorem_of};
+ghost use Rattle.shape_spec.specs.TheoremSeen.{theorem_seen};
 ghost use Rattle.gl_decide.specs.Verdicts.{IsCovered, IsProperVerdict};
 ghost use Rattle.gl_decide.specs.Certificates.{IsCertificate, IsOpen, unscanned};
 ghost use Rattle.gl_decide.specs.ShownRooms.{IsShownIn};
@@ -49,10 +49,10 @@ pub fn certificate(
     requires mode { thm.now.mode ≡ Mode.Sat }
     requires some { 0 < width_of thm.now.bindings }
     requires empty { room.old ≡ Room.Empty }
-    ensures book { IfOk result (IsCertificate world.now (theorem_of thm.now)) }
-    ensures proper { IfErr result (IsProperVerdict world.now (unscanned (bounds_of limits.now)) (theorem_of thm.now)) }
+    ensures book { IfOk result (IsCertificate world.now (theorem_seen thm.now)) }
+    ensures proper { IfErr result (IsProperVerdict world.now (unscanned (bounds_of limits.now)) (theorem_seen thm.now)) }
     ensures open { IfErr result IsOpen }
-    ensures room { IfErr result (λ v. LeavesStores ⟦<Bdd as Meaning>⟧ ⟦<AigSat as Meaning>⟧ (unscanned (bounds_of limits.now)) (theorem_of thm.now) v room.new) }
+    ensures room { IfErr result (λ v. LeavesStores ⟦<Bdd as Meaning>⟧ ⟦<AigSat as Meaning>⟧ (unscanned (bounds_of limits.now)) (theorem_seen thm.now) v room.new) }
 {
     match covers(alloc, &thm.hyp, &thm.concl, &thm.bindings) {
         Ok(None) => certify_covered(alloc, world, thm, limits, room),
@@ -75,11 +75,11 @@ fn certify_covered(
     requires bound { AllAreBound (term_of thm.now.hyp) (term_of thm.now.concl) thm.now.bindings }
     requires mode { thm.now.mode ≡ Mode.Sat }
     requires some { 0 < width_of thm.now.bindings }
-    requires covered { IsCovered (theorem_of thm.now) }
-    ensures book { IfOk result (IsCertificate world.now (theorem_of thm.now)) }
-    ensures proper { IfErr result (IsProperVerdict world.now (unscanned (bounds_of limits.now)) (theorem_of thm.now)) }
+    requires covered { IsCovered (theorem_seen thm.now) }
+    ensures book { IfOk result (IsCertificate world.now (theorem_seen thm.now)) }
+    ensures proper { IfErr result (IsProperVerdict world.now (unscanned (bounds_of limits.now)) (theorem_seen thm.now)) }
     ensures open { IfErr result IsOpen }
-    ensures room { IfErr result (λ v. LeavesStores ⟦<Bdd as Meaning>⟧ ⟦<AigSat as Meaning>⟧ (unscanned (bounds_of limits.now)) (theorem_of thm.now) v room.new) }
+    ensures room { IfErr result (λ v. LeavesStores ⟦<Bdd as Meaning>⟧ ⟦<AigSat as Meaning>⟧ (unscanned (bounds_of limits.now)) (theorem_seen thm.now) v room.new) }
 {
     let (verdict, left) = decide_unscanned(alloc, world, thm, limits);
     *room = left;
@@ -138,9 +138,9 @@ fn decide_unscanned(alloc: Global, world: &World, thm: &Thm, limits: &Limits) ->
     requires functions { AreFunctionsOf world.now thm.now.memoized }
     requires bound { AllAreBound (term_of thm.now.hyp) (term_of thm.now.concl) thm.now.bindings }
     requires some { 0 < width_of thm.now.bindings }
-    requires covered { IsCovered (theorem_of thm.now) }
-    ensures proper { IsProperVerdict world.now (unscanned (bounds_of limits.now)) (theorem_of thm.now) result.0 }
-    ensures room { LeavesStores ⟦<Bdd as Meaning>⟧ ⟦<AigSat as Meaning>⟧ (unscanned (bounds_of limits.now)) (theorem_of thm.now) result.0 result.1 }
+    requires covered { IsCovered (theorem_seen thm.now) }
+    ensures proper { IsProperVerdict world.now (unscanned (bounds_of limits.now)) (theorem_seen thm.now) result.0 }
+    ensures room { LeavesStores ⟦<Bdd as Meaning>⟧ ⟦<AigSat as Meaning>⟧ (unscanned (bounds_of limits.now)) (theorem_seen thm.now) result.0 result.1 }
 {
     // every term of the world has a value, its first definitions are the ground ones, and no index is bound twice
     let _count = world.count();

@@ -8,7 +8,7 @@ ghost use Rattle.coverage.specs.Sound.{AllAreBound};
 ghost use Rattle.lisp_eval.specs.Machines.{AreFunctionsOf};
 ghost use Rattle.gl_decide.specs.Bounds.{bounds_of};
 ghost use Rattle.gl_decide.specs.Rooms.{LeavesStores};
-ghost use Rattle.gl_decide.specs.TheoremOf.{theorem_of};
+ghost use Rattle.shape_spec.specs.TheoremSeen.{theorem_seen};
 ghost use Rattle.gl_decide.specs.Verdicts.{IsCovered, IsProperVerdict};
 ghost use Rattle.gl_decide.specs.Answered.{IsCoveredIn, IsOtherwise, IsRefutedAt, IsStalled, IsStoppedAt};
 
@@ -51,8 +51,8 @@ pub fn decide_theorem<R: Threads + Sync>(
     requires functions { AreFunctionsOf world.now thm.now.memoized }
     requires bound { AllAreBound (term_of thm.now.hyp) (term_of thm.now.concl) thm.now.bindings }
     requires empty { room.old ≡ Room.Empty }
-    ensures proper { IsProperVerdict world.now (bounds_of limits.now) (theorem_of thm.now) result }
-    ensures room { LeavesStores ⟦<Bdd as Meaning>⟧ ⟦<AigSat as Meaning>⟧ (bounds_of limits.now) (theorem_of thm.now) result room.new }
+    ensures proper { IsProperVerdict world.now (bounds_of limits.now) (theorem_seen thm.now) result }
+    ensures room { LeavesStores ⟦<Bdd as Meaning>⟧ ⟦<AigSat as Meaning>⟧ (bounds_of limits.now) (theorem_seen thm.now) result room.new }
 {
     match covers(alloc, &thm.hyp, &thm.concl, &thm.bindings) {
         Ok(None) => {
@@ -77,9 +77,9 @@ fn decide_covered<R: Threads + Sync>(
     requires concl { IsTermOf world.now.definitions (term_of thm.now.concl) }
     requires functions { AreFunctionsOf world.now thm.now.memoized }
     requires bound { AllAreBound (term_of thm.now.hyp) (term_of thm.now.concl) thm.now.bindings }
-    requires covered { IsCovered (theorem_of thm.now) }
-    ensures proper { IsProperVerdict world.now (bounds_of limits.now) (theorem_of thm.now) result.0 }
-    ensures room { LeavesStores ⟦<Bdd as Meaning>⟧ ⟦<AigSat as Meaning>⟧ (bounds_of limits.now) (theorem_of thm.now) result.0 result.1 }
+    requires covered { IsCovered (theorem_seen thm.now) }
+    ensures proper { IsProperVerdict world.now (bounds_of limits.now) (theorem_seen thm.now) result.0 }
+    ensures room { LeavesStores ⟦<Bdd as Meaning>⟧ ⟦<AigSat as Meaning>⟧ (bounds_of limits.now) (theorem_seen thm.now) result.0 result.1 }
 {
     // every term of the world has a value, its first definitions are the ground ones, and no index is bound twice
     let _count = world.count();
@@ -104,10 +104,10 @@ fn give_up<R: Threads + Sync>(
     limits: &Limits,
     cause: StallCause,
 ) -> Verdict
-    requires covered { IsCoveredIn world.now (theorem_of thm.now) }
+    requires covered { IsCoveredIn world.now (theorem_seen thm.now) }
     requires functions { AreFunctionsOf world.now thm.now.memoized }
-    ensures scanned { width_of thm.now.bindings ≤ limits.now.enum_bits → IsProperVerdict world.now (bounds_of limits.now) (theorem_of thm.now) result }
-    ensures wide { limits.now.enum_bits < width_of thm.now.bindings → IsOtherwise world.now (bounds_of limits.now) (theorem_of thm.now) cause result }
+    ensures scanned { width_of thm.now.bindings ≤ limits.now.enum_bits → IsProperVerdict world.now (bounds_of limits.now) (theorem_seen thm.now) result }
+    ensures wide { limits.now.enum_bits < width_of thm.now.bindings → IsOtherwise world.now (bounds_of limits.now) (theorem_seen thm.now) cause result }
 {
     if bit_count(&thm.bindings) <= u32::from(limits.enum_bits) {
         decide_by_scan(rt, alloc, world, thm, limits)
@@ -121,7 +121,7 @@ fn give_up<R: Threads + Sync>(
 
 /// The verdict that a decision ran out.
 pub(crate) fn stalled(world: &World, thm: &Thm, cause: StallCause) -> Verdict
-    ensures { IsStalled world.now (theorem_of thm.now) cause result }
+    ensures { IsStalled world.now (theorem_seen thm.now) cause result }
 {
     let stall = make_stall(cause, world, thm);
     match cause {
@@ -138,10 +138,10 @@ fn decide_by_scan<R: Threads + Sync>(
     thm: &Thm,
     limits: &Limits,
 ) -> Verdict
-    requires covered { IsCoveredIn world.now (theorem_of thm.now) }
+    requires covered { IsCoveredIn world.now (theorem_seen thm.now) }
     requires functions { AreFunctionsOf world.now thm.now.memoized }
     requires few { width_of thm.now.bindings ≤ limits.now.enum_bits }
-    ensures { IsProperVerdict world.now (bounds_of limits.now) (theorem_of thm.now) result }
+    ensures { IsProperVerdict world.now (bounds_of limits.now) (theorem_seen thm.now) result }
 {
     // at most 16 indices are scanned
     let _bits = limits.enum_bits;
@@ -156,7 +156,7 @@ fn decide_by_scan<R: Threads + Sync>(
 
 /// The verdict that a number's input refutes.
 fn refuted(alloc: Global, thm: &Thm, number: u32) -> Verdict
-    ensures { IsRefutedAt (theorem_of thm.now) number result }
+    ensures { IsRefutedAt (theorem_seen thm.now) number result }
 {
     match input_numbered(alloc, &thm.bindings, u64::from(number)) {
         Ok(input) => Verdict::Refuted(input),
@@ -166,7 +166,7 @@ fn refuted(alloc: Global, thm: &Thm, number: u32) -> Verdict
 
 /// The verdict that a part has no answer on a number's input.
 fn stopped(alloc: Global, thm: &Thm, number: u32, part: Part, fault: EvalFault) -> Verdict
-    ensures { IsStoppedAt (theorem_of thm.now) number part fault result }
+    ensures { IsStoppedAt (theorem_seen thm.now) number part fault result }
 {
     let Ok(input) = input_numbered(alloc, &thm.bindings, u64::from(number)) else {
         return Verdict::Memory;

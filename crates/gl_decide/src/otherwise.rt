@@ -3,7 +3,7 @@
 ghost use Rattle.std.specs.Prelude.{◌≢◌, IfSome};
 ghost use Rattle.lisp_eval.specs.Machines.{AreFunctionsOf};
 ghost use Rattle.gl_decide.specs.Bounds.{bounds_of};
-ghost use Rattle.gl_decide.specs.TheoremOf.{theorem_of};
+ghost use Rattle.shape_spec.specs.TheoremSeen.{theorem_seen};
 ghost use Rattle.gl_decide.specs.Answered.{IsCoveredIn, IsDecidedOtherwise};
 
 use super::verdict::Verdict;
@@ -22,9 +22,9 @@ pub(crate) fn decide_otherwise(
     thm: &Thm,
     limits: &Limits,
 ) -> Option<Verdict>
-    requires covered { IsCoveredIn world.now (theorem_of thm.now) }
+    requires covered { IsCoveredIn world.now (theorem_seen thm.now) }
     requires functions { AreFunctionsOf world.now thm.now.memoized }
-    ensures { IfSome result (IsDecidedOtherwise world.now (bounds_of limits.now) (theorem_of thm.now)) }
+    ensures { IfSome result (IsDecidedOtherwise world.now (bounds_of limits.now) (theorem_seen thm.now)) }
 {
     match thm.mode {
         Mode::Bdd => match decide_in(alloc, world, thm, Mode::Param, limits) {
@@ -44,10 +44,10 @@ fn decide_in(
     mode: Mode,
     limits: &Limits,
 ) -> Option<Verdict>
-    requires covered { IsCoveredIn world.now (theorem_of thm.now) }
+    requires covered { IsCoveredIn world.now (theorem_seen thm.now) }
     requires functions { AreFunctionsOf world.now thm.now.memoized }
     requires mode { thm.now.mode ≢ Mode.Sat }
-    ensures { IfSome result (IsDecidedOtherwise world.now (bounds_of limits.now) (theorem_of thm.now)) }
+    ensures { IfSome result (IsDecidedOtherwise world.now (bounds_of limits.now) (theorem_seen thm.now)) }
 {
     let (decision, _room) = run_in_mode(alloc, world, thm, mode, limits);
     match cause_of(&decision, limits) {

@@ -4,7 +4,7 @@ ghost use Rattle.std.specs.Prelude.{◌≡◌, ◌<◌, ◌≤◌, [], IfOk};
 ghost use Rattle.gl_logic.specs.TermOf.{term_of};
 ghost use Rattle.gl_logic.specs.IsTermOf.{IsTermOf};
 ghost use Rattle.lisp_eval.specs.Machines.{AreFunctionsOf};
-ghost use Rattle.gl_decide.specs.TheoremOf.{theorem_of};
+ghost use Rattle.shape_spec.specs.TheoremSeen.{theorem_seen};
 ghost use Rattle.gl_decide.specs.Scans.{IsProperAmong};
 ghost use Rattle.gl_decide.specs.Trials.{IsReady};
 ghost use Rattle.gl_decide.specs.Pieces.{Follow};
@@ -49,7 +49,7 @@ pub(crate) fn scan_piece(
     requires hyp { IsTermOf world.now.definitions (term_of thm.now.hyp) }
     requires concl { IsTermOf world.now.definitions (term_of thm.now.concl) }
     requires functions { AreFunctionsOf world.now thm.now.memoized }
-    ensures { IsProperAmong world.now limits.now.steps limits.now.cells (theorem_of thm.now) piece.first piece.end result }
+    ensures { IsProperAmong world.now limits.now.steps limits.now.cells (theorem_seen thm.now) piece.first piece.end result }
 {
     // every term of the world has a value
     let _count = world.count();
@@ -74,9 +74,9 @@ fn scan_with(
 ) -> Scan
     requires hyp { IsTermOf world.now.definitions (term_of thm.now.hyp) }
     requires concl { IsTermOf world.now.definitions (term_of thm.now.concl) }
-    requires ready { IsReady world.now (theorem_of thm.now) machine.old }
+    requires ready { IsReady world.now (theorem_seen thm.now) machine.old }
     requires some { first ≤ end }
-    ensures { IsProperAmong world.now machine.old.steps machine.old.arena.limit (theorem_of thm.now) first end result }
+    ensures { IsProperAmong world.now machine.old.steps machine.old.arena.limit (theorem_seen thm.now) first end result }
 {
     let mut met = false;
     for number in first..end {

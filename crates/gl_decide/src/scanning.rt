@@ -6,7 +6,7 @@ ghost use Rattle.gl_logic.specs.IsTermOf.{IsTermOf};
 ghost use Rattle.shape_spec.specs.Indices.{width_of};
 ghost use Rattle.lisp_eval.specs.Machines.{AreFunctionsOf};
 ghost use Rattle.gl_decide.specs.Bounds.{bounds_of};
-ghost use Rattle.gl_decide.specs.TheoremOf.{theorem_of};
+ghost use Rattle.shape_spec.specs.TheoremSeen.{theorem_seen};
 ghost use Rattle.gl_decide.specs.Scans.{IsProperScan};
 ghost use Rattle.gl_decide.specs.Pieces.{IsProperOf};
 ghost use Rattle.gl_decide.specs.Trials.{IsOfWorld};
@@ -48,11 +48,11 @@ fn answers<R: Threads + Sync, G: Gate>(
     requires concl { IsTermOf world.now.definitions (term_of thm.now.concl) }
     requires functions { AreFunctionsOf world.now thm.now.memoized }
     ensures count { IfOk result (λ v. vec_len v ≡ vec_len pieces) }
-    ensures each { IfOk result (λ v. (i : ℕ) (p : PieceSeen) (a : ScanSeen) → i < length pieces.items → IsProperOf world.now limits.now.steps limits.now.cells (theorem_of thm.now) (slice_index_or pieces.items i p) (slice_index_or v.items i a)) }
+    ensures each { IfOk result (λ v. (i : ℕ) (p : PieceSeen) (a : ScanSeen) → i < length pieces.items → IsProperOf world.now limits.now.steps limits.now.cells (theorem_seen thm.now) (slice_index_or pieces.items i p) (slice_index_or v.items i a)) }
 {
     let each = |piece: Piece| -> Scan
-        requires { IsOfWorld world.now (theorem_of thm.now) }
-        ensures { IsProperOf world.entry.now limits.entry.now.steps limits.entry.now.cells (theorem_of thm.entry.now) piece result }
+        requires { IsOfWorld world.now (theorem_seen thm.now) }
+        ensures { IsProperOf world.entry.now limits.entry.now.steps limits.entry.now.cells (theorem_seen thm.entry.now) piece result }
     {
         gate.enter(u64::from(piece.number));
         scan_piece(alloc, world, thm, limits, piece)
@@ -76,8 +76,8 @@ pub fn scan<R: Threads + Sync, G: Gate>(
     requires hyp { IsTermOf world.now.definitions (term_of thm.now.hyp) }
     requires concl { IsTermOf world.now.definitions (term_of thm.now.concl) }
     requires functions { AreFunctionsOf world.now thm.now.memoized }
-    requires width { width_of (theorem_of thm.now).bindings ≤ 16 }
-    ensures { IsProperScan world.now (bounds_of limits.now) (theorem_of thm.now) result }
+    requires width { width_of (theorem_seen thm.now).bindings ≤ 16 }
+    ensures { IsProperScan world.now (bounds_of limits.now) (theorem_seen thm.now) result }
 {
     let count = power_of_two(bit_count(&thm.bindings));
     let Ok(pieces) = pieces_of(alloc, count, u32::from(limits.workers)) else {

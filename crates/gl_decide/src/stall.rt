@@ -2,7 +2,7 @@
 
 ghost use Rattle.std.specs.Prelude.{◌≡◌, ◌<◌, [], ◌++◌, ◌∷◌, OnOk, OnErr, length, slice_get, Some};
 ghost use Rattle.gl_decide.specs.Stalls.{IsStallOf};
-ghost use Rattle.gl_decide.specs.TheoremOf.{theorem_of};
+ghost use Rattle.shape_spec.specs.TheoremSeen.{theorem_seen};
 
 use gl_logic::{NoMemory, World};
 use shape_spec::Thm;
@@ -31,13 +31,13 @@ pub struct Stall {
 
 impl Model for Stall {
     ghost use Rattle.gl_decide.specs.Stalls.{StallSeen, coded_stall};
-    ghost use Rattle.gl_decide.specs.TheoremOf.{theorem_of};
+    ghost use Rattle.shape_spec.specs.TheoremSeen.{theorem_seen};
 
     ghost Value = { StallSeen };
 
     ghost coded = { coded_stall };
 
-    ghost view = { λ s. record { cause = s.cause; theorem = theorem_of s.thm.value; definitions = s.world.value.definitions; constants = s.world.value.constants } };
+    ghost view = { λ s. record { cause = s.cause; theorem = theorem_seen s.thm.value; definitions = s.world.value.definitions; constants = s.world.value.constants } };
 }
 
 impl Stall {
@@ -51,7 +51,7 @@ impl Stall {
 
 /// The stall of a decision on a theorem in a world.
 pub(crate) fn make_stall(cause: StallCause, world: &World, thm: &Thm) -> Stall
-    ensures { IsStallOf world.now (theorem_of thm.now) cause result }
+    ensures { IsStallOf world.now (theorem_seen thm.now) cause result }
 {
     Stall {
         cause,

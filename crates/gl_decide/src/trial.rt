@@ -7,8 +7,8 @@ ghost use Rattle.shape_spec.specs.Theorems.{IsMet};
 ghost use Rattle.lisp_eval.specs.Answers.{IsLiveBinding};
 ghost use Rattle.lisp_eval.specs.States.{env_of};
 ghost use Rattle.gl_decide.specs.Placed.{Rests};
-ghost use Rattle.gl_decide.specs.Theorem.{input_at};
-ghost use Rattle.gl_decide.specs.TheoremOf.{theorem_of};
+ghost use Rattle.shape_spec.specs.TheoremSeen.{theorem_seen};
+ghost use Rattle.gl_decide.specs.TheoremAt.{input_at};
 ghost use Rattle.gl_decide.specs.Trials.{IsReady, HoldsInput, IsInputOf, IsProperTrial};
 
 use super::trial_input::{place_input, truth};
@@ -33,11 +33,11 @@ pub enum Trial {
 /// What the conclusion tells on an input that meets the hypothesis.
 fn concluded(machine: &mut Machine, world: &World, thm: &Thm, env: &Env) -> Trial
     requires concl { IsTermOf world.now.definitions (term_of thm.now.concl) }
-    requires holds { HoldsInput world.now (theorem_of thm.now) (env_of machine.old.arena.objects env.now) machine.old }
+    requires holds { HoldsInput world.now (theorem_seen thm.now) (env_of machine.old.arena.objects env.now) machine.old }
     requires env { All (IsLiveBinding machine.old.arena.objects) env.now }
-    requires input { IsInputOf (theorem_of thm.now) (env_of machine.old.arena.objects env.now) }
+    requires input { IsInputOf (theorem_seen thm.now) (env_of machine.old.arena.objects env.now) }
     requires met { IsMet world.now.definitions (term_of thm.now.hyp) (env_of machine.old.arena.objects env.now) }
-    ensures trial { IsProperTrial world.now machine.old.steps machine.old.arena.limit (theorem_of thm.now) (env_of machine.old.arena.objects env.now) result }
+    ensures trial { IsProperTrial world.now machine.old.steps machine.old.arena.limit (theorem_seen thm.now) (env_of machine.old.arena.objects env.now) result }
     ensures rests { Rests world.now machine.old machine.new }
 {
     match truth(machine, world, &thm.concl, env) {
@@ -51,10 +51,10 @@ fn concluded(machine: &mut Machine, world: &World, thm: &Thm, env: &Env) -> Tria
 fn tried_on(machine: &mut Machine, world: &World, thm: &Thm, env: &Env) -> Trial
     requires hyp { IsTermOf world.now.definitions (term_of thm.now.hyp) }
     requires concl { IsTermOf world.now.definitions (term_of thm.now.concl) }
-    requires holds { HoldsInput world.now (theorem_of thm.now) (env_of machine.old.arena.objects env.now) machine.old }
+    requires holds { HoldsInput world.now (theorem_seen thm.now) (env_of machine.old.arena.objects env.now) machine.old }
     requires env { All (IsLiveBinding machine.old.arena.objects) env.now }
-    requires input { IsInputOf (theorem_of thm.now) (env_of machine.old.arena.objects env.now) }
-    ensures trial { IsProperTrial world.now machine.old.steps machine.old.arena.limit (theorem_of thm.now) (env_of machine.old.arena.objects env.now) result }
+    requires input { IsInputOf (theorem_seen thm.now) (env_of machine.old.arena.objects env.now) }
+    ensures trial { IsProperTrial world.now machine.old.steps machine.old.arena.limit (theorem_seen thm.now) (env_of machine.old.arena.objects env.now) result }
     ensures rests { Rests world.now machine.old machine.new }
 {
     match truth(machine, world, &thm.hyp, env) {
@@ -74,8 +74,8 @@ pub(crate) fn tried(
 ) -> Trial
     requires hyp { IsTermOf world.now.definitions (term_of thm.now.hyp) }
     requires concl { IsTermOf world.now.definitions (term_of thm.now.concl) }
-    requires ready { IsReady world.now (theorem_of thm.now) machine.old }
-    ensures trial { IsProperTrial world.now machine.old.steps machine.old.arena.limit (theorem_of thm.now) (input_at (theorem_of thm.now) number) result }
+    requires ready { IsReady world.now (theorem_seen thm.now) machine.old }
+    ensures trial { IsProperTrial world.now machine.old.steps machine.old.arena.limit (theorem_seen thm.now) (input_at (theorem_seen thm.now) number) result }
     ensures rests { Rests world.now machine.old machine.new }
 {
     let Ok(input) = input_numbered(alloc, &thm.bindings, number) else {

@@ -3,7 +3,7 @@
 ghost use Rattle.std.specs.Prelude.{◌≡◌, IfOk, MatchOption};
 ghost use Rattle.gl_decide.specs.Answered.{HasAssignment, HasVerdict, IsRunOut, IsTold};
 ghost use Rattle.gl_decide.specs.Bounds.{bounds_of};
-ghost use Rattle.gl_decide.specs.TheoremOf.{theorem_of};
+ghost use Rattle.shape_spec.specs.TheoremSeen.{theorem_seen};
 
 use super::stall::StallCause;
 use super::verdict::Verdict;
@@ -31,8 +31,8 @@ pub(crate) fn cause_of(decision: &Decision, limits: &Limits) -> Option<StallCaus
 /// `NoMemory` where memory was refused.
 pub(crate) fn verdict_of(alloc: Global, thm: &Thm, decision: Decision) -> Result<Verdict, NoMemory>
     requires decided { HasVerdict decision }
-    requires assignment { HasAssignment (theorem_of thm.now) decision }
-    ensures { IfOk result (IsTold (theorem_of thm.now) decision) }
+    requires assignment { HasAssignment (theorem_seen thm.now) decision }
+    ensures { IfOk result (IsTold (theorem_seen thm.now) decision) }
 {
     let b = &thm.bindings;
     match decision {

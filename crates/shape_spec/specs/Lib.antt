@@ -3,6 +3,7 @@ pub mod ShapeOf
 pub mod Indices
 pub mod InputMeant
 pub mod Theorems
+pub mod TheoremSeen
 pub mod BindingOf
 pub mod Heads
 pub mod ShapeMeant

@@ -1,6 +1,6 @@
 use Rattle.std.proofs.Common.{◌≡◌, ◌∙◌, ap, sym, suc, ◌+◌, drop, arith, true, false}
 use Rattle.std.specs.List.{list_all}
-use Rattle.gl_cases.specs.TheoremSeen.{theorem_seen}
+use Rattle.shape_spec.specs.TheoremSeen.{theorem_seen}
 use Rattle.event_world.specs.CasesMeant.{binds_its_own}
 use Rattle.event_world.proofs.KeptNames.{all_next, all_not, both_false}
 use Rattle.event_world.proofs.cases.are_bound.Goals as goal

@@ -1,7 +1,7 @@
 use Rattle.std.proofs.Common.{◌≡◌, ◌+◌, ◌≤◌, sym, subst, length, List, take, arith}
 use Rattle.std.proofs.lemmas.Result.{IfOk-weaker}
 use Rattle.gl_cases.specs.ParamMade.{param_seen}
-use Rattle.gl_cases.specs.TheoremSeen.{theorem_seen}
+use Rattle.shape_spec.specs.TheoremSeen.{theorem_seen}
 use Rattle.gl_decide.specs.Bounds.{bounds_of}
 use Rattle.gl_decide.specs.declared.verdict.Verdict.{Verdict}
 use Rattle.gl_book.specs.Cases.{AreProperVerdicts}

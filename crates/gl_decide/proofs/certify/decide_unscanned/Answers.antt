@@ -4,7 +4,7 @@ use Rattle.std.proofs.Common.{arith, inr}
 use Rattle.gl_decide.specs.Answered.{IsCoveredIn}
 use Rattle.gl_decide.specs.Certificates.{unscanned}
 use Rattle.gl_decide.specs.Bounds.{bounds_of}
-use Rattle.gl_decide.specs.TheoremOf.{theorem_of}
+use Rattle.shape_spec.specs.TheoremSeen.{theorem_seen}
 use Rattle.gl_decide.proofs.Left.{ran_out}
 use Rattle.gl_decide.proofs.Symbolic.{told_proper}
 use Rattle.gl_decide.proofs.certify.decide_unscanned.Goals as goal
@@ -21,5 +21,5 @@ returns-in-Some-clause-room c =
 
 pub returns-in-Ok-clause-proper : goal.returns-in-Ok-clause-proper
 returns-in-Ok-clause-proper c =
-    let known : IsCoveredIn c.args.world.now (theorem_of c.args.thm.now) = record { ground = c.ground_calls.ensures.worlds _ _ c.count-count.ensures.world; total = c.count-count.ensures.total; hyp = c.requires.hyp; concl = c.requires.concl; bindings = c.bit_count-bits.ensures.proper; bound = c.requires.bound; covered = c.requires.covered } in
+    let known : IsCoveredIn c.args.world.now (theorem_seen c.args.thm.now) = record { ground = c.ground_calls.ensures.worlds _ _ c.count-count.ensures.world; total = c.count-count.ensures.total; hyp = c.requires.hyp; concl = c.requires.concl; bindings = c.bit_count-bits.ensures.proper; bound = c.requires.bound; covered = c.requires.covered } in
     told_proper c.args.world.now (unscanned (bounds_of c.args.limits.now)) c.args.thm.now known c.decide_in_mode-decision.result.0 c.in-Ok.verdict c.decide_in_mode-decision.ensures.proper c.in-Ok.ensures

@@ -2,7 +2,7 @@ use Rattle.bdd_store.specs.contracts.bits.BddMeaning.TheImpl as diagrams
 use Rattle.sat_core.specs.contracts.store.AigSatMeaning.TheImpl as search_graphs
 use Rattle.gl_decide.specs.Answered.{IsCoveredIn}
 use Rattle.gl_decide.specs.Bounds.{bounds_of}
-use Rattle.gl_decide.specs.TheoremOf.{theorem_of}
+use Rattle.shape_spec.specs.TheoremSeen.{theorem_seen}
 use Rattle.gl_decide.proofs.Left.{ran_out}
 use Rattle.gl_decide.proofs.Symbolic.{told_proper}
 use Rattle.gl_decide.proofs.decide.decide_covered.Goals as goal
@@ -22,5 +22,5 @@ returns-in-Some-clause-room g c =
 
 pub returns-in-Ok-clause-proper : goal.returns-in-Ok-clause-proper
 returns-in-Ok-clause-proper g c =
-    let known : IsCoveredIn c.args.world.now (theorem_of c.args.thm.now) = record { ground = c.ground_calls.ensures.worlds _ _ c.count-count.ensures.world; total = c.count-count.ensures.total; hyp = c.requires.hyp; concl = c.requires.concl; bindings = c.bit_count-bits.ensures.proper; bound = c.requires.bound; covered = c.requires.covered } in
+    let known : IsCoveredIn c.args.world.now (theorem_seen c.args.thm.now) = record { ground = c.ground_calls.ensures.worlds _ _ c.count-count.ensures.world; total = c.count-count.ensures.total; hyp = c.requires.hyp; concl = c.requires.concl; bindings = c.bit_count-bits.ensures.proper; bound = c.requires.bound; covered = c.requires.covered } in
     told_proper c.args.world.now (bounds_of c.args.limits.now) c.args.thm.now known c.decide_in_mode-decision.result.0 c.in-Ok.verdict c.decide_in_mode-decision.ensures.proper c.in-Ok.ensures

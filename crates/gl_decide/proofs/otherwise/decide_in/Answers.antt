@@ -1,5 +1,5 @@
 use Rattle.gl_decide.specs.Bounds.{bounds_of}
-use Rattle.gl_decide.specs.TheoremOf.{theorem_of}
+use Rattle.shape_spec.specs.TheoremSeen.{theorem_seen}
 use Rattle.gl_decide.proofs.Left.{told_answered}
 use Rattle.gl_decide.proofs.Symbolic.{told_proper}
 use Rattle.gl_decide.proofs.otherwise.decide_in.Goals as goal
@@ -11,6 +11,6 @@ returns-in-Ok c =
     let d = c.run_in_mode-decision in
     record {
       own = c.requires.mode;
-      answered = told_answered (theorem_of t) d.result.0 c.in-Ok.verdict c.in-Ok.ensures;
+      answered = told_answered (theorem_seen t) d.result.0 c.in-Ok.verdict c.in-Ok.ensures;
       proper = told_proper w (bounds_of c.args.limits.now) t c.requires.covered d.result.0 c.in-Ok.verdict d.ensures.proper c.in-Ok.ensures;
     }

@@ -1,7 +1,7 @@
 use Rattle.std.proofs.Common.{◌≡◌, ◌∙◌, sym, subst, ℕ, ◌+◌, ◌≤◌, true, Bool, arith}
 use Rattle.std.specs.Prelude.{◌↔◌}
-use Rattle.gl_decide.specs.Theorem.{input_at}
-use Rattle.gl_decide.specs.TheoremOf.{theorem_of}
+use Rattle.shape_spec.specs.TheoremSeen.{theorem_seen}
+use Rattle.gl_decide.specs.TheoremAt.{input_at}
 use Rattle.gl_decide.specs.Scans.{NoneRefutes, SomeMeets}
 use Rattle.gl_decide.specs.Verdicts.{Refutes}
 use Rattle.gl_decide.specs.Trials.{IsProperTrial}
@@ -14,7 +14,7 @@ use Rattle.gl_decide.proofs.pieces.scan_with.Goals.{in-Unmet, in-Passes}
 pub loop-number-preserved : goal.loop-number-preserved
 loop-number-preserved c =
     let w = c.args.world.now in
-    let thm = theorem_of c.args.thm.now in
+    let thm = theorem_seen c.args.thm.now in
     let first = c.args.first in
     let n = c.loop-number.number in
     let env = input_at thm n in
@@ -45,12 +45,12 @@ loop-number-preserved c =
     ]
 
 pub returns-in-Refutes : goal.returns-in-Refutes
-returns-in-Refutes c = (omega (arith, c.loop-number.auto.number, c.requires.some), c.loop-number-test.true, subst (λ (k : ℕ). Refutes c.args.world.now (theorem_of c.args.thm.now) (input_at (theorem_of c.args.thm.now) k)) c.from.ensures c.in-Refutes.ensures.trial, c.loop-number.invariant.none)
+returns-in-Refutes c = (omega (arith, c.loop-number.auto.number, c.requires.some), c.loop-number-test.true, subst (λ (k : ℕ). Refutes c.args.world.now (theorem_seen c.args.thm.now) (input_at (theorem_seen c.args.thm.now) k)) c.from.ensures c.in-Refutes.ensures.trial, c.loop-number.invariant.none)
 
 pub returns : goal.returns
 returns c =
     let w = c.args.world.now in
-    let thm = theorem_of c.args.thm.now in
+    let thm = theorem_seen c.args.thm.now in
     let all : c.loop-number.number ≡ c.args.end = omega (arith, c.loop-number-test.false, c.loop-number.auto.number-end, c.requires.some) in (
       subst (NoneRefutes w thm c.args.first) all c.loop-number.invariant.none,
       subst (λ (e : ℕ). (c.loop-number.met ≡ true) ↔ SomeMeets w thm c.args.first e) all c.loop-number.invariant.some,

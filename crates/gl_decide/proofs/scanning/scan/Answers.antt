@@ -1,6 +1,6 @@
 use Rattle.std.proofs.Common.{◌≡◌, ◌∙◌, ap, sym, subst, ℕ, ◌^◌, false, rules, length}
 use Rattle.shape_spec.specs.Indices.{width_of}
-use Rattle.gl_decide.specs.TheoremOf.{theorem_of}
+use Rattle.shape_spec.specs.TheoremSeen.{theorem_seen}
 use Rattle.gl_decide.specs.Scans.{IsProperAmong}
 use Rattle.gl_decide.specs.Pieces.{joined_with}
 use Rattle.gl_decide.proofs.Ranges.{none_yet, some_yet, all_proper, joined_proper}
@@ -9,7 +9,7 @@ use Rattle.gl_decide.proofs.scanning.scan.Goals as goal
 pub returns-in-Ok-answers : goal.returns-in-Ok-answers
 returns-in-Ok-answers g c =
     let w = c.args.world.now in
-    let thm = theorem_of c.args.thm.now in
+    let thm = theorem_seen c.args.thm.now in
     let steps = c.args.limits.now.steps in
     let cells = c.args.limits.now.cells in
     let count = c.power_of_two-count.result in

@@ -1,7 +1,7 @@
 use Rattle.std.proofs.Common.{◌∙◌, sym, subst, ℕ, List}
 use Rattle.gl_logic.specs.Object.{Object}
-use Rattle.gl_decide.specs.Theorem.{input_at}
-use Rattle.gl_decide.specs.TheoremOf.{theorem_of}
+use Rattle.shape_spec.specs.TheoremSeen.{theorem_seen}
+use Rattle.gl_decide.specs.TheoremAt.{input_at}
 use Rattle.gl_decide.specs.Placed.{LacksCells}
 use Rattle.gl_decide.specs.Trials.{HoldsInput}
 use Rattle.gl_decide.proofs.Tried.{stopped_placing, trial_at, grown_at}
@@ -11,7 +11,7 @@ use Rattle.gl_decide.proofs.trial.tried.Goals as goal
 pub tried_on-trial-requires-clause-holds : goal.tried_on-trial-requires-clause-holds
 tried_on-trial-requires-clause-holds c =
     let w = c.args.world.now in
-    let thm = theorem_of c.args.thm.now in
+    let thm = theorem_seen c.args.thm.now in
     let mid = c.place_input.new.machine in
     let places = c.in-Ok-place_input.ensures.ok in
     subst (λ (i : List (ℕ × Object)). HoldsInput w thm i mid) (sym places.stands)
@@ -19,7 +19,7 @@ tried_on-trial-requires-clause-holds c =
 
 pub returns-in-Ok-place_input-clause-trial : goal.returns-in-Ok-place_input-clause-trial
 returns-in-Ok-place_input-clause-trial c =
-    let thm = theorem_of c.args.thm.now in
+    let thm = theorem_seen c.args.thm.now in
     let settings = c.place_input.ensures.settings in
     trial_at c.args.world.now thm _ _ _ _ _ (input_at thm c.args.number) c.tried_on-trial.result settings.steps settings.limit (c.in-Ok-place_input.ensures.ok.stands ∙ c.in-Ok.ensures) c.tried_on-trial.ensures.trial
 
@@ -37,7 +37,7 @@ returns-in-Ok-place_input-clause-rests c =
 pub returns-clause-trial : goal.returns-clause-trial
 returns-clause-trial c =
     let w = c.args.world.now in
-    let thm = theorem_of c.args.thm.now in
+    let thm = theorem_seen c.args.thm.now in
     let old = c.args.machine.now in
     let mid = c.place_input.new.machine in
     let lacks : LacksCells (input_at thm c.args.number) old mid c.in-Err.fault = subst (λ (i : List (ℕ × Object)). LacksCells i old mid c.in-Err.fault) c.in-Ok.ensures c.in-Err.ensures.err in

@@ -1,5 +1,5 @@
 use Rattle.gl_cases.specs.ParamMade.{param_seen}
-use Rattle.gl_cases.specs.TheoremSeen.{theorem_seen}
+use Rattle.shape_spec.specs.TheoremSeen.{theorem_seen}
 use Rattle.gl_book.specs.Tasks.{tasks_in}
 use Rattle.gl_book.proofs.Gathered.{cases_next}
 use Rattle.gl_book.proofs.task.Tasks.add.Goals as goal

@@ -1,6 +1,6 @@
 use Rattle.std.proofs.Common.{◌≡◌, ◌∷◌, ◌++◌, take}
 use Rattle.event_world.specs.EventSeen.{Theorem}
-use Rattle.gl_cases.specs.TheoremSeen.{theorem_seen}
+use Rattle.shape_spec.specs.TheoremSeen.{theorem_seen}
 use Rattle.gl_book.specs.Phases.{new_job}
 use Rattle.gl_book.specs.Tasks.{tasks_in, theorem_tasks}
 use Rattle.gl_book.proofs.task.Tasks.add.Given as goal
