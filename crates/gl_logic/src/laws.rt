@@ -22,7 +22,7 @@ pub fn value_is_unique()
 {}
 
 /// Environments that give a term's free variables the same objects give it the same walk, and so the
-/// same value and the same counts.
+/// same value, visits and calls. Cells are also those of the environment's other objects.
 pub fn free_variables_decide()
     ensures { (definitions : List Definition) (n : ℕ) (first second : List (ℕ × Object)) (t : Exp) → AgreeOn (is_free_in t) first second → walk definitions n first t ≡ walk definitions n second t }
 {}
