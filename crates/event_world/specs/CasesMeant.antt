@@ -144,14 +144,19 @@ abbrev pub param_bound : ParamSeen → Outcome ParamSeen
 param_bound thm = holds_or code.BadBindings (are_bound thm) (Ok thm)
 
 -- ---- checks 7 and 8, with the settings that a command has where it says nothing
+-- a theorem with these terms, where its bindings and those of its cases are some
+abbrev pub parts_claimed : List (List ℕ) → CasesParts → QuotedCases → Exp → Exp → Exp → Outcome ParamSeen
+parts_claimed names p q h c t =
+    found_or code.BadBindings (bindings_meant names p.cover) (λ b.
+    found_or code.BadBindings (all_meant (case_bound names q.mark) q.cases) (λ cs.
+    param_bound (parts_made (plain_theorem p.name h c) t b cs)))
+
 abbrev pub cases_claimed : List (List ℕ) → WorldSeen → CasesParts → QuotedCases → Outcome ParamSeen
 cases_claimed names w p q =
     and_then (hyp_meant names w p.hyp) (λ h.
     and_then (claim_meant names w p.concl) (λ c.
     and_then (claim_meant names w p.term) (λ t.
-    found_or code.BadBindings (bindings_meant names p.cover) (λ b.
-    found_or code.BadBindings (all_meant (case_bound names q.mark) q.cases) (λ cs.
-    param_bound (parts_made (plain_theorem p.name h c) t b cs))))))
+    parts_claimed names p q h c t)))
 
 -- ---- the checks in their order, by what stands behind `def-gl-param-thm`
 abbrev pub param_meant : List (List ℕ) → WorldSeen → Mode → List ℕ → List Object → Outcome EventSeen

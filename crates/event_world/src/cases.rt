@@ -4,15 +4,16 @@ ghost use Rattle.std.specs.Prelude.{◌≡◌, [], ◌∷◌, map, IfOk};
 ghost use Rattle.std.specs.Option.{option_map};
 ghost use Rattle.gl_logic.specs.Object.{Cons, nil};
 ghost use Rattle.gl_logic.specs.Names.{with_name};
+ghost use Rattle.gl_logic.specs.TermOf.{term_of};
 ghost use Rattle.gl_logic.specs.Wording.{all_meant};
 ghost use Rattle.shape_spec.specs.BindingsMeant.{bindings_meant};
 ghost use Rattle.shape_spec.specs.TheoremSeen.{theorem_seen};
 ghost use Rattle.gl_cases.specs.Parts.{case_seen};
-ghost use Rattle.gl_cases.specs.ParamMade.{param_seen};
+ghost use Rattle.gl_cases.specs.ParamMade.{param_seen, param_set};
 ghost use Rattle.event_world.specs.Outcomes.{Gives};
 ghost use Rattle.event_world.specs.Seen.{event_seen};
 ghost use Rattle.event_world.specs.FormsSeen.{cases_form_seen, case_form_seen, quoted_form_seen};
-ghost use Rattle.event_world.specs.CasesMeant.{case_bound as bound_case, binds_its_own as own_bound, are_bound as bound_are, cases_claimed, param_meant};
+ghost use Rattle.event_world.specs.CasesMeant.{case_bound as bound_case, binds_its_own as own_bound, are_bound as bound_are, parts_claimed, cases_claimed, param_meant};
 
 use super::bound::binds;
 use super::cases_form::{CaseForm, CasesForm, QuotedForm, cases_form, quoted_cases};
@@ -25,7 +26,7 @@ use super::theorem::hypothesis;
 use super::theorem_form::clocks;
 use super::translated::claim_term;
 use gl_cases::{Case, CaseList, ParamThm, copied_functions, param_of};
-use gl_logic::{NoMemory, Texts, Tree, World};
+use gl_logic::{NoMemory, Term, Texts, Tree, World};
 use shape_spec::{BindFault, Bindings, FnSet, Mode, Thm, bindings};
 use std::alloc::Global;
 
@@ -108,6 +109,32 @@ fn are_bound(alloc: Global, thm: &ParamThm) -> Result<bool, NoMemory>
     Ok(true)
 }
 
+/// A theorem by cases with these terms, where its bindings and those of its cases are some and bind its variables.
+fn with_terms(
+    alloc: Global,
+    texts: &Texts,
+    form: &CasesForm<'_>,
+    quoted: QuotedForm<'_>,
+    hyp: Term,
+    concl: Term,
+    term: Term,
+) -> Result<ParamThm, EventFault>
+    ensures { Gives param_seen (parts_claimed texts.now (cases_form_seen form.now) (quoted_form_seen quoted.entry) (term_of hyp) (term_of concl) (term_of term)) result }
+{
+    let Some(cover) = bindings_in(alloc, texts, form.cover)? else {
+        return Err(EventFault::BadBindings);
+    };
+    let Some(cases) = all_bound(alloc, texts, quoted.mark, quoted.cases)? else {
+        return Err(EventFault::BadBindings);
+    };
+    let thm = param_of(alloc, form.name, hyp, concl, term, cases, cover)?;
+    if are_bound(alloc, &thm)? {
+        Ok(thm)
+    } else {
+        Err(EventFault::BadBindings)
+    }
+}
+
 /// A theorem by cases that has passed the checks of its options, its cases and its name, with the settings that a
 /// command has where it says nothing.
 fn claimed(
@@ -124,18 +151,23 @@ fn claimed(
     let hyp = hypothesis(alloc, texts, world, form.hyp)?;
     let concl = claim_term(alloc, form.concl, world, texts)?;
     let term = claim_term(alloc, form.term, world, texts)?;
-    let Some(cover) = bindings_in(alloc, texts, form.cover)? else {
-        return Err(EventFault::BadBindings);
-    };
-    let Some(cases) = all_bound(alloc, texts, quoted.mark, quoted.cases)? else {
-        return Err(EventFault::BadBindings);
-    };
-    let thm = param_of(alloc, form.name, hyp, concl, term, cases, cover)?;
-    if are_bound(alloc, &thm)? {
-        Ok(thm)
-    } else {
-        Err(EventFault::BadBindings)
-    }
+    with_terms(alloc, texts, form, quoted, hyp, concl, term)
+}
+
+/// The theorem with these settings.
+fn with_settings(
+    alloc: Global,
+    thm: ParamThm,
+    clocks: (u32, u32),
+    mode: Mode,
+    memoized: &FnSet,
+) -> Result<ParamThm, NoMemory>
+    ensures { IfOk result (λ t. param_seen t ≡ param_set clocks.0 clocks.1 mode memoized.now (param_seen thm)) }
+{
+    let mut thm = thm;
+    let memoized = copied_functions(alloc, memoized)?;
+    thm.set(alloc, clocks.0, clocks.1, mode, memoized)?;
+    Ok(thm)
 }
 
 /// `(def-gl-param-thm n :hyp h :concl c :param-hyp p :param-bindings q :cov-bindings b ..)`, by what stands behind
@@ -164,8 +196,6 @@ pub(crate) fn by_cases(
     if is_taken(texts, world, form.name) {
         return Err(EventFault::Redefined);
     }
-    let memoized = copied_functions(alloc, memoized)?;
-    let mut thm = claimed(alloc, texts, world, &form, quoted)?;
-    thm.set(alloc, clocks.0, clocks.1, mode, memoized)?;
-    Ok(Event::Cases(thm))
+    let thm = claimed(alloc, texts, world, &form, quoted)?;
+    Ok(Event::Cases(with_settings(alloc, thm, clocks, mode, memoized)?))
 }
