@@ -9,6 +9,7 @@ ghost use Rattle.event_world.specs.Outcomes.{Gives};
 ghost use Rattle.event_world.specs.EventSeen.{Theorem};
 ghost use Rattle.event_world.specs.Seen.{event_seen, theorem_seen};
 ghost use Rattle.event_world.specs.EventWords.{behind_head};
+ghost use Rattle.event_world.specs.OpeningNames.{with_ground_words};
 ghost use Rattle.event_world.specs.NextState.{next_state, next_world, with_members};
 ghost use Rattle.event_world.specs.Suits.{Suits, HasAllGround, IsNewClique, IsNewDefinition, IsNewName, IsNewTheorem};
 ghost use Rattle.book_state.specs.Answerable.{IsAnswerable};
@@ -47,19 +48,16 @@ impl Model for State {
 }
 
 impl State {
-    /// The state of a book's first form: the ground definitions, BDD mode, and nothing memoized. The table gains their texts
-    /// and the empty one.
+    /// The state of a book's first form: the ground definitions, BDD mode, and nothing memoized. The table gains the empty
+    /// text and the words of the definitions.
     pub fn new(alloc: Global, texts: &mut Texts) -> Result<State, NoMemory>
         ensures first { IfOk result (IsFirstState texts.new) }
         ensures can_go_on { IfOk result CanGoOn }
         ensures empty { OnOk result (with_name texts.new [] ≡ texts.new) }
         ensures extends { Extends texts.old texts.new }
+        ensures names { OnOk result (texts.new ≡ with_ground_words texts.old) }
     {
         let world = prelude(alloc, texts)?;
-        // the table gains the empty text
-        let _empty = texts.id_of(b"")?;
-        // a text has one number alone
-        texts.is_table();
         // its definitions make a world
         let _count = world.count();
         Ok(State {

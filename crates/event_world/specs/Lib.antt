@@ -1,4 +1,5 @@
 pub mod PreludeTexts
+pub mod OpeningNames
 pub mod PreludeForms
 pub mod PreludeTerms
 pub mod PreludeRows

@@ -1,5 +1,5 @@
 -- How the ground definitions are spelled.
-use Rattle.std.specs.Prelude.{◌≡◌, ℕ, ◌-◌, Bool, ◌&&◌, ◌||◌, ◌==◌, leb, if◌then◌else◌, List, [], ◌∷◌, codes, Option, Some, None, slice_get, reverse, pos}
+use Rattle.std.specs.Prelude.{◌≡◌, ℕ, ◌-◌, Bool, ◌&&◌, ◌||◌, ◌==◌, leb, if◌then◌else◌, List, [], ◌∷◌, ◌++◌, codes, Option, Some, None, slice_get, reverse, pos}
 use Rattle.gl_logic.specs.Object.{Object, Int, Symbol, Cons}
 
 -- a form by its words, whatever their numbers in a table
@@ -80,3 +80,9 @@ reading (b ∷ bs) = before b (reading bs)
 -- the forms of a text, as a list
 abbrev pub forms_in : List ℕ → Source
 forms_in text = with_word (reading text).word (reading text).here
+
+-- the words of a form in the order in which they are read. A list ends in the word NIL
+abbrev pub words_read : Source → List (List ℕ)
+words_read (Word w) = w ∷ []
+words_read (Number n) = []
+words_read (Pair first rest) = words_read rest ++ words_read first

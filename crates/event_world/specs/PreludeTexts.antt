@@ -105,3 +105,19 @@ ground_formals =
     ∷ (codes "K" ∷ codes "A" ∷ [])
     ∷ (codes "K" ∷ codes "A" ∷ [])
     ∷ (codes "A" ∷ codes "ANS" ∷ []) ∷ []
+
+-- their words but NIL and T, each once, in the order in which they are read: each definition from its end to its front
+unfoldable pub ground_words : List (List ℕ)
+ground_words =
+    codes "X" ∷ codes "CONSP" ∷ codes "NOT" ∷ codes "ATOM" ∷ codes "ENDP" ∷ codes "EQUAL"
+    ∷ codes "NULL" ∷ codes "Y" ∷ codes "EQ" ∷ codes "EQL" ∷ codes "=" ∷ codes "HONS-EQUAL"
+    ∷ codes "<=" ∷ codes "INTEGERP" ∷ codes "IF" ∷ codes "ZP" ∷ codes "ZIP" ∷ codes "NATP"
+    ∷ codes "<" ∷ codes "POSP" ∷ codes "NFIX" ∷ codes "IFIX" ∷ codes "ZEROP" ∷ codes "PLUSP"
+    ∷ codes "MINUSP" ∷ codes "MIN" ∷ codes "MAX" ∷ codes "-" ∷ codes "ABS" ∷ codes "MOD"
+    ∷ codes "EVENP" ∷ codes "ODDP" ∷ codes "BOOLEANP" ∷ codes "Q" ∷ codes "P" ∷ codes "IMPLIES"
+    ∷ codes "IFF" ∷ codes "XOR" ∷ codes "CDR" ∷ codes "LEN" ∷ codes "+" ∷ codes "TRUE-LISTP"
+    ∷ codes "BINARY-APPEND" ∷ codes "CAR" ∷ codes "CONS" ∷ codes "L" ∷ codes "N" ∷ codes "NTH"
+    ∷ codes "NTHCDR" ∷ codes "V" ∷ codes "UPDATE-NTH" ∷ codes "MEMBER-EQUAL" ∷ codes "A" ∷ codes "ASSOC-EQUAL"
+    ∷ codes "FLOOR" ∷ codes "LOGCOUNT-NAT" ∷ codes "LOGNOT" ∷ codes "LOGCOUNT" ∷ codes "HONS" ∷ codes "HONS-COPY"
+    ∷ codes "K" ∷ codes "HONS-ACONS" ∷ codes "MAKE-FAST-ALIST" ∷ codes "FAST-ALIST-FREE" ∷ codes "HONS-ASSOC-EQUAL" ∷ codes "AND"
+    ∷ codes "HONS-GET" ∷ codes "ANS" ∷ codes "FAST-ALIST-FORK" ∷ []

@@ -1,8 +1,8 @@
 //! Reading of the ground definitions.
 
-ghost use Rattle.std.specs.Prelude.{◌≡◌, ℕ, List, IfOk};
-ghost use Rattle.gl_logic.specs.Names.{Extends, IsTable};
-ghost use Rattle.event_world.specs.PreludeForms.{Source, Spells, AreAround, digit_in, leaf as leaf_read, with_word as word_read, opened_into, before_break, is_between as between_is, forms_in};
+ghost use Rattle.std.specs.Prelude.{◌≡◌, ℕ, List, [], IfOk, OnOk, fold};
+ghost use Rattle.gl_logic.specs.Names.{Extends, IsTable, with_name};
+ghost use Rattle.event_world.specs.PreludeForms.{Source, Spells, AreAround, digit_in, leaf as leaf_read, with_word as word_read, opened_into, before_break, is_between as between_is, reading, forms_in, words_read};
 
 use gl_logic::{NoMemory, Texts, Tree};
 use std::alloc::Global;
@@ -29,6 +29,7 @@ fn digit(word: &[u8]) -> Option<u8>
 fn leaf(word: &[u8], texts: &mut Texts) -> Result<Tree, NoMemory>
     ensures ok { IfOk result (λ t. Spells texts.new t (leaf_read word.now)) }
     ensures extends { Extends texts.old texts.new }
+    ensures names { OnOk result (texts.new ≡ fold with_name texts.old (words_read (leaf_read word.now))) }
 {
     if let Some(digit) = digit(word) {
         return Ok(Tree::int(i128::from(digit)));
@@ -41,6 +42,8 @@ fn leaf(word: &[u8], texts: &mut Texts) -> Result<Tree, NoMemory>
 fn with_word(alloc: Global, word: &[u8], list: Tree, texts: &mut Texts) -> Result<Tree, NoMemory>
     ensures ok { (r : Source) → Spells texts.old list r → IfOk result (λ t. Spells texts.new t (word_read word.now r)) }
     ensures extends { Extends texts.old texts.new }
+    ensures names { (names : List (List ℕ)) (r : Source) → texts.old ≡ fold with_name names (words_read r)
+        → OnOk result (texts.new ≡ fold with_name names (words_read (word_read word.now r))) }
 {
     if word.len() == 0 {
         return Ok(list);
@@ -85,6 +88,7 @@ fn before(alloc: Global, byte: u8, list: Tree, around: &mut Vec<Tree>) -> Result
 pub(crate) fn forms_of(alloc: Global, text: &[u8], texts: &mut Texts) -> Result<Tree, NoMemory>
     ensures ok { IfOk result (λ t. Spells texts.new t (forms_in text.now)) }
     ensures extends { Extends texts.old texts.new }
+    ensures names { (reading text.now).around ≡ [] → OnOk result (texts.new ≡ fold with_name texts.old (words_read (forms_in text.now))) }
 {
     let mut around = Vec::new(alloc);
     let mut list = Tree::nil();

@@ -1,11 +1,13 @@
 //! The world that every book begins with.
 
-ghost use Rattle.std.specs.Prelude.{◌≡◌, ◌+◌, [], ◌∷◌, length, slice_get, Some, IfOk, OnOk};
-ghost use Rattle.gl_logic.specs.Names.{Extends};
+ghost use Rattle.std.specs.Prelude.{◌≡◌, ◌+◌, [], ◌∷◌, length, slice_get, Some, IfOk, OnOk, fold};
+ghost use Rattle.gl_logic.specs.Names.{Extends, with_name};
 ghost use Rattle.gl_logic.specs.TermOf.{term_of};
 ghost use Rattle.gl_translate.specs.Answers.{IsTermWith};
 ghost use Rattle.event_world.specs.PreludeTerms.{named};
 ghost use Rattle.event_world.specs.PreludeTexts.{ground_texts};
+ghost use Rattle.event_world.specs.PreludeForms.{forms_in, words_read};
+ghost use Rattle.event_world.specs.OpeningNames.{with_ground_words};
 ghost use Rattle.event_world.specs.PreludeRows.{IsNext, HoldsFirst, body_at, symbols_of};
 ghost use Rattle.event_world.specs.Prelude.{IsPrelude};
 
@@ -31,6 +33,7 @@ fn body_of(
     ensures body { IfOk result (λ r. term_of r.1 ≡ named formals (body_at (length world.now.definitions))) }
     ensures proper { IfOk result (λ r. IsTermWith world.now.definitions ((name.number, length formals) ∷ []) (term_of r.1)) }
     ensures extends { Extends texts.old texts.new }
+    ensures names { OnOk result (texts.new ≡ with_name texts.old []) }
 {
     let mut own = Owns::new(alloc);
     own.push(name, formals.len() as u32)?;
@@ -66,6 +69,7 @@ fn define(
     requires so_far { HoldsFirst (length world.old.definitions) texts.old world.old }
     ensures ok { OnOk result (HoldsFirst (length world.old.definitions + 1) texts.new world.new) }
     ensures extends { Extends texts.old texts.new }
+    ensures names { OnOk result (texts.new ≡ with_name texts.old []) }
 {
     // a text has one number alone, so the name is free and the formals differ
     texts.is_table();
@@ -112,6 +116,7 @@ fn add(alloc: Global, text: &[u8], world: &mut World, texts: &mut Texts) -> Resu
     requires so_far { HoldsFirst (length world.old.definitions) texts.old world.old }
     ensures ok { OnOk result (HoldsFirst (length world.old.definitions + 1) texts.new world.new) }
     ensures extends { Extends texts.old texts.new }
+    ensures names { OnOk result (texts.new ≡ with_name (fold with_name texts.old (words_read (forms_in text.now))) []) }
 {
     let parts = forms_of(alloc, text, texts)?;
     let [form, formals, name] = parts.elements() else {
@@ -125,20 +130,25 @@ fn add(alloc: Global, text: &[u8], world: &mut World, texts: &mut Texts) -> Resu
 }
 
 /// The world that every book begins with: the ground definitions in their order, each made from its own
-/// form, with the measure under which it is admitted, and nothing else. The table gains the texts of
-/// their names, also where memory runs out.
+/// form, with the measure under which it is admitted, and nothing else. The table gains the empty text
+/// and the words of the definitions, in part where memory runs out.
 ///
 /// Most are functions of ACL2 under their names, as its manual has them; `logcount-nat` is a helper of
 /// `logcount`.
 pub fn prelude(alloc: Global, texts: &mut Texts) -> Result<World, NoMemory>
     ensures world { IfOk result (λ w. IsPrelude texts.new w) }
     ensures extends { Extends texts.old texts.new }
+    ensures names { OnOk result (texts.new ≡ with_ground_words texts.old) }
 {
+    // the empty text, which each translation asks for, comes before the words
+    let _empty = texts.id_of(b"")?;
+    // a text has one number alone, here and at the end
+    texts.is_table();
     let mut world = World::new(alloc)?;
     for text in definitions() {
         add(alloc, text.as_bytes(), &mut world, texts)?;
     }
-    // a text has one number alone, so each name is found under its definition
+    // so each name is found under its definition
     texts.is_table();
     Ok(world)
 }
