@@ -1,5 +1,6 @@
 pub mod PreludeMeant
 pub mod PreludeTables
+pub mod OpeningTables
 pub mod PreludeReading
 pub mod PreludeMeanings
 pub mod PreludeRows

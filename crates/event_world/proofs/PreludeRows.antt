@@ -10,7 +10,7 @@ use Rattle.gl_logic.specs.Ground.{Ground, ground}
 use Rattle.gl_logic.specs.IsGround.{placed, all_placed}
 use Rattle.gl_logic.specs.NameSets.{are_different}
 use Rattle.event_world.specs.PreludeTexts.{ground_texts, ground_names, ground_formals}
-use Rattle.event_world.specs.PreludeForms.{Source, Word, Pair, no_more, forms_in}
+use Rattle.event_world.specs.PreludeForms.{Source, Word, Pair, no_more, reading, forms_in}
 use Rattle.event_world.proofs.PreludeMeant.{form_meant, Function, word_place, size}
 use Rattle.event_world.specs.PreludeRows.{name_in, formals_in, body_in}
 use Rattle.event_world.specs.PreludeTerms.{named, all_named}
@@ -75,6 +75,10 @@ as_variables = refl
 as_many_formals : length ground_texts ≡ length ground_formals
 unfolding ground_texts ground_formals
 as_many_formals = refl
+
+as_closed : map (λ t. (reading t).around) ground_texts ≡ map (λ t. []) ground_texts
+unfolding ground_texts
+as_closed = refl
 
 as_counted : map (λ t. length (formals_in t)) ground_texts ≡ map (λ g. g.arity) ground
 unfolding ground_texts ground
@@ -208,6 +212,10 @@ row k text a =
         function = f.1 ∙ (λ x. Some ((title ∙ sym name) x, arity x));
       },
     )
+
+-- each list of it is closed
+pub closed_at : (k : ℕ) (text : List ℕ) → slice_get ground_texts k ≡ Some text → (reading text).around ≡ []
+closed_at k text a = at_both (λ t. (reading t).around) (λ t. []) ground_texts ground_texts k text text as_closed a a
 
 pub found_at : (i : ℕ) (text : List ℕ) → slice_get ground_names i ≡ Some text → word_place text all_functions ≡ Some i
 found_at i text a = some_same _ _ (sym (slice_get-map (λ n. word_place n all_functions) ground_names i ∙ ap (option_map (λ n. word_place n all_functions)) a) ∙ (ap (λ zs. slice_get zs i) as_found ∙ place_at ground_names 0 i text a i (omega arith)))

@@ -140,10 +140,10 @@ pub fn prelude(alloc: Global, texts: &mut Texts) -> Result<World, NoMemory>
     ensures extends { Extends texts.old texts.new }
     ensures names { OnOk result (texts.new ≡ with_ground_words texts.old) }
 {
-    // the empty text, which each translation asks for, comes before the words
-    let _empty = texts.id_of(b"")?;
     // a text has one number alone, here and at the end
     texts.is_table();
+    // the empty text, which each translation asks for, comes before the words
+    let _empty = texts.id_of(b"")?;
     let mut world = World::new(alloc)?;
     for text in definitions() {
         add(alloc, text.as_bytes(), &mut world, texts)?;

@@ -1,10 +1,12 @@
 use Rattle.std.proofs.lemmas.Bool.Decides.{nat_tests}
-use Rattle.std.proofs.Common.{rules, ◌≡◌, ◌∙◌, ap, sym, subst, ℕ, ◌<◌, List, length, get_or, slice_get, arith}
+use Rattle.std.proofs.Common.{rules, ◌≡◌, ◌∙◌, ap, sym, subst, ℕ, ◌<◌, List, [], length, get_or, slice_get, arith}
+use Rattle.std.specs.Prelude.{OnOk}
 use Rattle.gl_logic.specs.Object.{Object, Symbol}
+use Rattle.gl_logic.specs.Names.{with_name}
 use Rattle.gl_logic.specs.Kind.{kind_of}
 use Rattle.event_world.specs.PreludeForms.{Source, Spells, AreSpelled}
 use Rattle.event_world.specs.PreludeRows.{formals_in, body_in, symbols_of}
-use Rattle.event_world.proofs.PreludeRows.{row, below_texts}
+use Rattle.event_world.proofs.PreludeRows.{row, below_texts, closed_at}
 use Rattle.event_world.proofs.PreludeParts.{parts_of, symbols_spelled}
 use Rattle.event_world.proofs.PreludeWorlds.{later_holds}
 use Rattle.event_world.proofs.ground_world.add.Goals as goal
@@ -47,3 +49,8 @@ pub define-requires-clause-so_far : goal.define-requires-clause-so_far
 define-requires-clause-so_far c =
     let l : length c.args.world.now.definitions < 43 = below_texts (length c.args.world.now.definitions) c.args.text.now c.requires.text in
     later_holds c.args.texts.now c.forms_of.new.texts (length c.args.world.now.definitions) c.args.world.now (omega (arith, l)) c.forms_of.ensures.extends c.requires.so_far
+
+pub returns-clause-names : goal.returns-clause-names
+returns-clause-names c =
+    let read = c.in_ok-parts.ensures.names (closed_at (length c.args.world.now.definitions) c.args.text.now c.requires.text) in
+    subst (λ (ns : List (List ℕ)). OnOk c.define.result (c.define.new.texts ≡ with_name ns [])) read c.define.ensures.names
