@@ -9,7 +9,7 @@ use Rattle.gl_logic.specs.Counts.{call_eq, is_among}
 use Rattle.gl_logic.specs.Different.{different}
 use Rattle.gl_logic.specs.Every.{Every}
 use Rattle.lisp_eval.specs.Threads.{is_kept}
-use Rattle.lisp_eval.proofs.CallsMade.{call_equal_from, call_equal_itself}
+use Rattle.gl_logic.proofs.Calls.{call_equal_from, call_equal_itself}
 
 -- of a list of calls, with what each costs: those that are not kept
 abbrev pub charge : (CallMade → ℕ) → List CallMade → List CallMade → ℕ

@@ -13,7 +13,8 @@ use Rattle.gl_logic.proofs.Walks.{walk_unique}
 use Rattle.gl_logic.specs.Every.{Every}
 use Rattle.gl_logic.proofs.MadeCalls.{every_append}
 use Rattle.lisp_eval.specs.Threads.{Thread, is_kept, stays_shut, thread}
-use Rattle.lisp_eval.proofs.CallsMade.{every_at, every_parts}
+use Rattle.gl_logic.proofs.Calls.{every_at}
+use Rattle.lisp_eval.proofs.CallsMade.{every_parts}
 use Rattle.lisp_eval.proofs.Along.{IsKeptByVisits}
 use Rattle.lisp_eval.proofs.Levels.{IsKeptByCalls, along}
 

@@ -40,7 +40,6 @@ pub mod StepsAhead
 pub mod Structural
 pub mod TableAnswers
 pub mod TableValues
-pub mod TermForms
 pub mod Turns
 pub mod Values
 pub mod WholeNarrow

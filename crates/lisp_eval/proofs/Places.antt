@@ -14,7 +14,7 @@ use Rattle.hons_arena.specs.Ids.{object_at, IsLive}
 use Rattle.lisp_eval.specs.Frames.{Frame, Apply, ToCall, Rest, call_of, focused, rest_of}
 use Rattle.lisp_eval.specs.States.{values_of}
 use Rattle.lisp_eval.specs.Threads.{Thread, is_kept, stays_shut, plain_call, threaded, thread_by, finished, skipped}
-use Rattle.lisp_eval.proofs.CallsMade.{call_equal_from, call_equal_itself}
+use Rattle.gl_logic.proofs.Calls.{call_equal_from, call_equal_itself}
 use Rattle.lisp_eval.proofs.Standing.{stable_live}
 
 abbrev pub At : {A : Type 0} → List A → ℕ → A → Type 0

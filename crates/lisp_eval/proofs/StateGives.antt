@@ -30,7 +30,7 @@ use Rattle.lisp_eval.specs.declared.frame.Focus as program
 use Rattle.lisp_eval.specs.declared.frame.Focus.TheVariants as focus
 use Rattle.lisp_eval.specs.declared.frame.Frame as held
 use Rattle.lisp_eval.specs.declared.frame.Frame.TheVariants as frame
-use Rattle.lisp_eval.proofs.CallsMade.{every_at, call_equal_from}
+use Rattle.gl_logic.proofs.Calls.{every_at, call_equal_from}
 use Rattle.lisp_eval.proofs.Cover.{IsFineCall}
 use Rattle.lisp_eval.proofs.Environments.{frames_push}
 use Rattle.lisp_eval.proofs.Going.{Narrow, Going, StepOn, going_step, going_start, going_done, going_holds}

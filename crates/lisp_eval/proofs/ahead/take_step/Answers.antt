@@ -5,7 +5,7 @@ use Rattle.gl_logic.specs.declared.term.Term.{Term}
 use Rattle.lisp_eval.specs.Aheads.{BindsFound}
 use Rattle.lisp_eval.specs.Directs.{scope_env}
 use Rattle.lisp_eval.proofs.StepsAhead.{Told, told, test_stops, test_goes, arguments_stop, arguments_go}
-use Rattle.lisp_eval.proofs.TermForms.{if_term, call_term}
+use Rattle.gl_logic.proofs.TermForms.{if_term, call_term}
 use Rattle.lisp_eval.proofs.ahead.take_step.Goals as goal
 
 pub returns-in_err-found-in-If-clause-tells : goal.returns-in_err-found-in-If-clause-tells

@@ -23,7 +23,7 @@ use Rattle.lisp_eval.proofs.Entering.{scope_grown, tables_on}
 use Rattle.gl_logic.proofs.CellCounts.{at_index}
 use Rattle.lisp_eval.proofs.Sights.{adds_none}
 use Rattle.lisp_eval.proofs.ZeroTells.{argument_refused, zero_refused, zero_tells}
-use Rattle.lisp_eval.proofs.TermForms.{var_term, const_term, if_term, call_term}
+use Rattle.gl_logic.proofs.TermForms.{var_term, const_term, if_term, call_term}
 use Rattle.lisp_eval.proofs.direct.+at_once.Goals as goal
 
 -- NIL, where there is no argument

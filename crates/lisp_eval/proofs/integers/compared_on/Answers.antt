@@ -4,7 +4,7 @@ use Rattle.std.specs.Int.{w64}
 use Rattle.gl_logic.specs.TermOf.{term_of, terms_of}
 use Rattle.lisp_eval.proofs.DirectFound.{two_terms}
 use Rattle.lisp_eval.proofs.IntegerGives.{compared}
-use Rattle.lisp_eval.proofs.TermForms.{prim_term}
+use Rattle.gl_logic.proofs.TermForms.{prim_term}
 use Rattle.lisp_eval.proofs.integers.compared_on.Goals as goal
 
 pub returns-in_ok-holds-in-Prim : goal.returns-in_ok-holds-in-Prim

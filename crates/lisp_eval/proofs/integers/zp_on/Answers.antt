@@ -3,7 +3,7 @@ use Rattle.gl_logic.proofs.CellCounts.{at_index}
 use Rattle.std.specs.Int.{w64}
 use Rattle.gl_logic.specs.TermOf.{term_of, terms_of}
 use Rattle.lisp_eval.proofs.DirectFound.{one_term}
-use Rattle.lisp_eval.proofs.TermForms.{call_term}
+use Rattle.gl_logic.proofs.TermForms.{call_term}
 use Rattle.lisp_eval.proofs.ZeroOver.{zp_found}
 use Rattle.lisp_eval.proofs.integers.zp_on.Goals as goal
 

@@ -37,7 +37,7 @@ use Rattle.lisp_eval.proofs.StateAhead.{ahead_found, ahead_leads, ahead_stuck, a
 use Rattle.lisp_eval.proofs.StateApplies.{answered_crowded, answered_next, arg_live, prim_next, prim_wide, prim_crowded, let_next, kept_live, kept_next, call_there, call_definition, opens_known}
 use Rattle.lisp_eval.proofs.StateGives.{state_start, state_done, give_live, hand_next, keeps_on}
 use Rattle.lisp_eval.proofs.Turns.{opens_smaller, hand_smaller}
-use Rattle.lisp_eval.proofs.TermForms.{var_term, const_term}
+use Rattle.gl_logic.proofs.TermForms.{var_term, const_term}
 use Rattle.lisp_eval.proofs.run.run.Goals.{In-Visit, In-Apply, In-Give, in-Value, in-Term}
 use Rattle.lisp_eval.proofs.run.run.Goals as goal
 

@@ -8,7 +8,7 @@ use Rattle.lisp_eval.specs.Frames as spec
 use Rattle.lisp_eval.specs.Moves.{entered}
 use Rattle.lisp_eval.specs.States.{env_of, IsNext}
 use Rattle.lisp_eval.proofs.Environments.{next_at}
-use Rattle.lisp_eval.proofs.TermForms.{prim_term, call_term, let_term}
+use Rattle.gl_logic.proofs.TermForms.{prim_term, call_term, let_term}
 use Rattle.lisp_eval.proofs.steps.visit.Goals as goal
 
 pub returns-in-Prim-clause-next : goal.returns-in-Prim-clause-next
