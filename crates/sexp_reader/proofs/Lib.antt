@@ -14,7 +14,8 @@ pub mod Reading
 pub mod Leaves
 pub mod Objects
 pub mod Numbered
-pub mod Gained
+pub mod Gathering
 pub mod TextRows
 pub mod FirstTable
 pub mod Tabled
+pub mod LaterReadings

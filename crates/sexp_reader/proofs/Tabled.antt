@@ -1,6 +1,6 @@
 -- Each table of texts has a later one that numbers the symbols and strings of a text's forms.
 use Rattle.std.proofs.Common.{◌≡◌, ◌∙◌, ap, sym, subst, refl, ℕ, zero, suc, ◌+◌, ◌<◌, ◌≤◌, arith, true, false, cond, not, List, [], ◌∷◌, length, drop, Option, Some, None, inl, inr}
-use Rattle.std.specs.Prelude.{bytes_eq, ◌||◌, All}
+use Rattle.std.specs.Prelude.{bytes_eq, ◌||◌}
 use Rattle.std.specs.List.{list_any, AllByRecursion}
 use Rattle.std.proofs.lemmas.Bool.{cases_Bool}
 use Rattle.std.proofs.lemmas.List.{length-drop}
@@ -11,8 +11,7 @@ use Rattle.gl_logic.specs.Object.{Object}
 use Rattle.gl_logic.specs.Names.{IsTable, Extends, with_name}
 use Rattle.gl_logic.specs.Numbered.{IsNumbered}
 use Rattle.gl_logic.proofs.Places.{bytes_same}
-use Rattle.gl_logic.proofs.Tables.{enough, table_with}
-use Rattle.gl_logic.proofs.GrownTables.{extends_same, extends_then, extends_name}
+use Rattle.gl_logic.proofs.Tables.{enough}
 use Rattle.sexp_reader.specs.declared.list.Form.{Form}
 use Rattle.sexp_reader.specs.declared.ends.End.{End}
 use Rattle.sexp_reader.specs.declared.lexeme.Atom.{Atom}
@@ -22,7 +21,9 @@ use Rattle.sexp_reader.specs.declared.lexeme.Lexeme.TheVariants as lexeme
 use Rattle.sexp_reader.specs.declared.lexeme.Piece.{Piece}
 use Rattle.sexp_reader.specs.declared.lexeme.Piece.TheVariants.{Ended, Torn, Gap, Part, Faulty}
 use Rattle.sexp_reader.specs.Pieces.{first_piece, Spans, count_of}
-use Rattle.sexp_reader.specs.Gains.{text_of, IsSpelledIn, first, further}
+use Rattle.sexp_reader.specs.Gathers.{text_of, with_text, with_piece, Gathers, Numbers}
+use Rattle.sexp_reader.specs.Gathers as gathers
+use Rattle.sexp_reader.proofs.Gathering.{gathers_table, gathers_extends}
 use Rattle.sexp_reader.specs.Grammar as grammar
 use Rattle.sexp_reader.specs.Grammar.{Spot, past, place_in, object_of, mark_text, Outcome, Got, Fault, prefixed, marked, consed, Goal, Rest, Last, Closing, Gives, gap, list, prefix, empty, element, dot, last, close, flaw, inner}
 use Rattle.sexp_reader.specs.Reads as reads
@@ -57,34 +58,20 @@ placed (n ∷ names) text h = elim (cases_Bool (bytes_eq text n)) [
 ]
 
 -- ---- the table of a text: it is asked for the text of each lexeme
-abbrev with_some : List (List ℕ) → Option (List ℕ) → List (List ℕ)
-with_some names None = names
-with_some names (Some text) = with_name names text
+-- some lexeme of these bytes has this text
+data IsSpelledIn : List ℕ → List ℕ → Type 0 where
+  first : (bytes text : List ℕ) (count : ℕ) (what : Lexeme) → first_piece bytes ≡ Part count what → text_of what ≡ Some text → IsSpelledIn bytes text
+  further : (bytes text : List ℕ) (count : ℕ) → count_of (first_piece bytes) ≡ Some count → IsSpelledIn (drop count bytes) text → IsSpelledIn bytes text
 
-abbrev with_piece : List (List ℕ) → Piece → List (List ℕ)
-with_piece names (Part count what) = with_some names (text_of what)
-with_piece names piece = names
-
-abbrev behind : {A : Type 0} → Option ℕ → A → (ℕ → A) → A
+abbrev pub behind : {A : Type 0} → Option ℕ → A → (ℕ → A) → A
 behind None here next = here
 behind (Some count) here next = next count
 
-abbrev table_from : ℕ → List ℕ → List (List ℕ) → List (List ℕ)
+abbrev pub table_from : ℕ → List ℕ → List (List ℕ) → List (List ℕ)
 table_from zero bytes names = names
 table_from (suc n) bytes names = behind (count_of (first_piece bytes)) names (λ count. table_from n (drop count bytes) (with_piece names (first_piece bytes)))
 
-some_table : (names : List (List ℕ)) (o : Option (List ℕ)) → IsTable names → IsTable (with_some names o)
-some_table names None h = h
-some_table names (Some text) h = table_with names text h
-
-piece_table : (names : List (List ℕ)) (p : Piece) → IsTable names → IsTable (with_piece names p)
-piece_table names Ended h = h
-piece_table names Torn h = h
-piece_table names (Gap count) h = h
-piece_table names (Part count what) h = some_table names (text_of what) h
-piece_table names (Faulty count code) h = h
-
-some_has : (names : List (List ℕ)) (o : Option (List ℕ)) (text : List ℕ) → Has names text → Has (with_some names o) text
+some_has : (names : List (List ℕ)) (o : Option (List ℕ)) (text : List ℕ) → Has names text → Has (with_text names o) text
 some_has names None text h = h
 some_has names (Some other) text h = still_has names other text h
 
@@ -95,36 +82,20 @@ piece_has names (Gap count) text h = h
 piece_has names (Part count what) text h = some_has names (text_of what) text h
 piece_has names (Faulty count code) text h = h
 
-behind_both : {A : Type 0} (P : A → Type 0) (o : Option ℕ) (here : A) (next : ℕ → A) → P here → ((count : ℕ) → P (next count)) → P (behind o here next)
+behind_both : {A : Type 0} (P : A → Type 0) (o : Option ℕ) (here : A) (next : ℕ → A) → P here → ((count : ℕ) → o ≡ Some count → P (next count)) → P (behind o here next)
 behind_both P None here next h k = h
-behind_both P (Some count) here next h k = k count
+behind_both P (Some count) here next h k = k count refl
 
-from_table : (n : ℕ) (bytes : List ℕ) (names : List (List ℕ)) → IsTable names → IsTable (table_from n bytes names)
-from_table zero bytes names h = h
-from_table (suc n) bytes names h =
-    behind_both IsTable (count_of (first_piece bytes)) names _ h (λ count. from_table n (drop count bytes) (with_piece names (first_piece bytes)) (piece_table names (first_piece bytes) h))
+pub from_gathers : (n : ℕ) (bytes : List ℕ) (names : List (List ℕ)) → Gathers bytes names (table_from n bytes names)
+from_gathers zero bytes names = gathers.stopped bytes names
+from_gathers (suc n) bytes names =
+    behind_both (Gathers bytes names) (count_of (first_piece bytes)) names _ (gathers.stopped bytes names)
+    (λ count e. gathers.further bytes count names (table_from n (drop count bytes) (with_piece names (first_piece bytes))) e (from_gathers n (drop count bytes) (with_piece names (first_piece bytes))))
 
 from_has : (n : ℕ) (bytes : List ℕ) (names : List (List ℕ)) (text : List ℕ) → Has names text → Has (table_from n bytes names) text
 from_has zero bytes names text h = h
 from_has (suc n) bytes names text h =
-    behind_both (λ t. Has t text) (count_of (first_piece bytes)) names _ h (λ count. from_has n (drop count bytes) (with_piece names (first_piece bytes)) text (piece_has names (first_piece bytes) text h))
-
-some_extends : (names : List (List ℕ)) (o : Option (List ℕ)) → Extends names (with_some names o)
-some_extends names None = extends_same names
-some_extends names (Some text) = extends_name names (with_name names text) text refl
-
-piece_extends : (names : List (List ℕ)) (p : Piece) → Extends names (with_piece names p)
-piece_extends names Ended = extends_same names
-piece_extends names Torn = extends_same names
-piece_extends names (Gap count) = extends_same names
-piece_extends names (Part count what) = some_extends names (text_of what)
-piece_extends names (Faulty count code) = extends_same names
-
-from_extends : (n : ℕ) (bytes : List ℕ) (names : List (List ℕ)) → Extends names (table_from n bytes names)
-from_extends zero bytes names = extends_same names
-from_extends (suc n) bytes names =
-    behind_both (Extends names) (count_of (first_piece bytes)) names _ (extends_same names)
-    (λ count. extends_then names (with_piece names (first_piece bytes)) (table_from n (drop count bytes) (with_piece names (first_piece bytes))) (piece_extends names (first_piece bytes)) (from_extends n (drop count bytes) (with_piece names (first_piece bytes))))
+    behind_both (λ t. Has t text) (count_of (first_piece bytes)) names _ h (λ count e. from_has n (drop count bytes) (with_piece names (first_piece bytes)) text (piece_has names (first_piece bytes) text h))
 
 -- what has a count is longer than nothing
 counted : (p : Piece) (most count : ℕ) → Spans most p → count_of p ≡ Some count → (0 < count) × (count ≤ most)
@@ -139,8 +110,8 @@ spelled_has bytes text (first _ _ count what e t) zero names l =
     let s = counted (first_piece bytes) (length bytes) count (piece_spans bytes) (ap count_of e) in absurd (omega (arith, s, l))
 spelled_has bytes text (first _ _ count what e t) (suc n) names l =
     let next : List (List ℕ) → List (List ℕ) = λ ns. table_from n (drop count bytes) ns in
-    let is : table_from (suc n) bytes names ≡ next (with_some names (Some text)) =
-    ap (λ p. behind (count_of p) names (λ k. table_from n (drop k bytes) (with_piece names p))) e ∙ ap (λ o. next (with_some names o)) t in
+    let is : table_from (suc n) bytes names ≡ next (with_text names (Some text)) =
+    ap (λ p. behind (count_of p) names (λ k. table_from n (drop k bytes) (with_piece names p))) e ∙ ap (λ o. next (with_text names o)) t in
     subst (λ ts. Has ts text) (sym is) (from_has n (drop count bytes) (with_name names text) text (has_it names text))
 spelled_has bytes text (further _ _ count e s) zero names l =
     let k = counted (first_piece bytes) (length bytes) count (piece_spans bytes) e in absurd (omega (arith, k, l))
@@ -211,16 +182,19 @@ module _ (names : List (List ℕ)) (is_first : IsTable names) (bytes : List ℕ)
   abbrev pub table : List (List ℕ)
   table = table_from (length bytes) bytes names
 
+  pub table_gathers : Gathers bytes names table
+  table_gathers = from_gathers (length bytes) bytes names
+
   pub is_table : IsTable table
-  is_table = from_table (length bytes) bytes names is_first
+  is_table = gathers_table bytes names table is_first table_gathers
 
   pub extends_table : Extends names table
-  extends_table = from_extends (length bytes) bytes names
+  extends_table = gathers_extends bytes names table table_gathers
 
   pub still_there : (text : List ℕ) → Has names text → Has table text
   still_there text h = from_has (length bytes) bytes names text h
 
-  pub table_numbers : (forms : List Form) (end : End) → Reads table bytes forms end → All (λ (f : Form). IsNumbered (length table) f.tree) forms
+  pub table_numbers : Numbers table bytes
   table_numbers forms end d =
       All-from_recursion (λ (f : Form). IsNumbered (length table) f.tree) forms
       (good_forms table (omega (arith, enough table is_table.first)) (start bytes) forms end d (λ text s. spelled_has bytes text s (length bytes) names (omega arith)))

@@ -1,17 +1,16 @@
 -- Tables of texts that grow.
-use Rattle.std.proofs.Common.{◌≡◌, ◌∙◌, sym, ap, ℕ, List, [], ◌∷◌, ◌++◌, length, ◌<◌, arith, Bool, true, false, cond, not, Some, append_assoc, Result, Ok, Err, IfOk}
-use Rattle.std.specs.List.{position_or_len, list_any}
+use Rattle.std.proofs.Common.{◌≡◌, ◌∙◌, sym, ap, ℕ, List, ◌++◌, length, ◌<◌, arith, Bool, not, Some, Result, Ok, Err, IfOk}
+use Rattle.std.specs.List.{position_or_len}
 use Rattle.std.specs.Prelude.{bytes_eq}
-use Rattle.std.proofs.lemmas.List.{append-nil}
 use Rattle.std.proofs.lemmas.List.Folds.{prefix_len-append}
-use Rattle.gl_logic.specs.Names.{number_of, with_name, Extends}
+use Rattle.gl_logic.specs.Names.{number_of, Extends}
 use Rattle.gl_logic.specs.declared.ids.TextId.{TextId}
 use Rattle.gl_logic.specs.declared.ids.NoMemory.{NoMemory}
 use Rattle.sexp_reader.specs.declared.lexeme.Mark.{Mark}
 use Rattle.sexp_reader.specs.Grammar.{place_in, mark_text}
 
 -- a first place stays the first where more is put behind
-place-append : {A : Type 0} (p : A → Bool) (xs ys : List A) → position_or_len p xs < length xs → position_or_len p (xs ++ ys) ≡ position_or_len p xs
+pub place-append : {A : Type 0} (p : A → Bool) (xs ys : List A) → position_or_len p xs < length xs → position_or_len p (xs ++ ys) ≡ position_or_len p xs
 place-append p xs ys h = grind (arith, prefix_len-append (λ x. not (p x)) xs ys, h)
 
 -- where a text has a number

@@ -8,7 +8,9 @@ use Rattle.sexp_reader.specs.declared.ends.End.{End}
 use Rattle.sexp_reader.specs.declared.ends.End.TheVariants.{Clean, Bad}
 use Rattle.sexp_reader.specs.declared.ends.ReadCode.TheVariants.{EndInside, StrayClose, BadDot, BadByte, NumberForm, TooDeep}
 use Rattle.sexp_reader.specs.Reads.{Reads, ReadsFrom, start}
+use Rattle.sexp_reader.specs.Gathers.{Gathers}
 use Rattle.sexp_reader.proofs.Exact.{Reading, both, reading, sound_all}
+use Rattle.sexp_reader.proofs.Tabled.{table_from, from_gathers}
 
 -- NIL is 0, T is 1, the marks are 2 and 3, A is 4, QUOTE is 5, B is 6, :K is 7, the text q"r is 8
 abbrev names : List (List ℕ)
@@ -76,3 +78,19 @@ comma_at_first = read _ _ _ refl
 
 too_deep : Reads names (replicate 1001 39) [] (Bad 1 1001 TooDeep)
 too_deep = read _ _ _ refl
+
+-- ---- tables: what so many pieces gather
+gathered : (n : ℕ) (bytes : List ℕ) (later : List (List ℕ)) → table_from n bytes first_names ≡ later → Gathers bytes first_names later
+gathered n bytes later e = subst (Gathers bytes first_names) e (from_gathers n bytes first_names)
+
+-- each text once, in its order
+twice_one : Gathers (codes "(b a b)") first_names (first_names ++ codes "B" ∷ codes "A" ∷ [])
+twice_one = gathered 7 _ _ refl
+
+-- NIL and T are there, a number has no text, and a quote has one
+there_before : Gathers (codes "(nil 7 't \"x\")") first_names (first_names ++ codes "QUOTE" ∷ codes "x" ∷ [])
+there_before = gathered 11 _ _ refl
+
+-- up to the parenthesis that is one too many
+cut_off : Gathers (codes "a (b)) c") first_names (first_names ++ codes "A" ∷ codes "B" ∷ [])
+cut_off = gathered 5 _ _ refl

@@ -12,5 +12,5 @@ pub mod FormCode
 pub mod Grammar
 pub mod Sizes
 pub mod Reads
-pub mod Gains
+pub mod Gathers
 pub mod Stack

@@ -8,7 +8,7 @@ ghost use Rattle.sexp_reader.specs.declared.ends.End.{End as EndSeen};
 ghost use Rattle.sexp_reader.specs.Places.{Fits};
 ghost use Rattle.sexp_reader.specs.Pieces.{Spans, count_of};
 ghost use Rattle.sexp_reader.specs.Grammar.{Spot, Got, prefixed, mark_text};
-ghost use Rattle.sexp_reader.specs.Gains.{text_of, Adds, AddsPiece};
+ghost use Rattle.sexp_reader.specs.Gathers.{text_of, with_text, with_piece, Adds, AddsPiece};
 ghost use Rattle.sexp_reader.specs.Stack.{listed, tail_of, taken, taken_end, inner_first, list_flaw, flaw_in, begun, Leads, Goes, Follows, CanStand, MayStand, FollowsPiece};
 
 use crate::atom::{symbol_of, tree_of};
@@ -229,6 +229,7 @@ impl Stack {
     fn prefix(&mut self, place: Place, mark: Mark, texts: &mut Texts) -> Result<(), NoMemory>
         requires { CanStand self.old (Lexeme.Prefix mark) }
         ensures step { OnOk result ((later : List (List ℕ)) → Extends texts.new later → Follows later self.old place (Lexeme.Prefix mark) self.new) }
+        ensures asked { OnOk result (texts.new ≡ with_text texts.old (Some (mark_text mark))) }
         ensures adds { Adds (Some (mark_text mark)) texts.old texts.new }
         ensures kept { Extends texts.old texts.new }
     {
@@ -247,6 +248,7 @@ impl Stack {
     ) -> Result<(), NoMemory>
         requires { CanStand self.old (Lexeme.Atom atom) }
         ensures step { OnOk result ((later : List (List ℕ)) → Extends texts.new later → Follows later self.old place (Lexeme.Atom atom) self.new) }
+        ensures asked { OnOk result (texts.new ≡ with_text texts.old (text_of (Lexeme.Atom atom))) }
         ensures adds { Adds (text_of (Lexeme.Atom atom)) texts.old texts.new }
         ensures kept { Extends texts.old texts.new }
     {
@@ -265,6 +267,7 @@ impl Stack {
     ) -> Result<(), NoMemory>
         requires { CanStand self.old lexeme }
         ensures step { OnOk result ((later : List (List ℕ)) → Extends texts.new later → Follows later self.old place lexeme self.new) }
+        ensures asked { OnOk result (texts.new ≡ with_text texts.old (text_of lexeme)) }
         ensures adds { Adds (text_of lexeme) texts.old texts.new }
         ensures kept { Extends texts.old texts.new }
     {
@@ -290,6 +293,7 @@ impl Stack {
         requires { MayStand (inner_first self.old) piece }
         ensures count { IfOk result (λ count. count ≡ count_of piece) }
         ensures step { OnOk result ((later : List (List ℕ)) → Extends texts.new later → FollowsPiece later self.old place piece self.new) }
+        ensures asked { OnOk result (texts.new ≡ with_piece texts.old piece) }
         ensures adds { AddsPiece piece texts.old texts.new }
         ensures none { OnOk result (count_of piece ≡ None → (self.new ≡ self.old) × (texts.new ≡ texts.old)) }
         ensures kept { Extends texts.old texts.new }

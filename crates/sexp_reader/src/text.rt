@@ -5,7 +5,7 @@ ghost use Rattle.gl_logic.specs.Names.{Extends, IsTable};
 ghost use Rattle.gl_logic.specs.Numbered.{IsNumbered};
 ghost use Rattle.gl_logic.specs.Parts.{car_steps};
 ghost use Rattle.sexp_reader.specs.Sizes.{IsNarrow, IsAscii};
-ghost use Rattle.sexp_reader.specs.Gains.{Gains};
+ghost use Rattle.sexp_reader.specs.Gathers.{Gathers, Numbers};
 ghost use Rattle.sexp_reader.specs.Reads.{Reads};
 ghost use Rattle.sexp_reader.specs.declared.list.Form.{Form};
 ghost use Rattle.sexp_reader.specs.declared.ends.End.{End as EndSeen};
@@ -27,8 +27,8 @@ pub fn forms(alloc: Global, bytes: &[u8], texts: &mut Texts) -> Result<Forms, No
         → Reads later bytes.now forms.list forms.end) }
     ensures kept { Extends texts.old texts.new }
     ensures table { IsTable texts.new }
-    // The table gains the texts of lexemes of the text, and no others.
-    ensures gains { Gains bytes.now texts.old texts.new }
+    // The table gathers the texts of the text's lexemes in their order, and no others.
+    ensures gathers { Gathers bytes.now texts.old texts.new }
     // The table has the text of each symbol and string in them.
     ensures numbered { IfOk result (λ forms. All (λ form. IsNumbered (length texts.new) form.tree) forms.list) }
     // Their integers are within 128 bits, their characters' codes at most 127, and no car is nested deeper than 1,000 times.
@@ -47,7 +47,7 @@ fn read_all(alloc: Global, bytes: &[u8], texts: &mut Texts) -> Result<Forms, NoM
     ensures reads { IfOk result (λ forms. (later : List (List ℕ)) → Extends texts.new later
         → Reads later bytes.now forms.list forms.end) }
     ensures kept { Extends texts.old texts.new }
-    ensures gains { Gains bytes.now texts.old texts.new }
+    ensures gathers { Gathers bytes.now texts.old texts.new }
 {
     let mut stack = Stack::new(alloc);
     let mut place = Place::first();
@@ -95,8 +95,8 @@ pub fn has_one_reading()
         → Reads names bytes forms end → Reads names bytes others other → (forms ≡ others) × (end ≡ other) }
 {}
 
-/// A law: a text has a table of texts that numbers each symbol and string of its forms.
+/// A law: from each table on, a text gathers a table that numbers each symbol and string of its forms.
 pub fn has_a_table()
-    ensures { (bytes : List ℕ) → (names : List (List ℕ)) × IsTable names × ((forms : List Form) (end : EndSeen)
-        → Reads names bytes forms end → All (λ form. IsNumbered (length names) form.tree) forms) }
+    ensures { (bytes : List ℕ) (names : List (List ℕ)) → IsTable names
+        → (later : List (List ℕ)) × IsTable later × Gathers bytes names later × Numbers later bytes }
 {}
