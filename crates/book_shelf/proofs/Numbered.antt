@@ -1,5 +1,5 @@
 -- A table that lists a book has the texts of its items.
-use Rattle.std.proofs.Common.{◌≡◌, sym, ap, refl, subst, ℕ, ◌<◌, zero, suc, Bool, true, false, List, [], ◌∷◌, ◌++◌, append-nil, length, Option, Some, None, cond}
+use Rattle.std.proofs.Common.{◌≡◌, sym, subst, ℕ, ◌<◌, zero, suc, Bool, true, false, List, [], ◌∷◌, ◌++◌, append-nil, length, Option, Some, None, cond}
 use Rattle.std.specs.Prelude.{All}
 use Rattle.std.specs.List.{AllByRecursion}
 use Rattle.std.proofs.lemmas.List.Elements.{recursion_from_All}
@@ -11,7 +11,7 @@ use Rattle.book_shelf.specs.declared.finish.Finish.{Finish}
 use Rattle.book_shelf.specs.declared.item.Item.{Item}
 use Rattle.book_shelf.specs.declared.item.Item.TheVariants as item
 use Rattle.book_shelf.specs.Included.{included}
-use Rattle.book_shelf.specs.Listed.{Listing, between, book_mark, end_mark, same_mark}
+use Rattle.book_shelf.specs.Listed.{Listing, between, end_mark}
 use Rattle.book_shelf.specs.Flat.{Goal, Book, IsFlat, Rest, Lists, long, text, ended, form, cyclic, same, many, whole, torn}
 use Rattle.book_shelf.specs.NumberedItems.{IsNumberedItem}
 
@@ -74,5 +74,5 @@ module _ (names : List (List ℕ)) (shelf : List ℕ → List ℕ) where
       both (between t inner.items) l.items (k, both inner.items (item.Mark (end_mark t) ∷ []) (numbered _ _ _ _ d tt) (k, tt)) (numbered _ _ _ _ rest r.1)
   numbered _ _ _ _ (torn around taken f forms end inner t e n d c) r = (named f.tree t r.0 e, numbered _ _ _ _ d tt)
 
-pub flat_numbered : (table : List (List ℕ)) (holds : List ℕ → Option (List ℕ)) (name : List ℕ) (items : List Item) (end : Finish) → IsFlat table holds name items end → Every (IsNumberedItem (length table)) items
-flat_numbered table holds name items end flat = numbered table flat.shelf [] [] (Book name) (record { items = items; taken = flat.taken; finish = end }) (flat.lists table ([], sym (append-nil table))) tt
+pub flat_numbered : (first table : List (List ℕ)) (holds : List ℕ → Option (List ℕ)) (name : List ℕ) (items : List Item) (end : Finish) → IsFlat first table holds name items end → Every (IsNumberedItem (length table)) items
+flat_numbered first table holds name items end flat = numbered table flat.shelf [] [] (Book name) (record { items = items; taken = flat.taken; finish = end }) (flat.lists table ([], sym (append-nil table))) tt

@@ -1,15 +1,13 @@
 -- A shelf that has the texts that were read.
-use Rattle.std.proofs.Common.{◌≡◌, ◌∙◌, ap, sym, refl, subst, ℕ, Bool, true, false, ◌||◌, cond, List, [], ◌∷◌, ◌++◌, map, Option, Some, None}
+use Rattle.std.proofs.Common.{◌≡◌, ◌∙◌, ap, sym, refl, subst, ℕ, Bool, true, false, ◌||◌, cond, List, [], ◌∷◌, ◌++◌, Option, Some, None}
 use Rattle.std.specs.Prelude.{IfSome, bytes_eq, unwrap_or}
-use Rattle.std.specs.List.{list_any}
 use Rattle.std.proofs.lemmas.Slice.Eq.{bytes_eq-Decides}
 use Rattle.gl_logic.proofs.Places.{bytes_same}
 use Rattle.gl_logic.specs.Every.{Every}
-use Rattle.gl_logic.specs.Names.{Extends}
 use Rattle.book_shelf.specs.declared.item.Item.{Item}
 use Rattle.book_shelf.specs.declared.finish.Finish.{Finish}
 use Rattle.book_shelf.specs.Flat.{Book, IsFlat, Lists, is_among}
-use Rattle.book_shelf.specs.Loads.{AreIn, AreTold, AreFresh, Loads}
+use Rattle.book_shelf.specs.Loads.{AreIn, AreTold, AreFresh, Loads, LoadsBook}
 
 -- the text that was read under a name, and another where none was
 abbrev text_or : List (List ℕ × List ℕ) → List ℕ → List ℕ → List ℕ
@@ -88,12 +86,16 @@ told holds (p ∷ read) n h = elim (bytes_eq p.0 n) as (λ b. bytes_eq p.0 n ≡
   | false ↦ λ f. told holds read n h.1
 ] refl
 
-pub flat_from : (table : List (List ℕ)) (holds : List ℕ → Option (List ℕ)) (name : List ℕ) (now : List (List ℕ)) (items : List Item) (end : Finish) → Loads table holds [] [] [] (Book name) now items end → IsFlat table holds name items end
-flat_from table holds name now items end l =
+pub flat_from : (first table : List (List ℕ)) (holds : List ℕ → Option (List ℕ)) (name : List ℕ) (now : List (List ℕ)) (items : List Item) (end : Finish) → LoadsBook first table holds [] [] [] name now items end → IsFlat first table holds name items end
+flat_from first table holds name now items end b =
+    let l : Loads table holds [] [] [] (Book name) now items end = b.loads in
     let other = λ (n : List ℕ). unwrap_or (holds n) [] in
+    let shelf = λ (n : List ℕ). text_or l.took.read n (other n) in
+    let there : AreIn l.took.read shelf = all_in [] l.took.read other l.took.fresh in
     record {
-      shelf = λ n. text_or l.took.read n (other n);
+      shelf = shelf;
       told = λ n. told holds l.took.read n l.took.told;
       taken = now;
-      lists = λ names g. subst (λ (xs : List Item). Lists names (λ n. text_or l.took.read n (other n)) [] [] (Book name) (record { items = xs; taken = now; finish = end })) (sym l.took.added) (l.lists names g (λ n. text_or l.took.read n (other n)) (all_in [] l.took.read other l.took.fresh));
+      lists = λ names g. subst (λ (xs : List Item). Lists names shelf [] [] (Book name) (record { items = xs; taken = now; finish = end })) (sym l.took.added) (l.lists names g shelf there);
+      begins = b.begins shelf there;
     }

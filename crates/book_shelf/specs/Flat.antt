@@ -7,13 +7,14 @@ use Rattle.sexp_reader.specs.declared.list.Form.{Form}
 use Rattle.sexp_reader.specs.declared.ends.End.{End}
 use Rattle.sexp_reader.specs.Book.{IsBeyond}
 use Rattle.sexp_reader.specs.Reads.{Reads}
+use Rattle.sexp_reader.specs.Gathers.{IsTableOf}
 use Rattle.book_shelf.specs.declared.item.Item.{Item}
 use Rattle.book_shelf.specs.declared.item.Item.TheVariants as item
 use Rattle.book_shelf.specs.declared.finish.Finish.{Finish}
 use Rattle.book_shelf.specs.declared.finish.Finish.TheVariants as finish
 use Rattle.book_shelf.specs.declared.finish.ShelfCode.TheVariants as code
 use Rattle.book_shelf.specs.Included.{included, text_named}
-use Rattle.book_shelf.specs.Listed.{Listing, finish_of, only, refused_at, behind, between, book_mark, end_mark, same_mark, id}
+use Rattle.book_shelf.specs.Listed.{Listing, finish_of, only, refused_at, behind, between, book_mark, same_mark}
 
 -- a text has at most so many bytes
 abbrev pub most_bytes : ℕ
@@ -69,9 +70,10 @@ pub data Lists (names : List (List ℕ)) (shelf : List ℕ → List ℕ) : List 
       → Lists names shelf around taken (Book (text_named names t)) inner → inner.finish ≢ finish.Clean
       → Lists names shelf around taken (Rest (form ∷ forms) end) (behind (item.Mark (book_mark t) ∷ []) inner)
 
--- a book's list, by a table of texts and each later one, of some shelf, which has a text as it is told
-pub record IsFlat (table : List (List ℕ)) (holds : List ℕ → Option (List ℕ)) (name : List ℕ) (items : List Item) (end : Finish) : Type 0 where
+-- a book's list, by a table of texts and each later one, of some shelf, which has a text as it is told. The table is one of the book's own text, on from a first one
+pub record IsFlat (first table : List (List ℕ)) (holds : List ℕ → Option (List ℕ)) (name : List ℕ) (items : List Item) (end : Finish) : Type 0 where
   pub shelf : List ℕ → List ℕ
   pub told : (other : List ℕ) → IfSome (holds other) (λ bytes. shelf other ≡ bytes)
   pub taken : List (List ℕ)
   pub lists : (names : List (List ℕ)) → Extends table names → Lists names shelf [] [] (Book name) (record { items = items; taken = taken; finish = end })
+  pub begins : length (shelf name) ≤ most_bytes → IsTableOf (shelf name) first table

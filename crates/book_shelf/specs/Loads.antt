@@ -1,6 +1,6 @@
 -- What a load has read and listed, part by part.
 use Rattle.gl_base.specs.Outside.{Rose}
-use Rattle.std.specs.Prelude.{◌≡◌, ℕ, false, List, [], ◌∷◌, ◌++◌, map, Option, None, Some, Result, IfSome, MatchResult}
+use Rattle.std.specs.Prelude.{◌≡◌, ◌≤◌, ℕ, false, List, [], ◌∷◌, ◌++◌, length, map, Option, None, Some, Result, IfSome, MatchResult}
 use Rattle.gl_logic.specs.Every.{Every}
 use Rattle.gl_logic.specs.Names.{Extends}
 use Rattle.gl_logic.specs.Numbered.{IsNumbered}
@@ -11,7 +11,8 @@ use Rattle.book_shelf.specs.declared.finish.Finish.{Finish}
 use Rattle.book_shelf.specs.declared.load_end.LoadEnd.{LoadEnd}
 use Rattle.book_shelf.specs.declared.load_end.LoadEnd.TheVariants.{Failed, Memory}
 use Rattle.book_shelf.specs.Listed.{Listing, behind}
-use Rattle.book_shelf.specs.Flat.{Goal, Book, Rest, Lists, is_among}
+use Rattle.sexp_reader.specs.Gathers.{IsTableOf}
+use Rattle.book_shelf.specs.Flat.{Goal, Book, Rest, Lists, is_among, most_bytes}
 
 -- ---- the shelf's count of faults: it rose where a call failed, and nowhere else
 abbrev pub HasRisen : ℕ → ℕ → LoadEnd → Type 0
@@ -51,6 +52,11 @@ pub record Took (holds : List ℕ → Option (List ℕ)) (taken : List (List ℕ
 pub record Loads (table : List (List ℕ)) (holds : List ℕ → Option (List ℕ)) (around taken : List (List ℕ)) (items : List Item) (goal : Goal) (now : List (List ℕ)) (listed : List Item) (end : Finish) : Type 0 where
   pub took : Took holds taken items now listed
   pub lists : (names : List (List ℕ)) → Extends table names → (shelf : List ℕ → List ℕ) → AreIn took.read shelf → Lists names shelf around taken goal (record { items = took.more; taken = now; finish = end })
+
+-- so was a book's, and the table is one of its text, on from the one that was there
+pub record LoadsBook (first table : List (List ℕ)) (holds : List ℕ → Option (List ℕ)) (around taken : List (List ℕ)) (items : List Item) (name : List ℕ) (now : List (List ℕ)) (listed : List Item) (end : Finish) : Type 0 where
+  pub loads : Loads table holds around taken items (Book name) now listed end
+  pub begins : (shelf : List ℕ → List ℕ) → AreIn loads.took.read shelf → length (shelf name) ≤ most_bytes → IsTableOf (shelf name) first table
 
 -- forms were gone over, whatever stands behind them
 pub record Passes (table : List (List ℕ)) (holds : List ℕ → Option (List ℕ)) (around taken : List (List ℕ)) (items : List Item) (front : List Form) (now : List (List ℕ)) (listed : List Item) : Type 0 where

@@ -6,8 +6,8 @@ ghost use Rattle.gl_logic.specs.Numbered.{IsNumbered};
 ghost use Rattle.sexp_reader.specs.declared.list.Form.{Form as FormSeen};
 ghost use Rattle.book_shelf.specs.declared.finish.ShelfCode.TheVariants as code;
 ghost use Rattle.book_shelf.specs.Included.{included as included_meant, is_book_name, text_named};
-ghost use Rattle.book_shelf.specs.Flat.{Book, IsFlat, Rest, is_among, most_texts};
-ghost use Rattle.book_shelf.specs.Loads.{Goes, IsCounted, IsNumberedForm, Loads};
+ghost use Rattle.book_shelf.specs.Flat.{IsFlat, Rest, is_among, most_texts};
+ghost use Rattle.book_shelf.specs.Loads.{Goes, IsCounted, IsNumberedForm, Loads, LoadsBook};
 ghost use Rattle.book_shelf.specs.NumberedItems.{IsNumberedItem};
 ghost use Rattle.gl_logic.specs.Every.{Every};
 ghost use Rattle.gl_logic.specs.Wording.{text_of};
@@ -43,7 +43,7 @@ pub fn load<S: Shelf>(
     name: &str,
     texts: &mut Texts,
 ) -> Result<Library, LoadEnd>
-    ensures flat { IfOk result (λ library. IsFlat texts.new (S.holds shelf.old) name.now library.items library.finish) }
+    ensures flat { IfOk result (λ library. IsFlat texts.old texts.new (S.holds shelf.old) name.now library.items library.finish) }
     ensures numbered { IfOk result (λ library. Every (IsNumberedItem (length texts.new)) library.items) }
     ensures texts { Extends texts.old texts.new }
     ensures kept { (other : List ℕ) → S.holds shelf.new other ≡ S.holds shelf.old other }
@@ -72,7 +72,7 @@ fn load_book<S: Shelf>(
 ) -> Result<Finish, LoadEnd>
     requires room { length loading.old.taken < most_texts }
     requires untaken { is_among name.now loading.old.taken ≡ false }
-    ensures lists { IfOk result (λ end. Loads texts.new (S.holds shelf.old) loading.old.around loading.old.taken loading.old.items (Book name.now) loading.new.taken loading.new.items end) }
+    ensures lists { IfOk result (λ end. LoadsBook texts.old texts.new (S.holds shelf.old) loading.old.around loading.old.taken loading.old.items name.now loading.new.taken loading.new.items end) }
     ensures around { OnOk result (loading.new.around ≡ loading.old.around) }
     ensures texts { Extends texts.old texts.new }
     ensures kept { (other : List ℕ) → S.holds shelf.new other ≡ S.holds shelf.old other }

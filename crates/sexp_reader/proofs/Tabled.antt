@@ -47,7 +47,7 @@ module _ (names : List (List ℕ)) (text : List ℕ) where
     | inr e ↦ rw e (list_any-append (bytes_eq other) names (text ∷ []) ∙ ap (λ b. b || list_any (bytes_eq other) (text ∷ [])) h)
   ]
 
-placed : (names : List (List ℕ)) (text : List ℕ) → Has names text → place_in names text < length names
+pub placed : (names : List (List ℕ)) (text : List ℕ) → Has names text → place_in names text < length names
 placed [] text h = absurd (cc)
 placed (n ∷ names) text h = elim (cases_Bool (bytes_eq text n)) [
   | inl e ↦ let here : place_in (n ∷ names) text ≡ 0 = ap (λ b. cond (not b) (1 + place_in names text) 0) e in omega (arith, here)
