@@ -1,9 +1,9 @@
 -- States of a book's first form.
-use Rattle.std.proofs.Common.{◌≡◌, ◌∙◌, ap, sym, refl, subst, ℕ, zero, suc, ◌+◌, ◌≤◌, ◌<◌, ◌||◌, Bool, true, false, cond, List, [], ◌∷◌, ◌++◌, length, length-append, get_or, Option, Some, None, slice_get, inl, inr, arith}
-use Rattle.std.specs.Prelude.{Result, Ok, Err, bytes_eq, pos}
+use Rattle.std.proofs.Common.{◌≡◌, ◌∙◌, ap, sym, refl, subst, ℕ, zero, suc, ◌+◌, ◌≤◌, ◌<◌, ◌||◌, Bool, true, false, cond, List, [], ◌∷◌, length, get_or, drop, Option, Some, None, slice_get, inl, inr, arith}
+use Rattle.std.specs.Prelude.{Result, Ok, Err, bytes_eq, fold, pos}
 use Rattle.std.specs.List.{list_any}
 use Rattle.std.proofs.lemmas.Bool.{cases_Bool}
-use Rattle.std.proofs.lemmas.List.Folds.{list_any-append}
+use Rattle.std.proofs.lemmas.List.Sums.{fold-append}
 use Rattle.std.proofs.lemmas.Option.{slice_get-get_or}
 use Rattle.gl_logic.specs.Object.{Object, Int, Symbol, Cons}
 use Rattle.gl_logic.specs.Exp.{Exp}
@@ -30,17 +30,19 @@ use Rattle.sexp_reader.proofs.FirstTable.{first_table}
 use Rattle.event_world.specs.NextState.{BookState}
 use Rattle.event_world.specs.Prelude.{IsPrelude}
 use Rattle.event_world.specs.PreludeTexts.{ground_texts}
-use Rattle.event_world.specs.PreludeForms.{Source, Word, Number, Pair, Spells, forms_in}
+use Rattle.event_world.specs.OpeningNames.{opening_names}
+use Rattle.event_world.specs.PreludeForms.{Source, Word, Number, Pair, Spells, forms_in, words_read}
 use Rattle.event_world.specs.PreludeTerms.{named}
 use Rattle.event_world.specs.PreludeRows.{HoldsFirst, IsNext, body_at, formals_in, symbols_of}
 use Rattle.event_world.proofs.PreludeTables.{same_text, spells_more}
-use Rattle.gl_logic.proofs.GrownTables.{extends_same, extends_then, extends_name}
+use Rattle.event_world.proofs.OpeningTables.{still_same, table_gaining, extends_gaining, words_of_texts, ground_words_read, has_empty, one_text_more, no_text_left}
+use Rattle.gl_logic.proofs.GrownTables.{extends_same}
 use Rattle.event_world.proofs.PreludeRows.{row, how_many_texts}
 use Rattle.event_world.proofs.PreludeParts.{Parts, parts_of, symbols_spelled}
 use Rattle.event_world.proofs.PreludeWorlds.{later_holds, is_prelude, none_held, apart_formals, all_apart, next_means, is_the_ground_one, is_admitted, its_title, its_variables, holds_more}
 use Rattle.book_state.specs.States.{IsFirstState, CanGoOn}
 use Rattle.book_state.specs.Reading.{IsReadBy}
-use Rattle.sexp_reader.proofs.Tabled.{has_it, table, is_table, extends_table, still_there, table_numbers}
+use Rattle.sexp_reader.proofs.Tabled.{has_it, table, is_table, extends_table, table_numbers}
 
 -- ---- later tables
 holds_all : (names : List (List ℕ)) (w : WorldSeen) → IsPrelude names w → HoldsFirst 43 names w
@@ -62,21 +64,6 @@ pub later_first : (names new : List (List ℕ)) (s : BookState) → IsTable new 
 later_first names new s table grown f = record { world = later_prelude names new s.world table grown f.world; mode = f.mode; memoized = f.memoized }
 
 -- ---- a table with the words of a form
-abbrev with_words : List (List ℕ) → Source → List (List ℕ)
-with_words names (Word w) = with_name names w
-with_words names (Number n) = names
-with_words names (Pair s r) = with_words (with_words names s) r
-
-words_table : (names : List (List ℕ)) (s : Source) → IsTable names → IsTable (with_words names s)
-words_table names (Word w) h = table_with names w h
-words_table names (Number n) h = h
-words_table names (Pair s r) h = words_table (with_words names s) r (words_table names s h)
-
-words_extend : (names : List (List ℕ)) (s : Source) → Extends names (with_words names s)
-words_extend names (Word w) = extends_name names (with_name names w) w refl
-words_extend names (Number n) = extends_same names
-words_extend names (Pair s r) = extends_then names (with_words names s) (with_words (with_words names s) r) (words_extend names s) (words_extend (with_words names s) r)
-
 place_there : (w : List ℕ) (names : List (List ℕ)) → list_any (bytes_eq w) names ≡ true → (n : ℕ) × (slice_get names n ≡ Some w)
 place_there w [] h = absurd cc
 place_there w (x ∷ xs) h = elim (cases_Bool (bytes_eq w x)) [
@@ -87,13 +74,15 @@ place_there w (x ∷ xs) h = elim (cases_Bool (bytes_eq w x)) [
 abbrev HasForm : List (List ℕ) → Source → Type 0
 HasForm names s = (x : Object) × Spells names x s
 
-spelled : (names : List (List ℕ)) (s : Source) → HasForm (with_words names s) s
+spelled : (names : List (List ℕ)) (s : Source) → HasForm (fold with_name names (words_read s)) s
 spelled names (Word w) = let n = place_there w (with_name names w) (has_it names w) in (Symbol n.0, n.1)
 spelled names (Number n) = (Int (pos n), refl)
 spelled names (Pair s r) =
-    let a = spelled names s in
-    let d = spelled (with_words names s) r in
-    (Cons a.0 d.0, (spells_more (with_words names s) (with_words (with_words names s) r) a.0 s (words_extend (with_words names s) r) a.1, d.1))
+    let behind = fold with_name names (words_read r) in
+    let d = spelled names r in
+    let a = spelled behind s in
+    subst (λ (ns : List (List ℕ)). HasForm ns (Pair s r)) (sym (fold-append with_name names (words_read r) (words_read s)))
+    (Cons a.0 d.0, (a.1, spells_more behind (fold with_name behind (words_read s)) d.0 r (extends_gaining behind (words_read s)) d.1))
 
 -- ---- the world of the first ground definitions
 record Held (k : ℕ) : Type 0 where
@@ -102,14 +91,16 @@ record Held (k : ℕ) : Type 0 where
   table : IsTable names
   holds : HoldsFirst k names world
   total : IsWorld world.definitions world.cliques
+  leads : fold with_name names (words_of_texts (drop k ground_texts)) ≡ opening_names
 
 none_yet : Held 0
 none_yet = record {
-  names = first_names;
+  names = with_name first_names [];
   world = record { definitions = []; cliques = []; constants = []; events = [] };
-  table = first_table;
-  holds = none_held first_names (record { definitions = []; cliques = []; constants = []; events = [] }) refl refl refl refl;
+  table = table_with first_names [] first_table;
+  holds = none_held (with_name first_names []) (record { definitions = []; cliques = []; constants = []; events = [] }) refl refl refl refl;
   total = no_world;
+  leads = ground_words_read first_names first_table;
 }
 
 abbrev measured_as : Option Measure → Result (Option Measure) ℕ
@@ -127,13 +118,13 @@ module _ (k : ℕ) (small : k < 43) (so_far : Held k) where
   at = slice_get-get_or ground_texts k [] (omega (arith, small, how_many_texts))
 
   abbrev new : List (List ℕ)
-  new = with_words so_far.names (forms_in text)
+  new = fold with_name so_far.names (words_read (forms_in text))
 
   new_table : IsTable new
-  new_table = words_table so_far.names (forms_in text) so_far.table
+  new_table = table_gaining so_far.names (words_read (forms_in text)) so_far.table
 
   grown : Extends so_far.names new
-  grown = words_extend so_far.names (forms_in text)
+  grown = extends_gaining so_far.names (words_read (forms_in text))
 
   form : HasForm new (forms_in text)
   form = spelled so_far.names (forms_in text)
@@ -178,6 +169,7 @@ module _ (k : ℕ) (small : k < 43) (so_far : Held k) where
         holds = subst (λ (n : ℕ). HoldsFirst n new (with_definition so_far.world d)) further
             (holds_more new new k so_far.world d (omega (arith, small)) (extends_same new) held ground (its_title new k its_parts.name vars its_parts.body next new (extends_same new)) (its_variables new k its_parts.name vars its_parts.body next new (extends_same new) vars refl) e);
         total = world_push so_far.world.definitions so_far.world.cliques (d ∷ []) so_far.total clique;
+        leads = one_text_more so_far.names opening_names k text at so_far.leads;
       }
   one_more (Err i) e = absurd (is_admitted new k its_parts.name vars its_parts.body next apart body refl i e)
 
@@ -185,51 +177,59 @@ held_up_to : (k : ℕ) → k ≤ 43 → Held k
 held_up_to zero h = none_yet
 held_up_to (suc k) h = let so_far = held_up_to k (omega (arith, h)) in one_more k (omega (arith, h)) so_far (verdict k (vars k (omega (arith, h)) so_far) (body k (omega (arith, h)) so_far) None) refl
 
--- ---- a table of texts that has the ground definitions' words, the empty text and a book's
+-- ---- the table that every book begins with, and a first state in it
+pub record Opening : Type 0 where
+  pub state : BookState
+  pub table : IsTable opening_names
+  pub begins : IsFirstState opening_names state
+  pub can : CanGoOn state
+
+pub opening : Opening
+opening =
+    let all = held_up_to 43 (omega arith) in
+    let same : all.names ≡ opening_names = no_text_left all.names opening_names all.leads in
+    let prelude = is_prelude all.names all.world all.table all.holds in
+    record {
+      state = record { world = all.world; mode = mode.Bdd; memoized = [] };
+      table = subst IsTable same all.table;
+      begins = record { world = subst (λ (ns : List (List ℕ)). IsPrelude ns all.world) same prelude; mode = refl; memoized = refl };
+      can = record { ground = prelude.all; total = all.total };
+    }
+
+-- a table that has the empty text, and what is put behind it
+pub still_empty : (names new : List (List ℕ)) → Extends names new → with_name names [] ≡ names → with_name new [] ≡ new
+still_empty names new grown h = still_same names new [] grown h
+
+-- ---- a table that begins with that one and has a book's texts
 pub record FirstTable (bytes : List ℕ) : Type 0 where
   pub names : List (List ℕ)
   pub forms : List Form
   pub end : End
   pub state : BookState
   pub read : IsReadBy names bytes forms end
+  pub opens : Extends opening_names names
   pub begins : IsFirstState names state
   pub can : CanGoOn state
 
-with_same : (names : List (List ℕ)) (w : List ℕ) → list_any (bytes_eq w) names ≡ true → with_name names w ≡ names
-with_same names w h = rw h refl
-
-empty_there : (names : List (List ℕ)) (b : Bool) → list_any (bytes_eq []) names ≡ b → with_name names [] ≡ names → list_any (bytes_eq []) names ≡ true
-empty_there names true e h = e
-empty_there names false e h =
-    let z : names ++ [] ∷ [] ≡ names = sym (ap (λ (b : Bool). cond b names (names ++ [] ∷ [])) e) ∙ h in
-    absurd (omega (arith, ap length z, length-append names ([] ∷ [])))
-
--- a table that has the empty text, and what is put behind it
-pub still_empty : (names new : List (List ℕ)) → Extends names new → with_name names [] ≡ names → with_name new [] ≡ new
-still_empty names new grown h =
-    let e = empty_there names (list_any (bytes_eq []) names) refl h in
-    with_same new [] (ap (list_any (bytes_eq [])) grown.1 ∙ (list_any-append (bytes_eq []) names grown.0 ∙ ap (λ (b : Bool). b || list_any (bytes_eq []) grown.0) e))
-
 pub some_table : (bytes : List ℕ) → FirstTable bytes
 some_table bytes =
-    let all = held_up_to 43 (omega arith) in
-    let named : List (List ℕ) = with_name all.names [] in
-    let named_table : IsTable named = table_with all.names [] all.table in
-    let names = table named named_table bytes in
-    let its_table = is_table named named_table bytes in
-    let grown = extends_then all.names named names (extends_name all.names named [] refl) (extends_table named named_table bytes) in
+    let o = opening in
+    let names = table opening_names o.table bytes in
+    let its_table = is_table opening_names o.table bytes in
+    let grown = extends_table opening_names o.table bytes in
     let reading = some_reading names (start bytes) in
     record {
       names = names;
       forms = reading.0;
       end = reading.1;
-      state = record { world = all.world; mode = mode.Bdd; memoized = [] };
+      state = o.state;
       read = record {
         table = its_table;
-        empty = with_same names [] (still_there named named_table bytes [] (has_it all.names []));
+        empty = still_empty opening_names names grown (has_empty first_names);
         reads = reading.2;
-        numbered = table_numbers named named_table bytes reading.0 reading.1 reading.2;
+        numbered = table_numbers opening_names o.table bytes reading.0 reading.1 reading.2;
       };
-      begins = record { world = is_prelude names all.world its_table (later_holds all.names names 43 all.world (omega arith) grown all.holds); mode = refl; memoized = refl };
-      can = record { ground = (is_prelude all.names all.world all.table all.holds).all; total = all.total };
+      opens = grown;
+      begins = later_first opening_names names o.state its_table grown o.begins;
+      can = o.can;
     }
