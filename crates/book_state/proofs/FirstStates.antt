@@ -42,7 +42,9 @@ use Rattle.event_world.proofs.PreludeParts.{Parts, parts_of, symbols_spelled}
 use Rattle.event_world.proofs.PreludeWorlds.{later_holds, is_prelude, none_held, apart_formals, all_apart, next_means, is_the_ground_one, is_admitted, its_title, its_variables, holds_more}
 use Rattle.book_state.specs.States.{IsFirstState, CanGoOn}
 use Rattle.book_state.specs.Reading.{IsReadBy}
-use Rattle.sexp_reader.proofs.Tabled.{has_it, table, is_table, extends_table, table_numbers}
+use Rattle.sexp_reader.specs.Gathers.{Gathers, Numbers}
+use Rattle.sexp_reader.proofs.Gathering.{gathers_table, gathers_extends}
+use Rattle.sexp_reader.proofs.Tabled.{has_it}
 
 -- ---- later tables
 holds_all : (names : List (List ℕ)) (w : WorldSeen) → IsPrelude names w → HoldsFirst 43 names w
@@ -200,36 +202,32 @@ opening =
 pub still_empty : (names new : List (List ℕ)) → Extends names new → with_name names [] ≡ names → with_name new [] ≡ new
 still_empty names new grown h = still_same names new [] grown h
 
--- ---- a table that begins with that one and has a book's texts
-pub record FirstTable (bytes : List ℕ) : Type 0 where
-  pub names : List (List ℕ)
+-- ---- a book's text, by a table that it gathers on from that one
+pub record FirstReading (names : List (List ℕ)) (bytes : List ℕ) : Type 0 where
   pub forms : List Form
   pub end : End
   pub state : BookState
   pub read : IsReadBy names bytes forms end
-  pub opens : Extends opening_names names
   pub begins : IsFirstState names state
   pub can : CanGoOn state
 
-pub some_table : (bytes : List ℕ) → FirstTable bytes
-some_table bytes =
+pub first_reading : (names : List (List ℕ)) (bytes : List ℕ) → Gathers bytes opening_names names → Numbers names bytes → FirstReading names bytes
+first_reading names bytes gathers numbers =
     let o = opening in
-    let names = table opening_names o.table bytes in
-    let its_table = is_table opening_names o.table bytes in
-    let grown = extends_table opening_names o.table bytes in
+    let its_table = gathers_table bytes opening_names names o.table gathers in
+    let grown = gathers_extends bytes opening_names names gathers in
     let reading = some_reading names (start bytes) in
     record {
-      names = names;
       forms = reading.0;
       end = reading.1;
       state = o.state;
       read = record {
         table = its_table;
+        opens = record { front = names; gathers = gathers; numbers = numbers; extends = extends_same names };
         empty = still_empty opening_names names grown (has_empty first_names);
         reads = reading.2;
-        numbered = table_numbers opening_names o.table bytes reading.0 reading.1 reading.2;
+        numbered = numbers reading.0 reading.1 reading.2;
       };
-      opens = grown;
       begins = later_first opening_names names o.state its_table grown o.begins;
       can = o.can;
     }
