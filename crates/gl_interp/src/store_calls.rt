@@ -14,15 +14,7 @@ use bfr_store::{Bits, Edge};
 use gl_logic::{Assignment, NoMemory};
 use std::alloc::Global;
 use sym_objects::Sobs;
-use sym_prims::store_calls::{conjunction, reaches};
-
-/// How many variables the store has.
-pub fn width<B: Bits>(objs: &mut Sobs<B>) -> u32
-    ensures same { objs.new ≡ objs.old }
-    ensures width { result ≡ B.width_of objs.old.store }
-{
-    objs.store().width()
-}
+use sym_prims::store_calls::{conjunction, reaches, width};
 
 /// The truth of an edge under an assignment.
 pub fn value<B: Bits>(objs: &mut Sobs<B>, edge: Edge, a: &Assignment) -> bool

@@ -11,6 +11,7 @@ use gl_logic::{Assignment, NoMemory};
 use std::alloc::Global;
 use sym_objects::Sobs;
 use sym_prims::SymFault;
+use sym_prims::store_calls::width;
 
 /// A store whose decisions leave behind what shows that no assignment makes a function true.
 pub trait CertifyingStore: Bits {
@@ -28,14 +29,6 @@ pub trait CertifyingStore: Bits {
         ensures spent { result ≡ Ok Decision.Spent → IsTrue (Self.spent self.new) }
         ensures bits { length out.new ≡ length out.old }
         ensures shown { result ≡ Ok Decision.Never → shown self.new };
-}
-
-/// How many variables the store has.
-fn width<B: CertifyingStore>(objs: &mut Sobs<B>) -> u32
-    ensures same { objs.new ≡ objs.old }
-    ensures width { result ≡ B.width_of objs.old.store }
-{
-    objs.store().width()
 }
 
 /// The store's decision on an edge.

@@ -86,7 +86,7 @@ pub fn beyond_byte<B: Bits>(objs: &mut Sobs<B>, bits: &Bitvec) -> Result<Edge, F
 }
 
 /// How many variables the store has.
-fn width<B: Bits>(objs: &mut Sobs<B>) -> u32
+pub fn width<B: Bits>(objs: &mut Sobs<B>) -> u32
     ensures same { objs.new ≡ objs.old }
     ensures width { result ≡ B.width_of objs.old.store }
 {

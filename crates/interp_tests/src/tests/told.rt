@@ -9,6 +9,7 @@ use gl_base::limits::Limits;
 use gl_interp::GlFault;
 use gl_logic::Assignment;
 use sym_objects::Sobs;
+use sym_prims::store_calls::width;
 
 /// What there is little of.
 #[derive(Clone, Copy, Debug, PartialEq, Eq)]
@@ -113,14 +114,6 @@ pub fn number_of(found: &Assignment, width: u32) -> i128
         };
     }
     number
-}
-
-/// How many variables the store has.
-fn width<B: Bits>(objs: &mut Sobs<B>) -> u32
-    ensures same { objs.new ≡ objs.old }
-    ensures width { result ≡ B.width_of objs.old.store }
-{
-    objs.store().width()
 }
 
 /// The truth of an edge under an assignment.
