@@ -6,6 +6,7 @@ pub mod Causes
 pub mod CellsOfCalls
 pub mod ConstantWalks
 pub mod Copies
+pub mod Falling
 pub mod GiveTurns
 pub mod InputParts
 pub mod Machines

@@ -119,27 +119,19 @@ module _ {B : Type 0} (g : Ghosts B) (old : SobsSeen B) (t : Task) where
     ];
   }
 
-  -- the same, from the interpreter's own names for what a turn leaves
-  pub running_turn : (now new next : SobsSeen B) (machine after held : MachineSeen) (es later ls : List (List (ℕ × Sob))) (path way there : Path) (gs fs hs ks : List Frame) (e f h m : Focus) → Running g old t now machine es path gs e → gs ≡ fs → e ≡ f → Leaves g now new → Rests machine after
-      → Turns g t.world.definitions t.path now es fs f new later way hs h → AreTerms t.world.definitions hs h
-      → next ≡ new → held ≡ after → ls ≡ later → there ≡ way → ks ≡ hs → m ≡ h → Running g old t next held ls there ks m
-  running_turn now new next machine after held es later ls path way there gs fs hs ks e f h m r i j k s u terms a q b c d n =
+  -- the same of equal frames and an equal focus
+  pub running_turn : (now new : SobsSeen B) (machine after : MachineSeen) (es later : List (List (ℕ × Sob))) (path way : Path) (gs fs hs : List Frame) (e f h : Focus) → Running g old t now machine es path gs e → gs ≡ fs → e ≡ f → Leaves g now new → Rests machine after
+      → Turns g t.world.definitions t.path now es fs f new later way hs h → AreTerms t.world.definitions hs h → Running g old t new after later way hs h
+  running_turn now new machine after es later path way gs fs hs e f h r i j k s u terms =
       let before : Running g old t now machine es path fs f = subst (λ z. Running g old t now machine es path fs z) j (subst (λ z. Running g old t now machine es path z e) i r) in
-      subst (λ z. Running g old t z held ls there ks m) (sym a)
-      (subst (λ z. Running g old t new z ls there ks m) (sym q)
-      (subst (λ z. Running g old t new after z there ks m) (sym b)
-      (subst (λ z. Running g old t new after later z ks m) (sym c)
-      (subst (λ z. Running g old t new after later way z m) (sym d)
-      (subst (λ z. Running g old t new after later way hs z) (sym n)
-      (running_then now new machine after es later path way fs hs f h before k s u terms))))))
+      running_then now new machine after es later path way fs hs f h before k s u terms
 
   -- a turn that keeps what the frames make
-  pub running_plain : (now new next : SobsSeen B) (machine after held : MachineSeen) (es later ls : List (List (ℕ × Sob))) (path way there : Path) (gs fs hs ks : List Frame) (e f h m : Focus) → Running g old t now machine es path gs e → gs ≡ fs → e ≡ f → Leaves g now new → Rests machine after
-      → Turn g t.world.definitions t.path now es fs f new later way hs h → (AreTerms t.world.definitions fs f → AreTerms t.world.definitions hs h)
-      → next ≡ new → held ≡ after → ls ≡ later → there ≡ way → ks ≡ hs → m ≡ h → Running g old t next held ls there ks m
-  running_plain now new next machine after held es later ls path way there gs fs hs ks e f h m r i j k s u terms a q b c d n =
+  pub running_plain : (now new : SobsSeen B) (machine after : MachineSeen) (es later : List (List (ℕ × Sob))) (path way : Path) (gs fs hs : List Frame) (e f h : Focus) → Running g old t now machine es path gs e → gs ≡ fs → e ≡ f → Leaves g now new → Rests machine after
+      → Turn g t.world.definitions t.path now es fs f new later way hs h → (AreTerms t.world.definitions fs f → AreTerms t.world.definitions hs h) → Running g old t new after later way hs h
+  running_plain now new machine after es later path way gs fs hs e f h r i j k s u terms =
       let before : Running g old t now machine es path fs f = subst (λ z. Running g old t now machine es path fs z) j (subst (λ z. Running g old t now machine es path z e) i r) in
-      running_turn now new next machine after held es later ls path way there fs fs hs ks f f h m before refl refl k s (turns_of g t.world.definitions t.path now new es later way fs hs f h u) (terms before.terms) a q b c d n
+      running_then now new machine after es later path way fs hs f h before k s (turns_of g t.world.definitions t.path now new es later way fs hs f h u) (terms before.terms)
 
   -- nothing is left: the object is the value
   pub running_done : (now : SobsSeen B) (machine : MachineSeen) (es : List (List (ℕ × Sob))) (path : Path) (fs : List Frame) (f : Focus) (x : Sob) → Running g old t now machine es path fs f → fs ≡ [] → f ≡ focus.Give x → (a : ℕ → Bool) → g.truth_of old.store t.path a ≡ true

@@ -10,5 +10,6 @@ pub mod Placed
 pub mod Running
 pub mod Shapes
 pub mod TurnFaults
+pub mod TurnsLeft
 pub mod Walking
 pub mod Whole

@@ -48,7 +48,7 @@ pub fn interp<B: Bits>(
     let mut way = path_of(alloc, objs, path)?;
     let mut frames = Stack::new(alloc);
     let mut focus = Focus::Visit(term, first, clock);
-    for turn in 0..u64::MAX {
+    loop {
         match focus {
             Focus::Visit(t, e, n) => {
                 match visit(
@@ -109,5 +109,4 @@ pub fn interp<B: Bits>(
             },
         }
     }
-    Err(GlFault::Memory)
 }

@@ -8,6 +8,7 @@ ghost use Rattle.sym_prims.specs.Applying.{Leaves};
 ghost use Rattle.gl_interp.specs.Branches.{IsPartOf, IsSplit};
 ghost use Rattle.gl_interp.specs.Running.{AreTerms, IsWay, Ready, Turn};
 ghost use Rattle.gl_interp.specs.TurnFaults.{HasPlainCause};
+ghost use Rattle.gl_interp.specs.TurnsLeft.{Falls};
 
 use super::envs::{EnvId, Envs};
 use super::fault::GlFault;
@@ -35,6 +36,7 @@ pub(crate) fn next<'a, B: Bits>(
     requires ready { Ready B.Meaning objs.now envs.now start path.now frames.old (Focus.Next work done terms env clock) }
     ensures turn { IfOk result (λ f. (ds : List Definition) → Turn B.Meaning ds start objs.now envs.now frames.old (Focus.Next work.entry done terms.entry env clock) objs.now envs.now path.now frames.new f) }
     ensures terms { IfOk result (λ f. (ds : List Definition) → AreTerms ds frames.old (Focus.Next work.entry done terms.entry env clock) → AreTerms ds frames.new f) }
+    ensures falls { IfOk result (λ f. (ds : List Definition) → Falls ds frames.old (Focus.Next work.entry done terms.entry env clock) frames.new f) }
 {
     if done.len() < terms.len() {
         let term = &terms[done.len()];
@@ -60,6 +62,7 @@ pub(crate) fn give<'a, B: Bits>(
     ensures leaves { Leaves B.Meaning objs.old objs.new }
     ensures turn { IfOk result (λ f. (ds : List Definition) → Turn B.Meaning ds start objs.old envs.now (frame.entry ∷ frames.old) (Focus.Give object) objs.new envs.now path.new frames.new f) }
     ensures terms { IfOk result (λ f. (ds : List Definition) → AreTerms ds (frame.entry ∷ frames.old) (Focus.Give object) → AreTerms ds frames.new f) }
+    ensures falls { IfOk result (λ f. (ds : List Definition) → Falls ds (frame.entry ∷ frames.old) (Focus.Give object) frames.new f) }
     ensures cause { IfErr result (HasPlainCause B.Meaning objs.new) }
 {
     match frame {
@@ -100,6 +103,7 @@ fn branch<'a, B: Bits>(
     ensures leaves { Leaves B.Meaning objs.old objs.new }
     ensures turn { IfOk result (λ f. (ds : List Definition) → Turn B.Meaning ds start objs.old envs.now (Frame.Test a.entry b.entry env clock ∷ frames.old) (Focus.Give object) objs.new envs.now path.new frames.new f) }
     ensures terms { IfOk result (λ f. (ds : List Definition) → AreTerms ds (Frame.Test a.entry b.entry env clock ∷ frames.old) (Focus.Give object) → AreTerms ds frames.new f) }
+    ensures falls { IfOk result (λ f. (ds : List Definition) → Falls ds (Frame.Test a.entry b.entry env clock ∷ frames.old) (Focus.Give object) frames.new f) }
     ensures cause { IfErr result (HasPlainCause B.Meaning objs.new) }
 {
     let test = objs.truth(alloc, object)?;

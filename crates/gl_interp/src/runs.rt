@@ -11,6 +11,7 @@ ghost use Rattle.gl_interp.specs.Calls.{values_under};
 ghost use Rattle.gl_interp.specs.Causes.{Rests};
 ghost use Rattle.gl_interp.specs.Running.{AreTerms, IsWay, Ready, Turns};
 ghost use Rattle.gl_interp.specs.TurnFaults.{HasMachineCause, HasTurnCause};
+ghost use Rattle.gl_interp.specs.TurnsLeft.{Falls};
 
 use super::calls::{CallFault, are_constant, call};
 use super::envs::{EnvId, Envs};
@@ -45,6 +46,7 @@ pub(crate) fn run<'a, B: Bits>(
     ensures leaves { Leaves B.Meaning objs.old objs.new }
     ensures turn { IfOk result (λ f. Turns B.Meaning world.now.definitions start objs.old envs.old frames.now (Focus.Run work.entry args env clock) objs.new envs.new path.now frames.now f) }
     ensures terms { IfOk result (λ f. AreTerms world.now.definitions frames.now f) }
+    ensures falls { IfOk result (Falls world.now.definitions frames.now (Focus.Run work.entry args env clock) frames.now) }
     ensures cause { IfErr result (HasTurnCause B.Meaning objs.old objs.new world.now machine.old path.now (Focus.Run work.entry args env clock)) }
     ensures rests { Rests machine.old machine.new }
 {

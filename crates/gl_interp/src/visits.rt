@@ -9,6 +9,7 @@ ghost use Rattle.sym_prims.specs.Applying.{Leaves};
 ghost use Rattle.gl_interp.specs.Causes.{Rests};
 ghost use Rattle.gl_interp.specs.Running.{AreTerms, IsWay, Ready, Turn};
 ghost use Rattle.gl_interp.specs.TurnFaults.{HasConstantCause, HasPlainCause, HasTurnCause};
+ghost use Rattle.gl_interp.specs.TurnsLeft.{Falls};
 
 use super::constants::{PlaceFault, constant};
 use super::envs::{EnvId, Envs};
@@ -39,6 +40,7 @@ pub(crate) fn visit<'a, B: Bits>(
     ensures leaves { Leaves B.Meaning objs.old objs.new }
     ensures turn { IfOk result (λ f. (ds : List Definition) → Turn B.Meaning ds start objs.old envs.now frames.old (Focus.Visit term.entry env clock) objs.new envs.now path.now frames.new f) }
     ensures terms { IfOk result (λ f. (ds : List Definition) → AreTerms ds frames.old (Focus.Visit term.entry env clock) → AreTerms ds frames.new f) }
+    ensures falls { IfOk result (λ f. (ds : List Definition) → Falls ds frames.old (Focus.Visit term.entry env clock) frames.new f) }
     ensures cause { IfErr result (λ c. (w : WorldSeen) → HasTurnCause B.Meaning objs.old objs.new w machine.old path.now (Focus.Visit term.entry env clock) c) }
     ensures rests { Rests machine.old machine.new }
 {

@@ -5,13 +5,13 @@ use Rattle.gl_interp.specs.Causes.{Task}
 use Rattle.gl_interp.specs.Whole.{Running}
 use Rattle.gl_interp.specs.declared.frame.Focus.TheVariants as focus
 use Rattle.gl_interp.proofs.Causes.{run_cause, visit_cause}
+use Rattle.gl_interp.proofs.Falling.{falls_turn}
 use Rattle.gl_interp.proofs.Machines.{rests_none, rests_then}
 use Rattle.gl_interp.proofs.Whole.{interprets_err, interprets_ok, running_begin, running_plain, running_turn}
 use Rattle.gl_interp.proofs.interpreter.interp.Goals as goal
-use Rattle.gl_interp.proofs.interpreter.interp.Goals.{in-Visit+in-Ok, in-Next+in_ok-focus-in-Next, in-Run+in-Ok-run, in-Give+in-Some+in-Ok-give}
 
-pub loop-turn-init : goal.loop-turn-init
-loop-turn-init g c =
+pub loop-focus-init : goal.loop-focus-init
+loop-focus-init g c =
     let first = c.in_ok-first.ensures in
     let way = c.in_ok-way.ensures in
     let task : Task = record { world = c.args.world.now; machine = c.args.machine.now; clock = c.args.clock; term = term_of c.args.term.now; env = c.args.env.now; path = c.args.path } in
@@ -21,50 +21,68 @@ loop-turn-init g c =
 
 pub returns-in-None-clause-interprets : goal.returns-in-None-clause-interprets
 returns-in-None-clause-interprets g c =
-    interprets_ok g.B.Meaning c.args.objs.now (record { world = c.args.world.now; machine = c.args.machine.now; clock = c.args.clock; term = term_of c.args.term.now; env = c.args.env.now; path = c.args.path }) c.loop-turn.objs c.loop-turn.machine c.loop-turn.envs c.loop-turn.way c.loop-turn.frames c.loop-turn.focus c.in-Give.object c.loop-turn.invariant c.in-None.ensures.0 c.in-Give.is
+    interprets_ok g.B.Meaning c.args.objs.now (record { world = c.args.world.now; machine = c.args.machine.now; clock = c.args.clock; term = term_of c.args.term.now; env = c.args.env.now; path = c.args.path }) c.loop-focus.objs c.loop-focus.machine c.loop-focus.envs c.loop-focus.way c.loop-focus.frames c.loop-focus.focus c.in-Give.object c.loop-focus.invariant c.in-None.ensures.0 c.in-Give.is
 
 pub returns-in-Err-clause-interprets : goal.returns-in-Err-clause-interprets
 returns-in-Err-clause-interprets g c =
     let task : Task = record { world = c.args.world.now; machine = c.args.machine.now; clock = c.args.clock; term = term_of c.args.term.now; env = c.args.env.now; path = c.args.path } in
-    let inv = c.loop-turn.invariant in
+    let inv = c.loop-focus.invariant in
     let e = c.in-Err.ensures in
-    interprets_err g.B.Meaning c.args.objs.now task c.visit.new.objs c.in-Err.fault (leaves_then g.B.Meaning c.args.objs.now c.loop-turn.objs c.visit.new.objs inv.leaves e.leaves)
-    (visit_cause g.B.Meaning c.args.objs.now task c.loop-turn.objs c.visit.new.objs c.loop-turn.machine c.loop-turn.envs c.loop-turn.way c.loop-turn.frames c.loop-turn.focus inv e.leaves c.in-Visit.t c.in-Visit.e c.in-Visit.n c.in-Visit.is c.in-Err.fault (e.cause c.args.world.now))
+    interprets_err g.B.Meaning c.args.objs.now task c.visit.new.objs c.in-Err.fault (leaves_then g.B.Meaning c.args.objs.now c.loop-focus.objs c.visit.new.objs inv.leaves e.leaves)
+    (visit_cause g.B.Meaning c.args.objs.now task c.loop-focus.objs c.visit.new.objs c.loop-focus.machine c.loop-focus.envs c.loop-focus.way c.loop-focus.frames c.loop-focus.focus inv e.leaves c.in-Visit.t c.in-Visit.e c.in-Visit.n c.in-Visit.is c.in-Err.fault (e.cause c.args.world.now))
 
 pub returns-in-Err-clause-rests : goal.returns-in-Err-clause-rests
-returns-in-Err-clause-rests g c = rests_then c.args.machine.now c.loop-turn.machine c.visit.new.machine c.loop-turn.invariant.rests c.in-Err.ensures.rests
+returns-in-Err-clause-rests g c = rests_then c.args.machine.now c.loop-focus.machine c.visit.new.machine c.loop-focus.invariant.rests c.in-Err.ensures.rests
 
 pub run-requires-clause-fits : goal.run-requires-clause-fits
-run-requires-clause-fits g c = c.loop-turn.invariant.rests.fits c.args.world.now c.requires.fits
+run-requires-clause-fits g c = c.loop-focus.invariant.rests.fits c.args.world.now c.requires.fits
 
 pub returns-in-Err-run-clause-interprets : goal.returns-in-Err-run-clause-interprets
 returns-in-Err-run-clause-interprets g c =
     let task : Task = record { world = c.args.world.now; machine = c.args.machine.now; clock = c.args.clock; term = term_of c.args.term.now; env = c.args.env.now; path = c.args.path } in
-    let inv = c.loop-turn.invariant in
+    let inv = c.loop-focus.invariant in
     let e = c.in-Err-run.ensures in
-    interprets_err g.B.Meaning c.args.objs.now task c.run.new.objs c.in-Err-run.fault (leaves_then g.B.Meaning c.args.objs.now c.loop-turn.objs c.run.new.objs inv.leaves e.leaves)
-    (run_cause g.B.Meaning c.args.objs.now task c.loop-turn.objs c.run.new.objs c.loop-turn.machine c.loop-turn.envs c.loop-turn.way c.loop-turn.frames c.loop-turn.focus inv e.leaves c.in-Run.work c.in-Run.args c.in-Run.e c.in-Run.n c.in-Run.is c.in-Err-run.fault e.cause)
+    interprets_err g.B.Meaning c.args.objs.now task c.run.new.objs c.in-Err-run.fault (leaves_then g.B.Meaning c.args.objs.now c.loop-focus.objs c.run.new.objs inv.leaves e.leaves)
+    (run_cause g.B.Meaning c.args.objs.now task c.loop-focus.objs c.run.new.objs c.loop-focus.machine c.loop-focus.envs c.loop-focus.way c.loop-focus.frames c.loop-focus.focus inv e.leaves c.in-Run.work c.in-Run.args c.in-Run.e c.in-Run.n c.in-Run.is c.in-Err-run.fault e.cause)
 
 pub returns-in-Err-run-clause-rests : goal.returns-in-Err-run-clause-rests
-returns-in-Err-run-clause-rests g c = rests_then c.args.machine.now c.loop-turn.machine c.run.new.machine c.loop-turn.invariant.rests c.in-Err-run.ensures.rests
+returns-in-Err-run-clause-rests g c = rests_then c.args.machine.now c.loop-focus.machine c.run.new.machine c.loop-focus.invariant.rests c.in-Err-run.ensures.rests
 
-pub loop-turn-preserved : goal.loop-turn-preserved
-loop-turn-preserved g c =
-    let task : Task = record { world = c.args.world.now; machine = c.args.machine.now; clock = c.args.clock; term = term_of c.args.term.now; env = c.args.env.now; path = c.args.path } in
+pub loop-focus-preserved-in-Ok : goal.loop-focus-preserved-in-Ok
+loop-focus-preserved-in-Ok g c =
     let ds = c.args.world.now.definitions in
-    let now = c.loop-turn.objs in
-    let inv = c.loop-turn.invariant in
-    elim c.match-focus.branch [
-      | in-Visit+in-Ok w ↦ running_plain g.B.Meaning c.args.objs.now task
-          now _ _ c.loop-turn.machine _ _ c.loop-turn.envs _ _ c.loop-turn.way _ _ c.loop-turn.frames _ _ _ c.loop-turn.focus _ _ _ inv refl w.in-Visit.is w.in-Ok.ensures.leaves w.in-Ok.ensures.rests (w.in-Ok.ensures.turn ds) (w.in-Ok.ensures.terms ds)
-          w.objs-is w.machine-is w.envs-is w.way'-is w.frames-is w.focus-is
-      | in-Next+in_ok-focus-in-Next w ↦ running_plain g.B.Meaning c.args.objs.now task
-          now _ _ c.loop-turn.machine _ _ c.loop-turn.envs _ _ c.loop-turn.way _ _ c.loop-turn.frames _ _ _ c.loop-turn.focus _ _ _ inv refl w.in-Next.is (leaves_none g.B.Meaning now inv.ready.whole) (rests_none c.loop-turn.machine) (w.in_ok-focus-in-Next.ensures.turn ds) (w.in_ok-focus-in-Next.ensures.terms ds)
-          w.objs-is w.machine-is w.envs-is w.way'-is w.frames-is w.focus-is
-      | in-Run+in-Ok-run w ↦ running_turn g.B.Meaning c.args.objs.now task
-          now _ _ c.loop-turn.machine _ _ c.loop-turn.envs _ _ c.loop-turn.way _ _ c.loop-turn.frames _ _ _ c.loop-turn.focus _ _ _ inv refl w.in-Run.is w.in-Ok-run.ensures.leaves w.in-Ok-run.ensures.rests w.in-Ok-run.ensures.turn w.in-Ok-run.ensures.terms
-          w.objs-is w.machine-is w.envs-is w.way'-is w.frames-is w.focus-is
-      | in-Give+in-Some+in-Ok-give w ↦ running_plain g.B.Meaning c.args.objs.now task
-          now _ _ c.loop-turn.machine _ _ c.loop-turn.envs _ _ c.loop-turn.way _ _ c.loop-turn.frames _ _ _ c.loop-turn.focus _ _ _ inv w.in-Some.ensures w.in-Give.is w.in-Ok-give.ensures.leaves (rests_none c.loop-turn.machine) (w.in-Ok-give.ensures.turn ds) (w.in-Ok-give.ensures.terms ds)
-          w.objs-is w.machine-is w.envs-is w.way'-is w.frames-is w.focus-is
-    ]
+    let task : Task = record { world = c.args.world.now; machine = c.args.machine.now; clock = c.args.clock; term = term_of c.args.term.now; env = c.args.env.now; path = c.args.path } in
+    let l = c.loop-focus in
+    running_plain g.B.Meaning c.args.objs.now task l.objs _ l.machine _ l.envs _ l.way _ l.frames l.frames _ l.focus _ _ l.invariant refl c.in-Visit.is c.in-Ok.ensures.leaves c.in-Ok.ensures.rests (c.in-Ok.ensures.turn ds) (c.in-Ok.ensures.terms ds)
+
+pub loop-focus-smaller-in-Ok : goal.loop-focus-smaller-in-Ok
+loop-focus-smaller-in-Ok g c = falls_turn c.args.world.now.definitions c.loop-focus.frames c.loop-focus.frames _ c.loop-focus.focus _ _ refl c.in-Visit.is (c.in-Ok.ensures.falls c.args.world.now.definitions)
+
+pub loop-focus-preserved-in-Next : goal.loop-focus-preserved-in-Next
+loop-focus-preserved-in-Next g c =
+    let ds = c.args.world.now.definitions in
+    let task : Task = record { world = c.args.world.now; machine = c.args.machine.now; clock = c.args.clock; term = term_of c.args.term.now; env = c.args.env.now; path = c.args.path } in
+    let l = c.loop-focus in
+    running_plain g.B.Meaning c.args.objs.now task l.objs _ l.machine _ l.envs _ l.way _ l.frames l.frames _ l.focus _ _ l.invariant refl c.in-Next.is (leaves_none g.B.Meaning l.objs l.invariant.ready.whole) (rests_none l.machine) (c.in_ok-focus-in-Next.ensures.turn ds) (c.in_ok-focus-in-Next.ensures.terms ds)
+
+pub loop-focus-smaller-in-Next : goal.loop-focus-smaller-in-Next
+loop-focus-smaller-in-Next g c = falls_turn c.args.world.now.definitions c.loop-focus.frames c.loop-focus.frames _ c.loop-focus.focus _ _ refl c.in-Next.is (c.in_ok-focus-in-Next.ensures.falls c.args.world.now.definitions)
+
+pub loop-focus-preserved-in-Ok-run : goal.loop-focus-preserved-in-Ok-run
+loop-focus-preserved-in-Ok-run g c =
+    let task : Task = record { world = c.args.world.now; machine = c.args.machine.now; clock = c.args.clock; term = term_of c.args.term.now; env = c.args.env.now; path = c.args.path } in
+    let l = c.loop-focus in
+    running_turn g.B.Meaning c.args.objs.now task l.objs _ l.machine _ l.envs _ l.way _ l.frames l.frames _ l.focus _ _ l.invariant refl c.in-Run.is c.in-Ok-run.ensures.leaves c.in-Ok-run.ensures.rests c.in-Ok-run.ensures.turn c.in-Ok-run.ensures.terms
+
+pub loop-focus-smaller-in-Ok-run : goal.loop-focus-smaller-in-Ok-run
+loop-focus-smaller-in-Ok-run g c = falls_turn c.args.world.now.definitions c.loop-focus.frames c.loop-focus.frames _ c.loop-focus.focus _ _ refl c.in-Run.is c.in-Ok-run.ensures.falls
+
+pub loop-focus-preserved : goal.loop-focus-preserved
+loop-focus-preserved g c =
+    let ds = c.args.world.now.definitions in
+    let task : Task = record { world = c.args.world.now; machine = c.args.machine.now; clock = c.args.clock; term = term_of c.args.term.now; env = c.args.env.now; path = c.args.path } in
+    let l = c.loop-focus in
+    running_plain g.B.Meaning c.args.objs.now task l.objs _ l.machine _ l.envs _ l.way _ l.frames _ _ l.focus _ _ l.invariant c.in-Some.ensures c.in-Give.is c.in-Ok-give.ensures.leaves (rests_none l.machine) (c.in-Ok-give.ensures.turn ds) (c.in-Ok-give.ensures.terms ds)
+
+pub loop-focus-smaller : goal.loop-focus-smaller
+loop-focus-smaller g c = falls_turn c.args.world.now.definitions c.loop-focus.frames _ _ c.loop-focus.focus _ _ c.in-Some.ensures c.in-Give.is (c.in-Ok-give.ensures.falls c.args.world.now.definitions)

@@ -1,6 +1,7 @@
 use Rattle.sym_prims.proofs.Leaving.{leaves_of}
 use Rattle.gl_interp.proofs.BranchTurns.{turn_first, turn_parts, turn_second}
 use Rattle.gl_interp.proofs.TermsLeft.{terms_both, terms_first, terms_second}
+use Rattle.gl_interp.proofs.Falling.{falls_both, falls_first, falls_second}
 use Rattle.gl_interp.proofs.results.branch.Goals as goal
 
 pub returns-in-First-clause-turn : goal.returns-in-First-clause-turn
@@ -31,3 +32,13 @@ returns-in-Second-clause-terms g c ds = terms_second ds c.args.frames.now c.args
 pub returns-in_ok-push-in-Both-clause-terms : goal.returns-in_ok-push-in-Both-clause-terms
 returns-in_ok-push-in-Both-clause-terms g c ds =
     terms_both ds c.args.frames.now c.push.new.self c.args.a c.args.b c.args.env c.args.clock c.args.object c.in_ok-test.test c.args.path.now.edge c.in-Both.second c.in_ok-push-in-Both.ensures.ok
+
+pub returns-in-First-clause-falls : goal.returns-in-First-clause-falls
+returns-in-First-clause-falls g c ds = falls_first ds c.args.frames.now c.args.a c.args.b c.args.env c.args.clock c.args.object
+
+pub returns-in-Second-clause-falls : goal.returns-in-Second-clause-falls
+returns-in-Second-clause-falls g c ds = falls_second ds c.args.frames.now c.args.a c.args.b c.args.env c.args.clock c.args.object
+
+pub returns-in_ok-push-in-Both-clause-falls : goal.returns-in_ok-push-in-Both-clause-falls
+returns-in_ok-push-in-Both-clause-falls g c ds =
+    falls_both ds c.args.frames.now c.push.new.self c.args.a c.args.b c.args.env c.args.clock c.args.object c.in_ok-test.test c.args.path.now.edge c.in-Both.second c.in_ok-push-in-Both.ensures.ok

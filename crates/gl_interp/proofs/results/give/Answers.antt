@@ -3,9 +3,11 @@ use Rattle.gl_interp.specs.declared.frame.Frame.{Frame}
 use Rattle.gl_interp.specs.declared.frame.Focus.TheVariants as focus
 use Rattle.gl_logic.specs.Definition.{Definition}
 use Rattle.gl_interp.specs.Running.{AreTerms, Turn}
+use Rattle.gl_interp.specs.TurnsLeft.{Falls}
 use Rattle.gl_interp.proofs.GiveTurns.{turn_other_at, turn_done_at, turn_join_at}
 use Rattle.sym_prims.proofs.Leaving.{leaves_of}
 use Rattle.gl_interp.proofs.TermsLeft.{terms_done, terms_join, terms_other}
+use Rattle.gl_interp.proofs.Falling.{falls_done, falls_join, falls_other}
 use Rattle.gl_interp.proofs.results.give.Goals as goal
 
 pub returns-in-Test-clause-turn : goal.returns-in-Test-clause-turn
@@ -42,3 +44,18 @@ returns-in_ok-merge-in-Join-clause-terms g c ds = terms_join ds c.args.frames.no
 pub returns-in_ok-push-in-Arguments-clause-terms : goal.returns-in_ok-push-in-Arguments-clause-terms
 returns-in_ok-push-in-Arguments-clause-terms g c ds =
     terms_done ds c.args.frames.now c.args.frame c.in-Arguments.work c.in-Arguments.done _ c.in-Arguments.terms c.in-Arguments.env c.in-Arguments.clock c.args.object c.in-Arguments.is
+
+pub returns-in-Test-clause-falls : goal.returns-in-Test-clause-falls
+returns-in-Test-clause-falls g c =
+    subst (λ (f : Frame). IfOk c.branch-alloc.result (λ h. (ds : List Definition) → Falls ds (f ∷ c.args.frames.now) (focus.Give c.args.object) c.branch-alloc.new.frames h)) (sym c.in-Test.is) c.branch-alloc.ensures.falls
+
+pub returns-in_ok-push-in-Other-clause-falls : goal.returns-in_ok-push-in-Other-clause-falls
+returns-in_ok-push-in-Other-clause-falls g c ds =
+    falls_other ds c.args.frames.now c.push.new.self c.args.frame c.in-Other.test c.in-Other.saved c.in-Other.rest c.in-Other.b c.in-Other.env c.in-Other.clock c.args.object c.in-Other.is c.in_ok-push-in-Other.ensures.ok
+
+pub returns-in_ok-merge-in-Join-clause-falls : goal.returns-in_ok-merge-in-Join-clause-falls
+returns-in_ok-merge-in-Join-clause-falls g c ds = falls_join ds c.args.frames.now c.args.frame c.in-Join.test c.in-Join.saved c.in-Join.first c.args.object c.in-Join.is
+
+pub returns-in_ok-push-in-Arguments-clause-falls : goal.returns-in_ok-push-in-Arguments-clause-falls
+returns-in_ok-push-in-Arguments-clause-falls g c ds =
+    falls_done ds c.args.frames.now c.args.frame c.in-Arguments.work c.in-Arguments.done _ c.in-Arguments.terms c.in-Arguments.env c.in-Arguments.clock c.args.object c.in-Arguments.is c.in_ok-push-in-Arguments.ensures.items

@@ -14,6 +14,7 @@ use Rattle.gl_interp.proofs.RunCauses.{machine_cause, prim_cause}
 use Rattle.gl_interp.proofs.RunTurns.{turn_call, turn_evaluated, turn_let, turn_prim}
 use Rattle.gl_interp.proofs.TermsLeft.{arity_below, arity_is, terms_body}
 use Rattle.gl_interp.proofs.Turns.{turns_of}
+use Rattle.gl_interp.proofs.Falling.{falls_call, falls_evaluated, falls_let, falls_prim}
 use Rattle.gl_interp.proofs.runs.run.Goals as goal
 
 pub returns-in-Ok-clause-turn : goal.returns-in-Ok-clause-turn
@@ -89,3 +90,18 @@ returns-clause-turn g c =
 
 pub returns-clause-terms : goal.returns-clause-terms
 returns-clause-terms g c = terms_body c.args.world.now.definitions c.args.frames.now _ _ c.in_ok-inner-in-Call.inner _ c.def-definition.ensures.proper.body c.requires.terms
+
+pub returns-in-Ok-clause-falls : goal.returns-in-Ok-clause-falls
+returns-in-Ok-clause-falls g c = falls_prim c.args.world.now.definitions c.args.frames.now c.in-Prim.prim c.args.work c.args.args c.args.env c.args.clock c.in-Prim.is
+
+pub returns-in-Let-clause-falls : goal.returns-in-Let-clause-falls
+returns-in-Let-clause-falls g c = falls_let c.args.world.now.definitions c.args.frames.now c.in-Let.names c.in-Let.body c.args.work c.args.args c.args.env c.in_ok-inner-in-Let.inner c.args.clock c.in-Let.is
+
+pub returns-in-Ok-evaluate-clause-falls : goal.returns-in-Ok-evaluate-clause-falls
+returns-in-Ok-evaluate-clause-falls g c = falls_evaluated c.args.world.now.definitions c.args.frames.now c.in-Call.f c.args.work c.args.args c.args.env c.args.clock c.in-Call.is
+
+pub returns-clause-falls : goal.returns-clause-falls
+returns-clause-falls g c =
+    let m = c.args.clock - 1 in
+    let high : c.args.clock ≡ suc m = omega arith in
+    falls_call c.args.world.now.definitions c.args.frames.now c.in-Call.f c.args.work (definition_of c.def-definition.result.now) c.args.args c.args.env c.args.clock m c.in-Call.is high c.def-definition.ensures.found

@@ -1,4 +1,4 @@
-use Rattle.std.proofs.Common.{◌≡◌, ◌∙◌, ap, sym, subst, refl, get_or, [], Some, length}
+use Rattle.std.proofs.Common.{◌≡◌, ◌∙◌, ap, sym, subst, refl, get_or, [], Some, length, ◌+◌, arith}
 use Rattle.gl_logic.specs.Environment.{look}
 use Rattle.gl_logic.specs.Exp as exp
 use Rattle.gl_logic.specs.TermOf.{term_of, terms_of}
@@ -8,10 +8,12 @@ use Rattle.gl_interp.specs.declared.frame.Work.TheVariants as work
 use Rattle.gl_interp.specs.declared.frame.Focus.TheVariants as focus
 use Rattle.gl_interp.specs.Environments.{objects_of}
 use Rattle.gl_interp.specs.Running.{Turn}
+use Rattle.gl_interp.specs.TurnsLeft.{call_turns, turns}
 use Rattle.gl_interp.proofs.Terms.{term_var, term_const, term_if, term_prim, term_call, term_let}
 use Rattle.gl_interp.proofs.VisitTurns.{look_some, look_none, look_below, turn_visited, turn_if, turn_next}
 use Rattle.gl_logic.specs.IsTermOf.{IsTermOf}
 use Rattle.gl_interp.proofs.TermsLeft.{count_terms, terms_if, terms_next}
+use Rattle.gl_interp.proofs.Falling.{falls_if, falls_next, falls_visited}
 use Rattle.gl_interp.proofs.visits.visit.Goals as goal
 
 pub returns-in-Some-clause-turn : goal.returns-in-Some-clause-turn
@@ -87,3 +89,32 @@ returns-in-Let-clause-terms g c ds =
     (λ h. let p = subst (λ x. IsTermOf ds x) (ap term_of c.in-Let.is ∙ (term_let _ _ _ ∙ ap (λ t. exp.Let c.in-Let.names (terms_of c.in-Let.terms.items) (term_of t)) (sym c.deref-in-Let.ensures))) h in
     let counted : length c.in-Let.names ≡ length c.in-Let.terms.items = p.0 ∙ count_terms c.in-Let.terms.items in
     ((counted, p.2), p.1))
+
+pub returns-in-Some-clause-falls : goal.returns-in-Some-clause-falls
+returns-in-Some-clause-falls g c ds = falls_visited ds c.args.frames.now c.args.term c.args.env c.args.clock
+
+pub returns-in_ok-nil-in-None-clause-falls : goal.returns-in_ok-nil-in-None-clause-falls
+returns-in_ok-nil-in-None-clause-falls g c ds = falls_visited ds c.args.frames.now c.args.term c.args.env c.args.clock
+
+pub returns-in-Ok-clause-falls : goal.returns-in-Ok-clause-falls
+returns-in-Ok-clause-falls g c ds = falls_visited ds c.args.frames.now c.args.term c.args.env c.args.clock
+
+pub returns-in_ok-push-in-If-clause-falls : goal.returns-in_ok-push-in-If-clause-falls
+returns-in_ok-push-in-If-clause-falls g c ds =
+    falls_if ds c.args.frames.now _ c.args.term c.deref-in-If-2.result c.deref.result c.deref-in-If.result c.args.env c.args.clock c.in_ok-push-in-If.ensures.ok
+    (ap term_of c.in-If.is ∙ (term_if _ _ _ ∙ (λ i. exp.If (term_of (sym c.deref-in-If-2.ensures i)) (term_of (sym c.deref.ensures i)) (term_of (sym c.deref-in-If.ensures i)))))
+
+pub returns-in-Prim-clause-falls : goal.returns-in-Prim-clause-falls
+returns-in-Prim-clause-falls g c ds =
+    falls_next ds c.args.frames.now c.args.term 1 _ _ c.in-Prim.terms.items c.args.env c.args.clock (exp.Prim c.in-Prim.prim (terms_of c.in-Prim.terms.items))
+    (ap term_of c.in-Prim.is ∙ term_prim _ _) c.new.ensures.items c.as_slice.ensures.value (omega arith)
+
+pub returns-in-Call-clause-falls : goal.returns-in-Call-clause-falls
+returns-in-Call-clause-falls g c ds =
+    falls_next ds c.args.frames.now c.args.term (call_turns ds c.args.clock c.in-Call.f.number) _ _ c.in-Call.terms.items c.args.env c.args.clock (exp.Call c.in-Call.f.number (terms_of c.in-Call.terms.items))
+    (ap term_of c.in-Call.is ∙ term_call _ _) c.new-in-Call.ensures.items c.as_slice-in-Call.ensures.value (omega arith)
+
+pub returns-in-Let-clause-falls : goal.returns-in-Let-clause-falls
+returns-in-Let-clause-falls g c ds =
+    falls_next ds c.args.frames.now c.args.term (turns ds c.args.clock (term_of c.deref-in-Let.result.now) + 1) _ _ c.in-Let.terms.items c.args.env c.args.clock (exp.Let c.in-Let.names (terms_of c.in-Let.terms.items) (term_of c.deref-in-Let.result.now))
+    (ap term_of c.in-Let.is ∙ (term_let _ _ _ ∙ ap (λ t. exp.Let c.in-Let.names (terms_of c.in-Let.terms.items) (term_of t)) (sym c.deref-in-Let.ensures))) c.new-in-Let.ensures.items c.as_slice-in-Let.ensures.value (omega arith)
