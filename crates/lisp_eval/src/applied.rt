@@ -10,8 +10,8 @@ ghost use Rattle.lisp_eval.specs.declared.attempt.Stop.TheVariants as stop;
 
 use crate::attempt::{Found, Stop};
 use crate::primitives::{code, is_predicate, predicate};
-use crate::small::small_value;
 use crate::value::{Value, cons, integer_id};
+use crate::word_arithmetic::small_value;
 use gl_logic::{Prim, Tree, TreeKind};
 use hons_arena::HonsArena;
 use int_prims::{apply_int, is_operation};

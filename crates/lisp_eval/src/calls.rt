@@ -9,6 +9,7 @@ ghost use Rattle.lisp_eval.specs.Tables.{answered_in};
 
 use crate::bindings::bind;
 use crate::frame::{Binding, Focus, Frame, PLACES};
+use crate::tables::{FAST_ALIST_FORK, HONS_ACONS};
 use gl_logic::{FnId, Names, NoMemory, Term, World};
 use hons_arena::Id;
 use memo_tables::{MemoCall, MemoTables};
@@ -38,22 +39,15 @@ pub fn is_memoized(functions: &[u64], f: FnId) -> bool
     false
 }
 
-/// The functions that tables of lists answer are those from `hons-acons` to `fast-alist-fork`: between them stand
-/// `make-fast-alist`, `fast-alist-free`, `hons-assoc-equal` and `hons-get`.
-const FIRST_ANSWERED: u64 = 37;
-
-/// The last of them.
-const LAST_ANSWERED: u64 = 42;
-
 /// Whether tables answer a function of a world: in one that has all of the ground definitions.
 #[tactic(auto, using(crate::proofs::Amongs::answered_there, crate::proofs::Amongs::answered_nowhere, crate::proofs::Amongs::unanswered))]
 pub fn is_answered(world: &World, f: FnId) -> bool
     ensures { result ≡ is_among (answered_in world.now.definitions) f.number }
 {
-    if f.number < FIRST_ANSWERED || LAST_ANSWERED < f.number {
+    if f.number < HONS_ACONS || FAST_ALIST_FORK < f.number {
         return false;
     }
-    world.count() > LAST_ANSWERED
+    world.count() > FAST_ALIST_FORK
 }
 
 /// Looks a call up.

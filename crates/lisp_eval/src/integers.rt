@@ -13,10 +13,10 @@ ghost use Rattle.lisp_eval.specs.Outside.{locals_of, on_locals};
 
 use crate::attempt::{Found, local_value};
 use crate::direct::LEVELS;
-use crate::small::{
+use crate::value::{Local, Value};
+use crate::word_arithmetic::{
     is_opposite, is_small_operation, is_small_test, small_integer, small_opposite, small_test,
 };
-use crate::value::{Local, Value};
 use crate::zero::{ON_INTEGERS, is_zero, is_zp};
 use gl_logic::{Names, NoMemory, Prim, Term, TextId, Tree, TreeKind, World};
 

@@ -37,10 +37,10 @@ mod machine;
 mod opening;
 mod primitives;
 mod run;
-mod small;
 mod steps;
 mod tables;
 mod value;
+mod word_arithmetic;
 mod zero;
 
 pub use env::Env;

@@ -14,6 +14,24 @@ use fast_alists::{AlistFault, FastAlists};
 use gl_logic::FnId;
 use hons_arena::{HonsArena, Id};
 
+/// The functions that tables answer, by their numbers: six ground definitions one behind the other. This is the first.
+pub const HONS_ACONS: u64 = 37;
+
+/// `make-fast-alist`.
+pub const MAKE_FAST_ALIST: u64 = 38;
+
+/// `fast-alist-free`.
+pub const FAST_ALIST_FREE: u64 = 39;
+
+/// `hons-assoc-equal`.
+pub const HONS_ASSOC_EQUAL: u64 = 40;
+
+/// `hons-get`.
+pub const HONS_GET: u64 = 41;
+
+/// `fast-alist-fork`, the last.
+pub const FAST_ALIST_FORK: u64 = 42;
+
 /// The value of a function that tables answer, on its first arguments. One that lacks is NIL.
 #[inline(always)]
 pub fn answer(
@@ -60,21 +78,22 @@ fn answer_at(
     ensures makes { Makes arena.old arena.new (table_value f.number (object_at arena.old.objects x) (object_at arena.old.objects y) (object_at arena.old.objects z)) result }
     ensures agree { Agree arena.new.objects alists.new }
 {
-    if f.number == 37 {
+    if f.number == HONS_ACONS {
         return alists.acons(arena, x, y, z);
     }
-    if f.number == 42 {
+    if f.number == FAST_ALIST_FORK {
         return alists.fork(arena, x, y);
     }
-    if f.number == 40 {
+    if f.number == HONS_ASSOC_EQUAL {
         return Ok(got(arena, alists, x, y));
     }
-    if f.number == 41 {
+    if f.number == HONS_GET {
         return Ok(got(arena, alists, x, y));
     }
-    if f.number == 39 {
+    if f.number == FAST_ALIST_FREE {
         alists.free(x);
     }
+    // `make-fast-alist` and `fast-alist-free` give the list itself
     Ok(x)
 }
 

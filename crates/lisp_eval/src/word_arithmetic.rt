@@ -13,7 +13,7 @@ use gl_logic::Prim;
 
 /// What a division leaves. By a power of two it is a mask.
 #[inline(always)]
-fn left_by(a: u64, b: u64) -> u64
+fn remainder(a: u64, b: u64) -> u64
     requires { 0 < b }
     ensures { result ≡ a % b }
 {
@@ -35,7 +35,7 @@ fn small_modulo(a: i64, b: i64) -> Option<i64>
     } else if a < 0 {
         Some(a.rem_euclid(b))
     } else {
-        Some(left_by(a as u64, b as u64) as i64)
+        Some(remainder(a as u64, b as u64) as i64)
     }
 }
 
