@@ -1,5 +1,5 @@
 -- Each turn leaves fewer.
-use Rattle.std.proofs.Common.{◌≡◌, ℕ, zero, suc, ◌+◌, ◌<◌, List, [], ◌∷◌, ◌++◌, length, get_or, slice_get, refl, ap, sym, ◌∙◌, arith, subst, Some, Bor, Vec, Global}
+use Rattle.std.proofs.Common.{◌≡◌, ℕ, zero, suc, ◌+◌, ◌<◌, List, [], ◌∷◌, ◌++◌, length, get_or, slice_get, ap, sym, ◌∙◌, arith, subst, Some, Bor, Vec, Global}
 use Rattle.std.proofs.lemmas.List.{length_push}
 use Rattle.bfr_store.specs.declared.edge.Edge.{Edge}
 use Rattle.gl_logic.specs.Definition.{Definition}

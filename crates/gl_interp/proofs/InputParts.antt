@@ -1,5 +1,5 @@
 -- Symbolic inputs on their way.
-use Rattle.std.proofs.Common.{◌≡◌, ◌∙◌, ap, sym, refl, subst, ℕ, zero, suc, ◌+◌, ◌<◌, ◌≤◌, arith, Bool, List, [], ◌∷◌, ◌++◌, length, map, take, get_or, Option, Some, None, inl, inr, ◌⊎◌, max, false, length-append}
+use Rattle.std.proofs.Common.{◌≡◌, ◌∙◌, ap, sym, refl, subst, ℕ, zero, suc, ◌+◌, ◌<◌, arith, Bool, List, [], ◌∷◌, ◌++◌, length, map, take, Some, inl, inr, max, false, length-append}
 use Rattle.std.specs.Prelude.{slice_get}
 use Rattle.std.specs.List.{All, Contains, flat_map}
 use Rattle.std.proofs.lemmas.Bool.{cases_lt}
@@ -7,11 +7,9 @@ use Rattle.std.proofs.lemmas.List.{get_or_append_left, get_or_push, length-map, 
 use Rattle.std.proofs.lemmas.List.Elements.{All-append, Contains-append_left, Contains-append_right}
 use Rattle.bfr_store.specs.declared.edge.Edge.{Edge}
 use Rattle.bfr_store.specs.declared.meaning.Meaning.{Ghosts}
-use Rattle.gl_logic.specs.Different.{different}
 use Rattle.gl_logic.specs.Object.{Object}
-use Rattle.gl_logic.specs.ObjectEq.{object_eq}
 use Rattle.gl_logic.specs.Parts.{cells_in}
-use Rattle.hons_arena.specs.Held.{HasNoRoomFor, Held, IsEachOnce}
+use Rattle.hons_arena.specs.Held.{HasNoRoomFor, IsEachOnce}
 use Rattle.lisp_eval.specs.Machines.{MachineSeen}
 use Rattle.lisp_eval.specs.Within.{CoverCells}
 use Rattle.lisp_eval.proofs.Places.{contains_at}

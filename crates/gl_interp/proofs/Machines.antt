@@ -1,5 +1,5 @@
 -- Machines that stand as before.
-use Rattle.std.proofs.Common.{◌≡◌, ◌∙◌, sym, refl, subst, ℕ, ◌<◌, ◌≤◌, List, [], ◌++◌, length, take}
+use Rattle.std.proofs.Common.{◌≡◌, ◌∙◌, sym, refl, subst, ℕ, ◌<◌, ◌≤◌, List, [], length, take}
 use Rattle.std.specs.List.{All}
 use Rattle.gl_logic.specs.Object.{Object}
 use Rattle.gl_logic.specs.WorldSeen.{WorldSeen}

@@ -1,14 +1,14 @@
 -- The symbolic objects of shapes, each from those of its parts.
-use Rattle.std.proofs.Common.{◌≡◌, ◌∙◌, ap, sym, refl, subst, ℕ, zero, suc, ◌+◌, ◌<◌, ◌≤◌, arith, Bool, false, cond, List, [], ◌∷◌, ◌++◌, length, map, get_or, Result, Ok, Err, IfOk}
+use Rattle.std.proofs.Common.{◌≡◌, ◌∙◌, ap, sym, refl, subst, ℕ, zero, suc, ◌<◌, arith, Bool, cond, List, [], ◌∷◌, length, map, get_or, Result, Ok, Err, IfOk}
 use Rattle.std.specs.List.{All, Contains}
 use Rattle.bfr_store.specs.declared.edge.Edge.{Edge}
 use Rattle.bfr_store.specs.declared.meaning.Meaning.{Ghosts}
 use Rattle.gl_logic.specs.Assignments.{value_at}
-use Rattle.gl_logic.specs.Object.{Object, Int, Cons, boolean_object}
+use Rattle.gl_logic.specs.Object.{Object, Int, boolean_object}
 use Rattle.gl_logic.specs.TwosComplement.{integer_of}
 use Rattle.shape_spec.specs.Indices.{indices_of, rank_in, width_of}
-use Rattle.shape_spec.specs.InputMeant.{object_meant, truth_in}
-use Rattle.shape_spec.specs.ShapeSeen.{ShapeSeen, Boolean, Integer, Choice, Constant, Pair}
+use Rattle.shape_spec.specs.InputMeant.{object_meant}
+use Rattle.shape_spec.specs.ShapeSeen.{ShapeSeen, Boolean, Integer, Choice, Constant}
 use Rattle.sym_objects.specs.declared.sob.Sob.{Sob}
 use Rattle.sym_objects.specs.Keeps.{Keeps}
 use Rattle.sym_objects.specs.Makes.{Makes}

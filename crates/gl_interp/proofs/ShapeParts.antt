@@ -1,9 +1,9 @@
 -- The symbolic objects of shapes, and assignments that lead to their parts.
-use Rattle.std.proofs.Common.{◌≡◌, ◌≢◌, ◌∙◌, ap, sym, refl, subst, ℕ, zero, suc, ◌+◌, ◌<◌, ◌≤◌, arith, Bool, true, false, cond, List, [], ◌∷◌, ◌++◌, length, map, get_or, inl, inr, ◌⊎◌}
+use Rattle.std.proofs.Common.{◌≡◌, ◌≢◌, ◌∙◌, ap, sym, refl, subst, ℕ, zero, suc, ◌<◌, arith, Bool, true, false, cond, List, [], ◌∷◌, ◌++◌, length, map, get_or, inl, inr}
 use Rattle.std.specs.Prelude.{slice_set}
-use Rattle.std.specs.List.{All, Contains}
+use Rattle.std.specs.List.{Contains}
 use Rattle.std.proofs.lemmas.List.{get_or-set_same, get_or-set_other, length-map, length-set}
-use Rattle.std.proofs.lemmas.List.Elements.{All-map, Contains-append_left, Contains-append_right, Contains-append_cases}
+use Rattle.std.proofs.lemmas.List.Elements.{Contains-append_left, Contains-append_right}
 use Rattle.bfr_store.specs.declared.meaning.Meaning.{Ghosts}
 use Rattle.gl_logic.specs.Assignments.{value_at}
 use Rattle.gl_logic.specs.Lists.{conses}
@@ -13,7 +13,7 @@ use Rattle.hons_arena.specs.Parts.{IsCellOf}
 use Rattle.hons_arena.proofs.CellsIn.{cell_weaker}
 use Rattle.lisp_eval.specs.Machines.{MachineSeen}
 use Rattle.shape_spec.specs.Indices.{AreApart, IsNotIn, indices_in, indices_of, rank_in, width_of}
-use Rattle.shape_spec.specs.InputMeant.{object_meant, truth_in}
+use Rattle.shape_spec.specs.InputMeant.{object_meant}
 use Rattle.shape_spec.specs.ShapeOf.{pairs, shape_of}
 use Rattle.shape_spec.specs.declared.shape.Shape.{Shape}
 use Rattle.shape_spec.specs.ShapeSeen.{ShapeSeen, Choice, Pair}

@@ -1,5 +1,5 @@
 -- What a machine holds, and what it is for one to fit a world.
-use Rattle.std.specs.Prelude.{◌≡◌, ℕ, ◌<◌, List, length, All, Contains, refl}
+use Rattle.std.specs.Prelude.{ℕ, ◌<◌, List, length, All, Contains, refl}
 use Rattle.std.specs.Coded.{Coded, code_by, coded×, coded_ℕ, coded_list}
 use Rattle.gl_logic.specs.Object.{Object}
 use Rattle.gl_logic.specs.WorldSeen.{WorldSeen}

@@ -1,4 +1,4 @@
-use Rattle.std.proofs.Common.{◌≡◌, ◌∙◌, ◌+◌, subst, arith}
+use Rattle.std.proofs.Common.{◌∙◌, ◌+◌, subst, arith}
 use Rattle.hons_arena.specs.Held.{HasNoRoomFor, Held}
 use Rattle.shape_spec.specs.InputMeant.{object_meant}
 use Rattle.shape_spec.specs.ShapeOf.{shape_of}

@@ -14,7 +14,7 @@ use Rattle.shape_spec.proofs.Pairs.{list_shape}
 use Rattle.shape_spec.proofs.Weights.{choice_shape, element_lighter, first_lighter, second_lighter, tail_lighter, weight}
 use Rattle.sym_objects.specs.Seen.{stands_for}
 use Rattle.sym_objects.proofs.Keeping.{keeps_then}
-use Rattle.gl_interp.specs.Shapes.{IsObjectOver, holds_over}
+use Rattle.gl_interp.specs.Shapes.{holds_over}
 use Rattle.gl_interp.proofs.InputParts.{edges_stay}
 use Rattle.gl_interp.proofs.Machines.{rests_then}
 use Rattle.gl_interp.proofs.ShapeObjects.{object_choice, object_kept, object_later}

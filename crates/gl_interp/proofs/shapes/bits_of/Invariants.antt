@@ -1,4 +1,4 @@
-use Rattle.std.proofs.Common.{◌≡◌, ◌≤◌, take}
+use Rattle.std.proofs.Common.{◌≡◌, take}
 use Rattle.gl_interp.specs.Shapes.{bits_over}
 use Rattle.gl_interp.proofs.shapes.bits_of.Given as goal
 

@@ -1,4 +1,4 @@
-use Rattle.std.proofs.Common.{◌≡◌, ◌∙◌, ap, sym, subst, ℕ, Bool}
+use Rattle.std.proofs.Common.{◌∙◌, ap, sym, subst, ℕ, Bool}
 use Rattle.bfr_store.specs.declared.edge.Edge.{Edge}
 use Rattle.gl_logic.specs.Object.{boolean_object}
 use Rattle.shape_spec.specs.ShapeSeen.{Boolean}

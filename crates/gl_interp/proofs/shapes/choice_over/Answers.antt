@@ -1,4 +1,4 @@
-use Rattle.std.proofs.Common.{◌≡◌, ◌∙◌, ap, sym, subst, ℕ, Bool, cond}
+use Rattle.std.proofs.Common.{◌∙◌, ap, sym, subst, ℕ, Bool, cond}
 use Rattle.bfr_store.specs.declared.edge.Edge.{Edge}
 use Rattle.sym_objects.specs.Seen.{stands_for}
 use Rattle.gl_interp.specs.Shapes.{holds_over}

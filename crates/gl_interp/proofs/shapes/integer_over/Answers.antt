@@ -1,4 +1,4 @@
-use Rattle.std.proofs.Common.{◌≡◌, ◌∙◌, ap, ℕ, Bool, List, map}
+use Rattle.std.proofs.Common.{◌∙◌, ap, ℕ, Bool, List, map}
 use Rattle.bfr_store.specs.declared.edge.Edge.{Edge}
 use Rattle.gl_logic.specs.Object.{Int}
 use Rattle.gl_logic.specs.TwosComplement.{integer_of}
