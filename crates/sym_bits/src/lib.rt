@@ -23,7 +23,7 @@
 //!
 //! Node counts in a store of decision diagrams, beside those of textbook circuits for the same functions: what is added to
 //! the nodes of the variables, with parts that are used no more. The variables of two integers stand in turn, the signs
-//! first; those of the count of places stand before the integer's. A test of the crate at the top holds the calls to them,
+//! first; those of the count of places stand before the integer's. A test of `bits_tests` holds the calls to them,
 //! and compares the edges.
 //!
 //! | call | bits | nodes | a textbook circuit's |
