@@ -1,10 +1,10 @@
 -- A world is the front of each later one.
-use Rattle.std.proofs.Common.{◌≡◌, ◌∙◌, ap, refl, ℕ, ◌≤◌, ◌+◌, List, [], ◌∷◌, ◌++◌, length, take, arith, length-append}
+use Rattle.std.proofs.Common.{◌≡◌, ◌∙◌, ℕ, ◌≤◌, List, [], ◌∷◌, ◌++◌, length, take, arith, length-append}
 use Rattle.std.proofs.lemmas.List.{take-append-le, take_all}
 use Rattle.gl_logic.specs.Object.{Object, Cons}
 use Rattle.gl_logic.specs.Definition.{Definition}
 use Rattle.gl_logic.specs.WorldSeen.{WorldSeen, with_clique, with_constant, with_event}
-use Rattle.event_world.specs.EventSeen.{EventSeen, Defun, Defconst, Memoize, Unmemoize, SetMode, Theorem, Cases, Clique}
+use Rattle.event_world.specs.EventSeen.{EventSeen, Defun, Defconst, Theorem, Cases, Clique}
 use Rattle.event_world.specs.EventWords.{behind_head}
 use Rattle.event_world.specs.NextState.{next_world, with_members}
 

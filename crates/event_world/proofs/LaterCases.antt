@@ -1,6 +1,6 @@
 -- What the form of a theorem by cases means in a later table of texts.
 use Rattle.std.proofs.Common.{◌≡◌, ◌∙◌, ap, refl, ℕ, ◌<◌, cond, not, ◌||◌, List, [], ◌∷◌, length, Option, Some, None, arith}
-use Rattle.std.specs.Prelude.{codes, Ok, Err}
+use Rattle.std.specs.Prelude.{codes, Ok}
 use Rattle.std.specs.Option.{option_map, option_and_then, IfSome}
 use Rattle.gl_logic.specs.Every.{Every}
 use Rattle.gl_logic.specs.Names.{number_of}

@@ -1,6 +1,6 @@
 -- What a form means as an event in a later table of texts.
-use Rattle.std.proofs.Common.{◌≡◌, ◌∙◌, ap, sym, refl, ℕ, true, false, cond, not, ◌&&◌, ◌||◌, leb, List, [], ◌∷◌, ◌++◌, length, Option, Some, None}
-use Rattle.std.specs.Prelude.{codes, bytes_eq, Ok, Err}
+use Rattle.std.proofs.Common.{◌≡◌, ◌∙◌, ap, sym, refl, ℕ, false, cond, not, ◌&&◌, ◌||◌, leb, List, [], ◌∷◌, ◌++◌, length, Option, Some, None}
+use Rattle.std.specs.Prelude.{codes, bytes_eq, Ok}
 use Rattle.std.specs.Option.{option_map, option_and_then, option_or, IfSome}
 use Rattle.gl_logic.specs.Every.{Every}
 use Rattle.gl_logic.specs.Names.{number_of, Extends}
@@ -12,17 +12,14 @@ use Rattle.gl_logic.specs.WorldSeen.{WorldSeen}
 use Rattle.gl_logic.specs.declared.def.Natural.TheVariants as natural
 use Rattle.gl_logic.specs.declared.def.Measure.{Measure}
 use Rattle.gl_logic.specs.declared.def.Measure.TheVariants as measure
-use Rattle.gl_translate.specs.Translation.{translation}
 use Rattle.gl_translate.specs.declared.fault.TermFault.TheVariants as term_fault
-use Rattle.gl_translate.specs.declared.scope.Scope.{Scope}
 use Rattle.gl_logic.specs.Wording.{spells, elements, both, all_meant}
 use Rattle.shape_spec.specs.declared.theorem.Mode.{Mode}
-use Rattle.event_world.specs.declared.fault.EventFault.{EventFault}
 use Rattle.event_world.specs.declared.fault.EventFault.TheVariants as code
 use Rattle.event_world.specs.declared.word.EventWord.{EventWord}
 use Rattle.event_world.specs.declared.word.EventWord.TheVariants as word
 use Rattle.event_world.specs.EventSeen.{EventSeen, Nothing, Value, Assert, Memoize, Unmemoize, Defconst}
-use Rattle.event_world.specs.Outcomes.{Outcome, and_then, found_or, holds_or, of_term}
+use Rattle.event_world.specs.Outcomes.{and_then, found_or, holds_or, of_term}
 use Rattle.event_world.specs.EventWords.{event_word, word_of, behind_head}
 use Rattle.event_world.specs.PartsOf.{one_of, two_of, three_of, two_in, three_in, four_in, split_last}
 use Rattle.event_world.specs.NamesMeant.{plain_name, constant_name, is_taken}

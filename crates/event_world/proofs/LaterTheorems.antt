@@ -1,6 +1,6 @@
 -- What a theorem's form means in a later table of texts.
 use Rattle.std.proofs.Common.{◌≡◌, ◌∙◌, ap, sym, refl, ℕ, true, cond, not, List, [], ◌∷◌, Option, Some, None}
-use Rattle.std.specs.Prelude.{codes, Ok, Err}
+use Rattle.std.specs.Prelude.{codes, Ok}
 use Rattle.std.specs.Option.{IfSome}
 use Rattle.gl_logic.specs.Every.{Every}
 use Rattle.gl_logic.specs.Names.{number_of}

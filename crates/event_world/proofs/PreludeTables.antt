@@ -1,13 +1,12 @@
 -- What is spelled in a table stays so as the table grows.
-use Rattle.std.proofs.Common.{◌≡◌, ◌∙◌, ap, sym, refl, subst, ℕ, zero, suc, ◌≤◌, true, false, cond, List, [], ◌∷◌, ◌++◌, length, get_or, arith, inl, inr, Option, Some, None, slice_get, take}
+use Rattle.std.proofs.Common.{◌≡◌, ◌∙◌, ap, sym, refl, subst, ℕ, zero, suc, ◌≤◌, true, List, [], ◌∷◌, ◌++◌, length, get_or, arith, inl, inr, Option, Some, None, slice_get, take}
 use Rattle.std.specs.Prelude.{bytes_eq, codes, Result, Ok, Err, IfOk}
-use Rattle.std.specs.List.{list_any}
 use Rattle.std.proofs.lemmas.Option.{slice_get-get_or}
-use Rattle.std.proofs.lemmas.List.{append_assoc, append-nil, reverse-append}
+use Rattle.std.proofs.lemmas.List.{append-nil, reverse-append}
 use Rattle.std.proofs.lemmas.List.Quantifiers.{position-Some}
 use Rattle.std.proofs.lemmas.Bool.{and_parts, eqb-true}
 use Rattle.gl_logic.specs.Object.{Object, Int, Symbol, Cons, nil}
-use Rattle.gl_logic.specs.Names.{number_of, with_name, Extends, IsTable, first_names}
+use Rattle.gl_logic.specs.Names.{number_of, Extends, IsTable, first_names}
 use Rattle.gl_logic.proofs.GrownTables.{extends_name}
 use Rattle.gl_translate.specs.Answers.{GainsAtMost}
 use Rattle.event_world.specs.PreludeForms.{Source, Word, Number, Pair, no_more, Spells, AllSpell, AreAround, AreSpelled, leaf, leaf_by, digit_in, with_word, opened_into}

@@ -5,7 +5,6 @@ use Rattle.std.specs.Option.{option_map, option_and_then}
 use Rattle.gl_logic.specs.Object.{Object, Symbol, Cons, nil}
 use Rattle.gl_logic.specs.Exp.{Exp}
 use Rattle.gl_logic.specs.WorldSeen.{WorldSeen}
-use Rattle.shape_spec.specs.ShapeSeen.{ShapeSeen}
 use Rattle.gl_logic.specs.Wording.{spells, elements, all_meant}
 use Rattle.shape_spec.specs.BindingsMeant.{bindings_meant, is_backquote}
 use Rattle.gl_logic.specs.NameSets.{are_different}

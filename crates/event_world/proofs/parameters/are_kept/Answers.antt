@@ -1,4 +1,4 @@
-use Rattle.std.proofs.Common.{◌≡◌, ◌∙◌, map}
+use Rattle.std.proofs.Common.{◌∙◌, map}
 use Rattle.event_world.specs.FormsSeen.{cases_form_seen, case_form_seen}
 use Rattle.event_world.proofs.KeptNames.{kept_same}
 use Rattle.event_world.proofs.parameters.are_kept.Goals as goal

@@ -1,4 +1,4 @@
-use Rattle.std.proofs.Common.{◌≡◌, length}
+use Rattle.std.proofs.Common.{◌≡◌}
 use Rattle.event_world.proofs.KeptNames.{same_from}
 use Rattle.event_world.proofs.parameters.have_same_parameters.Given as goal
 
