@@ -26,7 +26,11 @@ use Rattle.book_shelf.proofs.Later.{longer, numbered_later}
 use Rattle.event_world.specs.NextState.{BookState}
 use Rattle.gl_book.specs.Walk.{Walk}
 use Rattle.book_state.specs.States.{IsFirstState}
-use Rattle.book_state.proofs.FirstStates.{some_table}
+use Rattle.event_world.specs.OpeningNames.{opening_names}
+use Rattle.sexp_reader.specs.Gathers.{IsTableOf}
+use Rattle.sexp_reader.proofs.Tabled.{table as gathered, table_gathers, table_numbers}
+use Rattle.gl_logic.proofs.GrownTables.{extends_then}
+use Rattle.book_state.proofs.FirstStates.{opening, first_reading}
 use Rattle.gl_book.specs.Entry.{Entry, Refused, stalls_in}
 use Rattle.gl_book.specs.Lines.{transcript_lines, status_of, counts_of, is_refusal}
 use Rattle.gl_book.specs.Transcript.{long_refusal, long, short, Telling, IsTranscript, IsListTranscript, IsBookTranscript, WritesAll, WritesSome, Ends, EndsOrNothing, WritesFront, EndsWith, EndsWithList, WritesBook}
@@ -193,14 +197,18 @@ refused_reported (Err stop) e = tt
 
 -- ---- books of a shelf
 -- a list that stands for a book of a shelf
-pub of_list : (bounds : Bounds) (table : List (List ℕ)) (holds : List ℕ → Option (List ℕ)) (name : List ℕ) (items : List Item) (end : Finish) (old new : Option (List ℕ)) (before after : List StallSeen) (s : Status) → IsFlat table holds name items end
-    → EndsWithList bounds table items end old new before after s → WritesBook bounds holds name old new before after s
-of_list bounds table holds name items end old new before after s flat w = record {
-  shelf = flat.shelf;
-  told = flat.told;
-  written = ends_also (IsListTranscript bounds table items end) old new before after (IsBookTranscript bounds flat.shelf name)
-      (λ lines stalls s t. (t.0, t.1, record { list = record { items = items; taken = flat.taken; finish = end }; lists = flat.lists t.0 t.2.0; comes = t.2.1 }, t.3, t.4, t.5)) s w;
-}
+pub of_list : (bounds : Bounds) (opened table : List (List ℕ)) (holds : List ℕ → Option (List ℕ)) (name : List ℕ) (items : List Item) (end : Finish) (old new : Option (List ℕ)) (before after : List StallSeen) (s : Status) → opened ≡ opening_names
+    → IsFlat opened table holds name items end → EndsWithList bounds table items end old new before after s → WritesBook bounds holds name old new before after s
+of_list bounds opened table holds name items end old new before after s is flat w =
+    let opens : (names : List (List ℕ)) → Extends table names → length (flat.shelf name) ≤ most_bytes → IsTableOf (flat.shelf name) opening_names names = λ names grown few.
+        let t = subst (λ first. IsTableOf (flat.shelf name) first table) is (flat.begins few) in
+        record { front = t.front; gathers = t.gathers; numbers = t.numbers; extends = extends_then t.front table names t.extends grown } in
+    record {
+      shelf = flat.shelf;
+      told = flat.told;
+      written = ends_also (IsListTranscript bounds table items end) old new before after (IsBookTranscript bounds flat.shelf name)
+          (λ lines stalls s t. (t.0, t.1, record { list = record { items = items; taken = flat.taken; finish = end }; lists = flat.lists t.0 t.2.0; opens = opens t.0 t.2.0; comes = t.2.1 }, t.3, t.4, t.5)) s w;
+    }
 
 -- ---- each text has a transcript, and nothing is the front of it
 pub some_transcript : (bounds : Bounds) (text : List ℕ) → (lines : List (List ℕ)) × (stalls : List StallSeen) × (s : Status) × IsTranscript bounds text lines stalls s
@@ -210,9 +218,10 @@ some_transcript bounds text = elim (cases_Bool (nat_lt most_bytes (length text))
       let entries : List Entry = Refused (long_refusal place.line place.column) ∷ [] in
       (transcript_lines [] entries, [], status_of entries, ([], entries, long place.line place.column (ltb-true most_bytes (length text) e, refl), refl, refl, refl))
   | inr e ↦
-      let first = some_table text in
-      let walk = some_walk first.names bounds (finish_of first.end) first.state (map item.Form first.forms) first.can in
-      (transcript_lines first.names walk.0, stalls_in walk.0, status_of walk.0, (first.names, walk.0, short first.forms first.end first.state walk.0 (ltb-false most_bytes (length text) e) first.read first.begins walk.1, refl, refl, refl))
+      let names = gathered opening_names opening.table text in
+      let first = first_reading names text (table_gathers opening_names opening.table text) (table_numbers opening_names opening.table text) in
+      let walk = some_walk names bounds (finish_of first.end) first.state (map item.Form first.forms) first.can in
+      (transcript_lines names walk.0, stalls_in walk.0, status_of walk.0, (names, walk.0, short first.forms first.end first.state walk.0 (ltb-false most_bytes (length text) e) first.read first.begins walk.1, refl, refl, refl))
 ]
 
 module _ (bounds : Bounds) where

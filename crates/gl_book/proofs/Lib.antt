@@ -8,9 +8,11 @@ pub mod GoOn
 pub mod Closing
 pub mod Stalled
 pub mod Onward
+pub mod Readings
 pub mod Ends
 pub mod OneState
 pub mod Completeness
+pub mod Fronts
 pub mod OneText
 pub mod Shares
 pub mod PartsDecided

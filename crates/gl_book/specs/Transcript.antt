@@ -12,7 +12,7 @@ use Rattle.gl_base.specs.declared.status.Status.TheVariants as status
 use Rattle.sexp_reader.specs.declared.list.Form.{Form}
 use Rattle.sexp_reader.specs.declared.ends.End.{End}
 use Rattle.sexp_reader.specs.Book.{IsBeyond}
-use Rattle.sexp_reader.specs.Reads.{Reads}
+use Rattle.sexp_reader.specs.Gathers.{IsTableOf}
 use Rattle.book_shelf.specs.declared.finish.Finish.{Finish}
 use Rattle.book_shelf.specs.declared.item.Item.{Item}
 use Rattle.book_shelf.specs.declared.item.Item.TheVariants as item
@@ -21,6 +21,7 @@ use Rattle.book_shelf.specs.Flat.{Lists, Book, most_bytes}
 use Rattle.book_shelf.specs.NumberedItems.{IsNumberedItem}
 use Rattle.book_state.specs.Reading.{IsReadBy}
 use Rattle.event_world.specs.NextState.{BookState}
+use Rattle.event_world.specs.OpeningNames.{opening_names}
 use Rattle.gl_book.specs.Entry.{Entry, Refused, stalls_in}
 use Rattle.gl_book.specs.Lines.{transcript_lines, status_of}
 use Rattle.gl_book.specs.Walk.{Walk}
@@ -48,10 +49,11 @@ pub record ComesOfList (names : List (List ℕ)) (bounds : Bounds) (items : List
   pub begins : IsFirstState names first
   pub walk : Walk names bounds first items end entries
 
--- what comes of a book of a shelf: the list of it and of the books that it includes is walked
+-- what comes of a book of a shelf: the list of it and of the books that it includes is walked, by a table of its own text
 pub record ComesOfBook (names : List (List ℕ)) (bounds : Bounds) (shelf : List ℕ → List ℕ) (name : List ℕ) (entries : List Entry) : Type 0 where
   pub list : Listing
   pub lists : Lists names shelf [] [] (Book name) list
+  pub opens : length (shelf name) ≤ most_bytes → IsTableOf (shelf name) opening_names names
   pub comes : ComesOfList names bounds list.items list.finish entries
 
 -- ---- transcripts

@@ -22,11 +22,14 @@ ghost use Rattle.gl_book.specs.Walk.{Walk};
 ghost use Rattle.gl_book.specs.declared.answer.Answer.{Answer as AnswerSeen};
 
 /// Whether a book is refused, at which place and with which code, is decided by its texts up to the first constant without a
-/// value, whatever the limits: what comes of one text, of one book of a shelf, or of one list from one state on, by one table of
-/// texts and by the limits of two runs, is refused alike up to there.
+/// value, whatever the limits: what comes of one text, each time by a table of texts and by limits of its own, is refused alike
+/// up to there, and so are two transcripts of it. What comes of one book of a shelf, or of one list from one state on, is
+/// refused alike by one table and by the limits of two runs.
 pub fn one_refusal()
-    ensures text { (names : List (List ℕ)) (bounds limits : Bounds) (bytes : List ℕ) (xs ys : List Entry)
-        → ComesOf names bounds bytes xs → ComesOf names limits bytes ys → AreRefusedAlike xs ys }
+    ensures text { (names others : List (List ℕ)) (bounds limits : Bounds) (bytes : List ℕ) (xs ys : List Entry)
+        → ComesOf names bounds bytes xs → ComesOf others limits bytes ys → AreRefusedAlike xs ys }
+    ensures transcripts { (bounds limits : Bounds) (bytes : List ℕ) (lines others : List (List ℕ)) (stalls more : List StallSeen) (s t : StatusSeen)
+        → (one : IsTranscript bounds bytes lines stalls s) (other : IsTranscript limits bytes others more t) → AreRefusedAlike one.1 other.1 }
     ensures book { (names : List (List ℕ)) (bounds limits : Bounds) (shelf : List ℕ → List ℕ) (name : List ℕ) (xs ys : List Entry)
         → ComesOfBook names bounds shelf name xs → ComesOfBook names limits shelf name ys → AreRefusedAlike xs ys }
     ensures walk { (names : List (List ℕ)) (bounds limits : Bounds) (state : BookState) (items : List ItemSeen) (end : FinishSeen) (xs ys : List Entry)

@@ -148,11 +148,24 @@ pub fn run_book<R: Threads + Sync, S: Shelf, K: Sink>(
     let Ok(mut texts) = Texts::new(alloc) else {
         return Status::NoMemory;
     };
-    match load(alloc, shelf, name, &mut texts) {
-        Ok(library) => run_library(rt, alloc, &library, &mut texts, limits, stalls, out),
-        Err(LoadEnd::Failed) => Status::ReadFault,
-        Err(LoadEnd::Memory) => Status::NoMemory,
-    }
+    let Ok(state) = State::new(alloc, &mut texts) else {
+        return Status::NoMemory;
+    };
+    let library = match load(alloc, shelf, name, &mut texts) {
+        Ok(library) => library,
+        Err(LoadEnd::Failed) => return Status::ReadFault,
+        Err(LoadEnd::Memory) => return Status::NoMemory,
+    };
+    // the texts of a table are different, so one text has one number
+    texts.is_table();
+    let run = Run {
+        rt,
+        alloc,
+        limits,
+        last_only: false,
+        gate: &OpenGate,
+    };
+    status_of_run(walk(&run, &library, state, &mut texts, stalls, out))
 }
 
 /// The status of a run.

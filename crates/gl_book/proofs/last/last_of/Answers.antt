@@ -12,18 +12,9 @@ use Rattle.gl_book.specs.Lasts.{IsLastOf}
 use Rattle.gl_book.specs.LastSteps.{IsWalkedTo}
 use Rattle.gl_book.specs.declared.last_step.Kept.{Kept}
 use Rattle.book_state.proofs.FirstStates.{later_first, still_empty}
+use Rattle.gl_book.proofs.Readings.{is_opening, read_there}
 use Rattle.gl_book.proofs.Lasts.{last_there, none_bad, none_there, ready_there, total_there}
 use Rattle.gl_book.proofs.last.last_of.Goals as goal
-
--- a text is read by a table that begins with one that has the empty text
-read_there : (first names : List (List ℕ)) (bytes : List ℕ) (forms : List Form) (end : End) → with_name first [] ≡ first → Extends first names → IsTable names
-    → ((later : List (List ℕ)) → Extends names later → Reads later bytes forms end) → All (λ form. IsNumbered (length names) form.tree) forms → IsReadBy names bytes forms end
-read_there first names bytes forms end empty grown table reads numbered = record {
-  table = table;
-  empty = still_empty first names grown empty;
-  reads = reads names ([], sym (append-nil names));
-  numbered = numbered;
-}
 
 pub last_kept-requires-clause-empty : goal.last_kept-requires-clause-empty
 last_kept-requires-clause-empty c = still_empty c.new-2.new.texts c.forms.new.texts c.forms.ensures.kept c.in_ok-state.ensures.empty
@@ -47,7 +38,7 @@ returns-in-Bad-clause-last c =
     let first = c.in_ok-state.state in
     let forms = c.in_ok-forms.forms in
     let text = c.args.text.now in
-    let read = read_there c.new-2.new.texts names text forms.list forms.end c.in_ok-state.ensures.empty c.forms.ensures.kept c.forms.ensures.table c.in_ok-forms.ensures.reads c.in_ok-forms.ensures.numbered in
+    let read = read_there c.new-2.new.texts names text forms.list forms.end (is_opening c.in_ok-texts.texts c.new-2.new.texts c.in_ok-texts.ensures c.in_ok-state.ensures.names) c.in_ok-state.ensures.empty c.forms.ensures.gathers c.forms.ensures.kept c.forms.ensures.table c.in_ok-forms.ensures.reads c.in_ok-forms.ensures.numbered in
     let begins = later_first c.new-2.new.texts names first c.forms.ensures.table c.forms.ensures.kept c.in_ok-state.ensures.first in
     (names, none_bad names (bounds_of c.args.limits.now) text forms.list forms.end first c.requires read begins c.in-Bad.field-0 c.in-Bad.field-1 c.in-Bad.field-2 c.in-Bad.is c.in_ok-state.ensures.can_go_on)
 
@@ -59,7 +50,7 @@ returns-in-None-clause-last c =
     let forms = c.in_ok-forms.forms in
     let text = c.args.text.now in
     let now = c.last_kept.new.state.world in
-    let read = read_there c.new-2.new.texts names text forms.list forms.end c.in_ok-state.ensures.empty c.forms.ensures.kept c.forms.ensures.table c.in_ok-forms.ensures.reads c.in_ok-forms.ensures.numbered in
+    let read = read_there c.new-2.new.texts names text forms.list forms.end (is_opening c.in_ok-texts.texts c.new-2.new.texts c.in_ok-texts.ensures c.in_ok-state.ensures.names) c.in_ok-state.ensures.empty c.forms.ensures.gathers c.forms.ensures.kept c.forms.ensures.table c.in_ok-forms.ensures.reads c.in_ok-forms.ensures.numbered in
     let begins = later_first c.new-2.new.texts names first c.forms.ensures.table c.forms.ensures.kept c.in_ok-state.ensures.first in
     let walked = subst (λ (o : Option Kept). IsWalkedTo names bounds first forms.list Clean now o) c.in-None.is c.in_ok-kept.ensures.walked in
     (names, none_there names bounds text forms.list forms.end first c.requires read begins c.in-Clean.is now walked)
@@ -74,7 +65,7 @@ returns-in-Some-clause-last c =
     let now = c.last_kept.new.state.world in
     let kept = c.in-Some.kept in
     let world = c.world_at-world.result in
-    let read = read_there c.new-2.new.texts names text forms.list forms.end c.in_ok-state.ensures.empty c.forms.ensures.kept c.forms.ensures.table c.in_ok-forms.ensures.reads c.in_ok-forms.ensures.numbered in
+    let read = read_there c.new-2.new.texts names text forms.list forms.end (is_opening c.in_ok-texts.texts c.new-2.new.texts c.in_ok-texts.ensures c.in_ok-state.ensures.names) c.in_ok-state.ensures.empty c.forms.ensures.gathers c.forms.ensures.kept c.forms.ensures.table c.in_ok-forms.ensures.reads c.in_ok-forms.ensures.numbered in
     let begins = later_first c.new-2.new.texts names first c.forms.ensures.table c.forms.ensures.kept c.in_ok-state.ensures.first in
     let walked = subst (λ (o : Option Kept). IsWalkedTo names bounds first forms.list Clean now o) c.in-Some.is c.in_ok-kept.ensures.walked in
     let last = last_there names bounds text forms.list forms.end first c.requires read begins c.in-Clean.is now kept world c.world_at-world.ensures walked in
@@ -88,7 +79,7 @@ returns-in-Some-clause-ready c =
     let forms = c.in_ok-forms.forms in
     let text = c.args.text.now in
     let now = c.last_kept.new.state.world in
-    let read = read_there c.new-2.new.texts names text forms.list forms.end c.in_ok-state.ensures.empty c.forms.ensures.kept c.forms.ensures.table c.in_ok-forms.ensures.reads c.in_ok-forms.ensures.numbered in
+    let read = read_there c.new-2.new.texts names text forms.list forms.end (is_opening c.in_ok-texts.texts c.new-2.new.texts c.in_ok-texts.ensures c.in_ok-state.ensures.names) c.in_ok-state.ensures.empty c.forms.ensures.gathers c.forms.ensures.kept c.forms.ensures.table c.in_ok-forms.ensures.reads c.in_ok-forms.ensures.numbered in
     let begins = later_first c.new-2.new.texts names first c.forms.ensures.table c.forms.ensures.kept c.in_ok-state.ensures.first in
     let walked = subst (λ (o : Option Kept). IsWalkedTo names bounds first forms.list Clean now o) c.in-Some.is c.in_ok-kept.ensures.walked in
     ready_there names bounds text forms.list forms.end first c.requires read begins c.in-Clean.is now c.in-Some.kept c.world_at-world.result c.world_at-world.ensures walked

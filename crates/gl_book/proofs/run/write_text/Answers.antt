@@ -1,8 +1,8 @@
 use Rattle.std.proofs.Common.{sym, refl, [], append-nil}
 use Rattle.gl_decide.specs.Bounds.{bounds_of}
 use Rattle.gl_book.specs.Transcript.{IsTranscript}
-use Rattle.book_state.specs.Reading.{IsReadBy}
 use Rattle.book_state.specs.States.{IsFirstState}
+use Rattle.gl_book.proofs.Readings.{is_opening, read_there}
 use Rattle.gl_book.proofs.Ends.{walked, walk_reported, text_told, nothing_written}
 use Rattle.book_state.proofs.FirstStates.{later_first, still_empty}
 use Rattle.gl_book.proofs.run.write_text.Goals as goal
@@ -17,12 +17,8 @@ returns-clause-written g c =
     let book = c.in-Ok-alone.book in
     let bounds = bounds_of c.args.run.now.limits.now in
     let text = c.args.text.now in
-    let read : IsReadBy names text forms.list forms.end = record {
-      table = c.forms.ensures.table;
-      empty = still_empty c.new-2.new.texts names c.forms.ensures.kept c.in-Ok-new.ensures.empty;
-      reads = c.in-Ok-forms.ensures.reads names ([], sym (append-nil names));
-      numbered = c.in-Ok-forms.ensures.numbered;
-    } in
+    let opens = is_opening c.in-Ok.texts c.new-2.new.texts c.in-Ok.ensures c.in-Ok-new.ensures.names in
+    let read = read_there c.new-2.new.texts names text forms.list forms.end opens c.in-Ok-new.ensures.empty c.forms.ensures.gathers c.forms.ensures.kept c.forms.ensures.table c.in-Ok-forms.ensures.reads c.in-Ok-forms.ensures.numbered in
     let begins : IsFirstState names c.in-Ok-new.state = later_first c.new-2.new.texts names c.in-Ok-new.state c.forms.ensures.table c.forms.ensures.kept c.in-Ok-new.ensures.first in
     let told = text_told bounds text names forms.list forms.end book c.in-Ok-alone.ensures.items c.in-Ok-alone.ensures.finish c.requires read c.in-Ok-new.state begins in
     walked (IsTranscript bounds text) c.args.run.now.last_only _ _ _ _ names bounds book c.in-Ok-new.state told c.walk.result c.walk.ensures.ok c.walk.ensures.front
@@ -34,12 +30,8 @@ returns-clause-reported g c =
     let book = c.in-Ok-alone.book in
     let bounds = bounds_of c.args.run.now.limits.now in
     let text = c.args.text.now in
-    let read : IsReadBy names text forms.list forms.end = record {
-      table = c.forms.ensures.table;
-      empty = still_empty c.new-2.new.texts names c.forms.ensures.kept c.in-Ok-new.ensures.empty;
-      reads = c.in-Ok-forms.ensures.reads names ([], sym (append-nil names));
-      numbered = c.in-Ok-forms.ensures.numbered;
-    } in
+    let opens = is_opening c.in-Ok.texts c.new-2.new.texts c.in-Ok.ensures c.in-Ok-new.ensures.names in
+    let read = read_there c.new-2.new.texts names text forms.list forms.end opens c.in-Ok-new.ensures.empty c.forms.ensures.gathers c.forms.ensures.kept c.forms.ensures.table c.in-Ok-forms.ensures.reads c.in-Ok-forms.ensures.numbered in
     let begins : IsFirstState names c.in-Ok-new.state = later_first c.new-2.new.texts names c.in-Ok-new.state c.forms.ensures.table c.forms.ensures.kept c.in-Ok-new.ensures.first in
     let told = text_told bounds text names forms.list forms.end book c.in-Ok-alone.ensures.items c.in-Ok-alone.ensures.finish c.requires read c.in-Ok-new.state begins in
     walk_reported (IsTranscript bounds text) c.args.run.now.last_only _ _ _ _ names bounds book c.in-Ok-new.state told c.walk.result c.walk.ensures.ok
