@@ -1,10 +1,10 @@
 //! A theorem on one input: each conjunct of its hypothesis and each part of its conclusion, with its value.
 
 use crate::asker::Asker;
-use crate::forms::{Part, claims, conjuncts, option_of, printed};
+use crate::forms::{Part, bindings_form, claims, conjuncts, option_of, printed};
 use crate::reading::bindings_in;
 use crate::values::Value;
-use explain_report::{Report, parts_of_input, put_in_bases};
+use explain_report::{Report, front_of, parts_of_input, put_in_bases};
 use gl_logic::{NoMemory, Texts, Tree};
 use shape_spec::Bindings;
 use std::alloc::Global;
@@ -15,18 +15,9 @@ const MOST_PARTS: usize = 24;
 
 const MOST_BYTES: usize = 120;
 
-/// As much of a text as is shown.
-fn front_of(text: &[u8]) -> &[u8] {
-    if MOST_BYTES <= text.len() {
-        &text[..MOST_BYTES]
-    } else {
-        text
-    }
-}
-
 /// Puts as much of a text as is shown.
 pub(crate) fn put_front(report: &mut Report, text: &[u8]) -> Result<(), NoMemory> {
-    report.text(front_of(text))?;
+    report.text(front_of(text, MOST_BYTES))?;
     report.say(if MOST_BYTES < text.len() { ".." } else { "" })
 }
 
@@ -62,11 +53,11 @@ fn value_text(
 }
 
 /// Puts a value behind its term.
-fn put_value(alloc: Global, report: &mut Report, value: &Value) -> Result<(), NoMemory> {
+fn put_value(report: &mut Report, value: &Value) -> Result<(), NoMemory> {
     match value {
         Value::Is(object) if object.len() <= MOST_BYTES => {
             report.say(" = ")?;
-            put_in_bases(alloc, report, object.as_slice(), 0)
+            put_in_bases(report, object.as_slice(), 0)
         }
         Value::Is(object) => {
             report.say(" = ")?;
@@ -103,7 +94,7 @@ fn put_part<R: Threads + Sync>(
     let value = value_on(asker, texts, inputs, part.tree)?;
     report.times(indent, b' ')?;
     put_front(report, &printed(asker.alloc, part.tree, texts)?)?;
-    put_value(asker.alloc, report, &value)?;
+    put_value(report, &value)?;
     report.say("\n")
 }
 
@@ -124,11 +115,7 @@ fn bits_of(texts: &Texts, bindings: &Option<Bindings>, name: &[u8]) -> usize {
 
 /// The bindings of a theorem's form.
 fn bindings_of(alloc: Global, texts: &Texts, form: &Tree) -> Result<Option<Bindings>, NoMemory> {
-    let found = match option_of(texts, form, b":G-BINDINGS") {
-        Some(found) => Some(found),
-        None => option_of(texts, form, b":COV-BINDINGS"),
-    };
-    match found {
+    match bindings_form(texts, form) {
         Some(found) => bindings_in(alloc, texts, found),
         None => Ok(None),
     }
@@ -149,7 +136,7 @@ pub(crate) fn put_inputs(
         report.say("     ")?;
         report.text(name)?;
         report.say(" = ")?;
-        put_in_bases(alloc, report, object, bits_of(texts, &bindings, name))?;
+        put_in_bases(report, object, bits_of(texts, &bindings, name))?;
         report.say("\n")?;
     }
     Ok(())

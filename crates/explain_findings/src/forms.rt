@@ -53,6 +53,14 @@ pub(crate) fn option_of<'a>(texts: &Texts, form: &'a Tree, keyword: &[u8]) -> Op
     None
 }
 
+/// The form of a theorem's bindings; of one by cases those of its cover.
+pub(crate) fn bindings_form<'a>(texts: &Texts, form: &'a Tree) -> Option<&'a Tree> {
+    match option_of(texts, form, b":G-BINDINGS") {
+        Some(found) => Some(found),
+        None => option_of(texts, form, b":COV-BINDINGS"),
+    }
+}
+
 /// Whether a word is one of a list of words, which are parted by blanks.
 pub(crate) fn is_among(word: &[u8], words: &str) -> bool {
     for other in words.split_whitespace() {

@@ -78,7 +78,11 @@ fn put_count(report: &mut Report, verdict: Verdict, count: u64) -> Result<(), No
 fn put_counts(report: &mut Report, records: &[Record]) -> Result<(), NoMemory> {
     report.say("<p>")?;
     report.number(event_count(records))?;
-    report.say(" events in ")?;
+    report.say(if event_count(records) == 1 {
+        " event in "
+    } else {
+        " events in "
+    })?;
     report.millis(all_micros(records))?;
     report.say(" s</p>\n<ul class=\"counts\">\n")?;
     for verdict in &VERDICTS {

@@ -20,7 +20,7 @@ mod summary;
 pub use bases::put_in_bases;
 pub use html::put_page;
 pub use json::{parts_of_input, put_object};
-pub use record::{Record, Verdict, behind_word, first_word, name_in};
+pub use record::{Record, Verdict, behind_word, first_word, front_of, name_in};
 pub use report::Report;
 pub use shown::{PutEnd, Style, append_shown, put_line};
 pub use summary::put_summary;

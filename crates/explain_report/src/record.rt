@@ -124,7 +124,7 @@ fn word_len(text: &[u8]) -> usize {
 }
 
 /// The first bytes of a text.
-fn front_of(text: &[u8], count: usize) -> &[u8] {
+pub fn front_of(text: &[u8], count: usize) -> &[u8] {
     if count <= text.len() {
         &text[..count]
     } else {

@@ -1,8 +1,11 @@
 //! What is said, as bytes that grow.
 
+ghost use Rattle.std.specs.Prelude.{◌≡◌, ◌++◌, [], OnOk};
+
 use crate::shown::{Style, append_shown};
 use gl_logic::NoMemory;
 use std::alloc::Global;
+use std::marker::Model;
 
 /// What is said so far.
 #[derive(Drop)]
@@ -11,9 +14,22 @@ pub struct Report {
     bytes: Vec<u8>,
 }
 
+impl Model for Report {
+    ghost use Rattle.std.specs.Prelude.{ℕ, List};
+    ghost use Rattle.std.specs.Coded.{coded_list, coded_ℕ};
+
+    ghost Value = { List ℕ };
+
+    ghost coded = { coded_list coded_ℕ };
+
+    ghost view = { λ r. r.bytes.items };
+}
+
 impl Report {
     /// Nothing. Takes no memory.
-    pub fn new(alloc: Global) -> Report {
+    pub fn new(alloc: Global) -> Report
+        ensures { result ≡ [] }
+    {
         Report {
             alloc,
             bytes: Vec::new(alloc),
@@ -21,12 +37,16 @@ impl Report {
     }
 
     /// Its bytes.
-    pub fn as_slice(&self) -> &[u8] {
+    pub fn as_slice(&self) -> &[u8]
+        ensures { result.now ≡ self.now }
+    {
         self.bytes.as_slice()
     }
 
     /// Says a text.
-    pub fn text(&mut self, text: &[u8]) -> Result<(), NoMemory> {
+    pub fn text(&mut self, text: &[u8]) -> Result<(), NoMemory>
+        ensures { OnOk result (self.new ≡ self.old ++ text.now) }
+    {
         self.bytes.extend_from_slice(text)?;
         Ok(())
     }
@@ -82,7 +102,9 @@ impl Report {
     }
 
     /// Its bytes.
-    pub fn into_bytes(self) -> Vec<u8> {
+    pub fn into_bytes(self) -> Vec<u8>
+        ensures { result.items ≡ self }
+    {
         let Report { bytes, .. } = self;
         bytes
     }

@@ -1,7 +1,7 @@
 //! The event that is running, named on a terminal in a line that is wiped again.
 
 use crate::spots::{Named, Spot, Spots};
-use explain_report::Report;
+use explain_report::{Report, front_of};
 use gl_base::sink::{Sink, put_all};
 use gl_logic::NoMemory;
 use std::alloc::Global;
@@ -11,14 +11,6 @@ const MOST_NAMED: usize = 40;
 
 /// To the first column, and wipes the line.
 const WIPE: &[u8] = b"\r\x1b[K";
-
-fn front_of(text: &[u8], count: usize) -> &[u8] {
-    if count <= text.len() {
-        &text[..count]
-    } else {
-        text
-    }
-}
 
 /// What is said while an event runs.
 fn words_of(alloc: Global, file: &[u8], spot: Spot, named: &Named) -> Result<Report, NoMemory> {

@@ -1,0 +1,28 @@
+-- Integers in other bases than ten.
+use Rattle.std.specs.Prelude.{◌≡◌, ℕ, ℤ, pos, negsuc, List, [], ◌∷◌, ◌++◌, unsigned_abs}
+use Rattle.std.specs.Str.Parse.{IsNumeral, digits_value}
+
+-- digits of a base come behind what stands there, and denote a number
+pub record PutsNumber (base n : ℕ) (old new : List ℕ) : Type 0 where
+  pub digits : List ℕ
+  pub put : new ≡ old ++ digits
+  pub are : IsNumeral base digits
+  pub denote : digits_value base digits ≡ n
+
+-- a minus in front of the digits of an integer below zero
+abbrev pub minus : ℤ → List ℕ
+minus (pos n) = []
+minus (negsuc n) = 45 ∷ []
+
+-- " = #x" and " = #b"
+abbrev pub hexadecimal_mark : List ℕ
+hexadecimal_mark = 32 ∷ 61 ∷ 32 ∷ 35 ∷ 120 ∷ []
+
+abbrev pub binary_mark : List ℕ
+binary_mark = 32 ∷ 61 ∷ 32 ∷ 35 ∷ 98 ∷ []
+
+-- the text of an integer, and behind its marks its minus and its digits in hexadecimal and in binary
+pub record PutsInBases (z : ℤ) (text old new : List ℕ) : Type 0 where
+  pub before : List ℕ
+  pub hexadecimal : PutsNumber 16 (unsigned_abs z) (old ++ text ++ hexadecimal_mark ++ minus z) before
+  pub binary : PutsNumber 2 (unsigned_abs z) (before ++ binary_mark ++ minus z) new
