@@ -5,7 +5,7 @@
 //! the translator that judges, and nothing here knows what a fault is.
 
 use crate::elements::{elements, form_alone};
-use crate::span::{Span, cut, is_word};
+use crate::span::{Span, cut, is_word, whole};
 use crate::terms::{head_of, terms_of_event, terms_of_term};
 use event_world::{EventFault, event_of};
 use gl_logic::{NoMemory, Texts, World};
@@ -174,10 +174,7 @@ pub(crate) fn blame(
     event: &[u8],
 ) -> Result<Blamed, NoMemory> {
     let mut blamed = Blamed {
-        span: Span {
-            start: 0,
-            end: event.len(),
-        },
+        span: whole(event),
         text: event.to_vec(alloc)?,
     };
     let mut parts = terms_of_event(alloc, event, blamed.span)?;
@@ -213,14 +210,7 @@ fn taken_out(alloc: Global, text: &[u8], part: Span) -> Result<Vec<u8>, NoMemory
 
 /// The options of an event, each with its value: the declarations of a definition, and the keywords of a theorem.
 fn options_of(alloc: Global, event: &[u8]) -> Result<Vec<Span>, NoMemory> {
-    let parts = elements(
-        alloc,
-        event,
-        Span {
-            start: 0,
-            end: event.len(),
-        },
-    )?;
+    let parts = elements(alloc, event, whole(event))?;
     let is_theorem = begins_theorem(head_of(event, &parts));
     let mut options = Vec::new(alloc);
     let mut start = None;
@@ -256,10 +246,7 @@ pub(crate) fn odd_option(
     texts: &mut Texts,
     event: &[u8],
 ) -> Result<Span, NoMemory> {
-    let whole = Span {
-        start: 0,
-        end: event.len(),
-    };
+    let all = whole(event);
     let options = options_of(alloc, event)?;
     for (i, option) in options.iter().enumerate() {
         if i < MOST_OPTIONS {
@@ -270,5 +257,5 @@ pub(crate) fn odd_option(
             }
         }
     }
-    Ok(whole)
+    Ok(all)
 }

@@ -123,8 +123,8 @@ pub(crate) fn elements(alloc: Global, text: &[u8], span: Span) -> Result<Vec<Spa
     spans_between(alloc, base, &offsets)
 }
 
-/// Without the blanks at its end.
-fn without_blanks(text: &[u8], span: Span) -> Span {
+/// A part without the blanks at its end.
+pub(crate) fn without_blanks(text: &[u8], span: Span) -> Span {
     let mut end = span.start;
     for (i, byte) in cut(text, span).iter().enumerate() {
         if *byte > 32 {

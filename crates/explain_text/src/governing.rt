@@ -2,8 +2,9 @@
 
 use crate::elements::{elements, form_alone};
 use crate::excerpt::put_part;
-use crate::span::{Span, is_word, token};
-use crate::terms::{head_of, is_among};
+use crate::span::{Span, is_word, token, whole};
+use crate::terms::head_of;
+use explain_findings::is_among;
 use explain_report::Report;
 use gl_logic::NoMemory;
 use std::alloc::Global;
@@ -105,10 +106,7 @@ fn put_governing(
     event: &[u8],
     call: Span,
 ) -> Result<(), NoMemory> {
-    let mut around = Span {
-        start: 0,
-        end: event.len(),
-    };
+    let mut around = whole(event);
     for _ in 0..MOST_DEEP {
         if call.start <= around.start {
             return Ok(());
@@ -226,11 +224,8 @@ fn put_row(alloc: Global, report: &mut Report, text: &[u8], call: Span) -> Resul
 
 /// The definition of an event in which an offset stands.
 fn definition_around(alloc: Global, event: &[u8], offset: usize) -> Result<Span, NoMemory> {
-    let whole = Span {
-        start: 0,
-        end: event.len(),
-    };
-    let parts = elements(alloc, event, whole)?;
+    let all = whole(event);
+    let parts = elements(alloc, event, all)?;
     if is_word(head_of(event, &parts), b"mutual-recursion") {
         if let Some(number) = number_around(&parts, offset) {
             if let Some(part) = parts.get(number) {
@@ -238,7 +233,7 @@ fn definition_around(alloc: Global, event: &[u8], offset: usize) -> Result<Span,
             }
         }
     }
-    Ok(whole)
+    Ok(all)
 }
 
 /// Puts what a recursive call stands under: the measure, the tests that govern it, and the row that is nearest.

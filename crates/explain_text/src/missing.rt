@@ -2,7 +2,7 @@
 
 use crate::elements::elements;
 use crate::known::entry_of;
-use crate::span::{Span, byte_at, is_word, token};
+use crate::span::{Span, byte_at, is_word, token, whole};
 use crate::terms::head_of;
 use explain_report::Report;
 use gl_logic::NoMemory;
@@ -89,11 +89,8 @@ pub(crate) fn put_missing(
     report: &mut Report,
     event: &[u8],
 ) -> Result<(), NoMemory> {
-    let whole = Span {
-        start: 0,
-        end: event.len(),
-    };
-    let parts = elements(alloc, event, whole)?;
+    let all = whole(event);
+    let parts = elements(alloc, event, all)?;
     let head = head_of(event, &parts);
     if let Some(required) = entry_of(REQUIRED, head) {
         put_odd_keyword(report, event, &parts)?;

@@ -6,9 +6,9 @@ use crate::elements::{behind_forms, elements, form_alone, offset_of};
 use crate::excerpt::{put_excerpt, put_part, put_place};
 use crate::governing::put_call;
 use crate::items::{odd_binding, odd_case, odd_part, unbound};
-use crate::known::{instead_of_event, instead_of_term, nearest_function};
+use crate::known::{instead_of_event, instead_of_shape, instead_of_term, nearest_function};
 use crate::missing::put_missing;
-use crate::span::{Span, cut, is_word, token, without_package};
+use crate::span::{Span, cut, is_word, token, whole, without_package};
 use crate::terms::{head_of, terms_of_event};
 use book_shelf::ShelfCode;
 use event_world::EventFault;
@@ -21,6 +21,9 @@ use std::alloc::Global;
 
 /// How many bytes of a form are named in words.
 const MOST_NAMED: usize = 60;
+
+/// How many counts of arguments are tried.
+const MOST_COUNTED: u64 = 9;
 
 /// The text that a refusal is of, and where.
 #[derive(Clone, Copy)]
@@ -217,16 +220,13 @@ fn part_at_fault(
     texts: &mut Texts,
     event: &[u8],
 ) -> Result<Span, NoMemory> {
-    let whole = Span {
-        start: 0,
-        end: event.len(),
-    };
+    let all = whole(event);
     match judge.fault {
-        EventFault::UnknownEvent => element_of(alloc, event, whole, 0),
-        EventFault::Redefined => element_of(alloc, event, whole, 1),
+        EventFault::UnknownEvent => element_of(alloc, event, all, 0),
+        EventFault::Redefined => element_of(alloc, event, all, 1),
         EventFault::BadOption => odd_option(alloc, judge, texts, event),
         EventFault::Term(TermFault::UnknownFunction) => head_at_fault(alloc, judge, texts, event),
-        EventFault::Term(TermFault::TooDeep) | EventFault::BadEvent => Ok(whole),
+        EventFault::Term(TermFault::TooDeep) | EventFault::BadEvent => Ok(all),
         EventFault::Term(TermFault::BadUse) => malformed_part(alloc, judge, texts, event),
         EventFault::Term(_) | EventFault::NotAdmitted(_) => {
             term_at_fault(alloc, judge, texts, event)
@@ -236,20 +236,13 @@ fn part_at_fault(
             odd_binding(alloc, texts, event, bindings)
         }
         EventFault::BadCases => case_at_fault(alloc, judge, texts, event),
-        EventFault::Memory => Ok(whole),
+        EventFault::Memory => Ok(all),
     }
 }
 
 /// The value behind a keyword of an event; the event where there is none.
 fn bindings_of(alloc: Global, event: &[u8], keyword: &[u8]) -> Result<Span, NoMemory> {
-    let parts = elements(
-        alloc,
-        event,
-        Span {
-            start: 0,
-            end: event.len(),
-        },
-    )?;
+    let parts = elements(alloc, event, whole(event))?;
     let mut is_next = false;
     for part in &parts {
         if is_next {
@@ -257,10 +250,7 @@ fn bindings_of(alloc: Global, event: &[u8], keyword: &[u8]) -> Result<Span, NoMe
         }
         is_next = is_word(token(event, *part), keyword);
     }
-    Ok(Span {
-        start: 0,
-        end: event.len(),
-    })
+    Ok(whole(event))
 }
 
 /// Puts what may be meant by a name that is no function.
@@ -297,11 +287,8 @@ fn put_event_help(report: &mut Report, word: &[u8]) -> Result<(), NoMemory> {
 
 /// Puts the formals of a definition.
 fn put_formals(alloc: Global, report: &mut Report, event: &[u8]) -> Result<(), NoMemory> {
-    let whole = Span {
-        start: 0,
-        end: event.len(),
-    };
-    let parts = elements(alloc, event, whole)?;
+    let all = whole(event);
+    let parts = elements(alloc, event, all)?;
     if is_word(head_of(event, &parts), b"defun") {
         if let Some(part) = parts.get(2) {
             report.say("   = help: the formals are ")?;
@@ -312,24 +299,107 @@ fn put_formals(alloc: Global, report: &mut Report, event: &[u8]) -> Result<(), N
     Ok(())
 }
 
-/// Puts how many arguments stand in a call, and how many its head takes where it is a definition.
+/// The counts of arguments, up to so many, with which a call of a head is none of another number.
+fn counts_taken(
+    alloc: Global,
+    judge: &Judge,
+    texts: &mut Texts,
+    head: &[u8],
+) -> Result<Vec<u64>, NoMemory> {
+    let mut counts = Vec::new(alloc);
+    let mut arguments = Report::new(alloc);
+    for count in 0..MOST_COUNTED {
+        let mut event = Report::new(alloc);
+        event.say("(value-triple (")?;
+        event.text(head)?;
+        event.text(arguments.as_slice())?;
+        event.say("))")?;
+        if !judge.refuses(alloc, texts, event.as_slice())? {
+            counts.push(count)?;
+        }
+        arguments.say(" nil")?;
+    }
+    Ok(counts)
+}
+
+/// Puts how many arguments a head takes, which may be that of the definition itself; nothing where it takes any number.
+fn put_taken(
+    alloc: Global,
+    report: &mut Report,
+    judge: &Judge,
+    texts: &mut Texts,
+    head: &[u8],
+    own: Option<u64>,
+) -> Result<(), NoMemory> {
+    let mut counts = Vec::new(alloc);
+    match own {
+        Some(count) => counts.push(count)?,
+        None => match count_taken(head, judge.world, texts) {
+            Some(count) => counts.push(count)?,
+            None => counts = counts_taken(alloc, judge, texts, head)?,
+        },
+    }
+    if counts.len() as u64 == MOST_COUNTED {
+        return Ok(());
+    }
+    let mut between = ", and it takes ";
+    for count in &counts {
+        report.say(between)?;
+        report.number(*count)?;
+        between = " or ";
+    }
+    Ok(())
+}
+
+/// How many formals a definition has, where it is the one of a head.
+fn own_count(alloc: Global, event: &[u8], head: &[u8]) -> Result<Option<u64>, NoMemory> {
+    let parts = elements(alloc, event, whole(event))?;
+    if let (Some(name), Some(formals)) = (parts.get(1), parts.get(2)) {
+        if is_word(head_of(event, &parts), b"defun") && is_word(token(event, *name), head) {
+            return Ok(Some(elements(alloc, event, *formals)?.len() as u64));
+        }
+    }
+    Ok(None)
+}
+
+/// Puts how many arguments stand in a call, and how many its head takes.
 fn put_counts(
     alloc: Global,
     report: &mut Report,
+    judge: &Judge,
+    texts: &mut Texts,
     event: &[u8],
     call: Span,
-    world: &World,
-    texts: &Texts,
 ) -> Result<(), NoMemory> {
     let parts = elements(alloc, event, call)?;
     report.say("   = help: ")?;
     report.number(parts.len().saturating_sub(1) as u64)?;
     report.say(" stand here")?;
-    if let Some(count) = count_taken(head_of(event, &parts), world, texts) {
-        report.say(", and it takes ")?;
-        report.number(count)?;
-    }
+    let head = head_of(event, &parts);
+    let own = own_count(alloc, event, head)?;
+    put_taken(alloc, report, judge, texts, head, own)?;
     report.say("\n")
+}
+
+/// Puts what stands here for the first word of GL's bindings in a part of an event.
+fn put_shape_help(report: &mut Report, event: &[u8], part: Span) -> Result<(), NoMemory> {
+    for (i, byte) in cut(event, part).iter().enumerate() {
+        if *byte == b':' {
+            let start = part.start.saturating_add(i);
+            if let Some(instead) = instead_of_shape(token(
+                event,
+                Span {
+                    start,
+                    end: part.end,
+                },
+            )) {
+                report.say("   = help: GL's word; here: ")?;
+                report.say(instead)?;
+                return report.say("\n");
+            }
+        }
+    }
+    Ok(())
 }
 
 /// How many arguments a definition takes.
@@ -345,14 +415,7 @@ fn count_taken(head: &[u8], world: &World, texts: &Texts) -> Option<u64> {
 
 /// The bindings of a theorem; of one by cases the cases, where its cover has bindings.
 fn theorem_bindings(alloc: Global, texts: &mut Texts, event: &[u8]) -> Result<Span, NoMemory> {
-    let parts = elements(
-        alloc,
-        event,
-        Span {
-            start: 0,
-            end: event.len(),
-        },
-    )?;
+    let parts = elements(alloc, event, whole(event))?;
     if !is_word(head_of(event, &parts), b"def-gl-param-thm") {
         return bindings_of(alloc, event, b":g-bindings");
     }
@@ -375,11 +438,8 @@ fn put_unbound(
     if bindings_of_text(alloc, texts, cut(event, bindings))?.is_none() {
         return Ok(());
     }
-    let whole = Span {
-        start: 0,
-        end: event.len(),
-    };
-    let terms = terms_of_event(alloc, event, whole)?;
+    let all = whole(event);
+    let terms = terms_of_event(alloc, event, all)?;
     if let Some(word) = unbound(alloc, judge, texts, event, bindings, &terms)? {
         report.say("   = note: `")?;
         report.text(cut(event, word))?;
@@ -404,11 +464,14 @@ fn put_help_of_part(
         }
         EventFault::Term(TermFault::UnboundVariable) => put_formals(alloc, report, event),
         EventFault::Term(TermFault::WrongCount) => {
-            put_counts(alloc, report, event, part, judge.world, texts)
+            put_counts(alloc, report, judge, texts, event, part)
         }
         EventFault::BadEvent => put_missing(alloc, report, event),
         EventFault::NotAdmitted(_) => put_call(alloc, report, event, part),
-        EventFault::BadBindings => put_unbound(alloc, report, judge, texts, event),
+        EventFault::BadBindings => {
+            put_shape_help(report, event, part)?;
+            put_unbound(alloc, report, judge, texts, event)
+        }
         _ => Ok(()),
     }
 }

@@ -1,6 +1,6 @@
 //! The texts of a book once more, for what is shown of them.
 
-use crate::elements::offset_of;
+use crate::elements::{offset_of, without_blanks};
 use crate::span::{Span, cut};
 use crate::spots::{Spot, Spots};
 use explain_report::{Record, Verdict};
@@ -47,20 +47,6 @@ fn next_spot(spots: &Spots, item: usize, spot: Spot) -> Option<Spot> {
     None
 }
 
-/// A part without the blanks behind it.
-fn trimmed(text: &[u8], span: Span) -> Span {
-    let mut end = span.start;
-    for (i, byte) in cut(text, span).iter().enumerate() {
-        if *byte > 32 {
-            end = span.start.saturating_add(i).saturating_add(1);
-        }
-    }
-    Span {
-        start: span.start,
-        end,
-    }
-}
-
 /// What stands from a form up to the next one, as far as it is shown.
 fn form_at(
     alloc: Global,
@@ -77,7 +63,7 @@ fn form_at(
         None => text.len(),
     };
     let most = start.saturating_add(MOST_BYTES);
-    let part = trimmed(
+    let part = without_blanks(
         text,
         Span {
             start,

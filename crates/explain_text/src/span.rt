@@ -7,6 +7,14 @@ pub(crate) struct Span {
     pub end: usize,
 }
 
+/// All of a text.
+pub(crate) fn whole(text: &[u8]) -> Span {
+    Span {
+        start: 0,
+        end: text.len(),
+    }
+}
+
 /// The bytes of a part, and none where the text has no such part.
 pub(crate) fn cut(text: &[u8], span: Span) -> &[u8] {
     if span.start <= span.end && span.end <= text.len() {
@@ -42,25 +50,9 @@ pub(crate) fn token(text: &[u8], span: Span) -> &[u8] {
     cut(bytes, Span { start: 0, end })
 }
 
-fn upper(byte: u8) -> u8 {
-    if byte >= b'a' && byte <= b'z' {
-        byte - 32
-    } else {
-        byte
-    }
-}
-
 /// Whether two words differ in case alone.
 pub(crate) fn is_word(word: &[u8], other: &[u8]) -> bool {
-    if word.len() != other.len() {
-        return false;
-    }
-    for (i, byte) in word.iter().enumerate() {
-        if upper(*byte) != upper(byte_at(other, i)) {
-            return false;
-        }
-    }
-    true
+    word.eq_ignore_ascii_case(other)
 }
 
 /// A name without the prefix of a package that is dropped.

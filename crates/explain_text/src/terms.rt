@@ -2,6 +2,7 @@
 
 use crate::elements::elements;
 use crate::span::{Span, is_word, token, without_package};
+use explain_findings::is_among;
 use gl_logic::NoMemory;
 use std::alloc::Global;
 
@@ -33,16 +34,6 @@ fn only_last(alloc: Global, spans: &[Span], first: usize) -> Result<Spans, NoMem
         return Ok(Vec::new(alloc));
     }
     only(alloc, spans, spans.len() - 1)
-}
-
-/// Whether a word is one of a list of words, which are parted by blanks.
-pub(crate) fn is_among(word: &[u8], words: &str) -> bool {
-    for other in words.split_whitespace() {
-        if is_word(word, other.as_bytes()) {
-            return true;
-        }
-    }
-    false
 }
 
 /// The values behind the keywords among these.
