@@ -17,7 +17,7 @@ fn word_of(outcome: Outcome) -> &'static str {
         Outcome::Vacuous => "decided: nothing meets the hypothesis",
         Outcome::Refuted => "decided: it is refuted",
         Outcome::Valued => "decided: it has a value",
-        Outcome::Open => "undecided",
+        Outcome::Open(_) => "undecided",
     }
 }
 
@@ -28,7 +28,7 @@ fn word_of_hint(outcome: Outcome) -> &'static str {
         Outcome::Vacuous =>
             "nothing meets the hypothesis there, which says nothing of the theorem itself",
         Outcome::Refuted => "a counterexample, which meets the whole hypothesis",
-        Outcome::Valued | Outcome::Open => "undecided too",
+        Outcome::Valued | Outcome::Open(_) => "undecided too",
     }
 }
 
@@ -48,6 +48,10 @@ fn put_outcome(
     } else {
         word_of(outcome)
     })?;
+    if let Outcome::Open(cause) = outcome {
+        report.say(", ")?;
+        report.say(cause)?;
+    }
     report.say(", in ")?;
     report.millis(micros)?;
     report.say(" s\n")
@@ -91,7 +95,7 @@ pub(crate) fn put_attempts<R: Threads + Sync + Clock>(
     for trial in &ladder.trials {
         let decision = asker.try_text(texts, &trial.text, trial.mode, &trial.limits)?;
         put_outcome(report, trial, decision.outcome, watch.lap())?;
-        if decision.outcome != Outcome::Open {
+        if !matches!(decision.outcome, Outcome::Open(_)) {
             if !trial.is_hint {
                 put_change(report, trial)?;
             }

@@ -157,11 +157,7 @@ fn put_missing(
     name: &[u8],
 ) -> Result<(), NoMemory> {
     report.say("   no bounds of it are written out: what would cover it is ")?;
-    if !put_conjunct(alloc, texts, report, shape, name)? {
-        return report.say(
-            "(CONSP ..) or (TRUE-LISTP ..) with (EQUAL (LEN ..) ..), and bounds of each part\n",
-        );
-    }
+    put_conjunct(alloc, texts, report, shape, name)?;
     if let Some(indices) = shape.as_integer() {
         if 1 < indices.len() {
             report.say(", or (UNSIGNED-BYTE-P ")?;

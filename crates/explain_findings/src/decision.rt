@@ -1,6 +1,7 @@
 //! What comes of theorems that are asked.
 
 use crate::forms::printed;
+use crate::values::word_of;
 use gl_book::{Answer, CasesVerdict};
 use gl_decide::Verdict;
 use gl_logic::{NoMemory, Texts};
@@ -15,7 +16,8 @@ pub(crate) enum Outcome {
     Refuted,
     /// A value is there.
     Valued,
-    Open,
+    /// It is undecided, by a cause.
+    Open(&'static str),
 }
 
 /// What a theorem comes to, and the lines of the input that refutes it.
@@ -53,6 +55,21 @@ fn refuted(alloc: Global, texts: &Texts, inputs: &Inputs) -> Result<Decision, No
     })
 }
 
+/// The word of the cause for which a verdict is none of the others.
+fn cause_of(verdict: &Verdict) -> &'static str {
+    match verdict {
+        Verdict::Uncovered(_) => "uncovered",
+        Verdict::Clock(_, _) => "clock",
+        Verdict::Width(_, _) => "width",
+        Verdict::Steps(_, _) => "steps",
+        Verdict::Cells(_, _) => "cells",
+        Verdict::Nodes(_) => "nodes",
+        Verdict::Clauses(_) => "clauses",
+        Verdict::Memory => "memory",
+        Verdict::Proved | Verdict::Vacuous | Verdict::Refuted(_) => "",
+    }
+}
+
 fn decision_of_verdict(
     alloc: Global,
     texts: &Texts,
@@ -62,7 +79,7 @@ fn decision_of_verdict(
         Verdict::Proved => Ok(decided(alloc, Outcome::Proved)),
         Verdict::Vacuous => Ok(decided(alloc, Outcome::Vacuous)),
         Verdict::Refuted(inputs) => refuted(alloc, texts, inputs),
-        _ => Ok(decided(alloc, Outcome::Open)),
+        _ => Ok(decided(alloc, Outcome::Open(cause_of(verdict)))),
     }
 }
 
@@ -75,7 +92,10 @@ fn decision_of_cases(
         CasesVerdict::Proved => Ok(decided(alloc, Outcome::Proved)),
         CasesVerdict::Vacuous => Ok(decided(alloc, Outcome::Vacuous)),
         CasesVerdict::Refuted(inputs) => refuted(alloc, texts, inputs),
-        _ => Ok(decided(alloc, Outcome::Open)),
+        CasesVerdict::Uncased(_) => Ok(decided(alloc, Outcome::Open("uncased"))),
+        CasesVerdict::Cover(verdict) | CasesVerdict::Case(_, verdict) => {
+            Ok(decided(alloc, Outcome::Open(cause_of(verdict))))
+        }
     }
 }
 
@@ -93,11 +113,12 @@ fn decision_of_answer(alloc: Global, texts: &Texts, answer: &Answer) -> Result<D
         Answer::ByCases(verdict) => decision_of_cases(alloc, texts, verdict),
         Answer::Value(_) => Ok(decided(alloc, Outcome::Valued)),
         Answer::Truth(holds) => Ok(decided(alloc, truth(*holds))),
-        _ => Ok(decided(alloc, Outcome::Open)),
+        Answer::Undecided(cause) => Ok(decided(alloc, Outcome::Open(word_of(*cause)))),
+        Answer::Done | Answer::Function(_) => Ok(decided(alloc, Outcome::Open("refused"))),
     }
 }
 
-/// What an answer comes to. An assert counts as proved or refuted.
+/// What an answer comes to. An assert counts as proved or refuted, and a form without an answer as refused.
 pub(crate) fn decision_of(
     alloc: Global,
     texts: &Texts,
@@ -105,6 +126,6 @@ pub(crate) fn decision_of(
 ) -> Result<Decision, NoMemory> {
     match answer {
         Some(answer) => decision_of_answer(alloc, texts, &answer),
-        None => Ok(decided(alloc, Outcome::Open)),
+        None => Ok(decided(alloc, Outcome::Open("refused"))),
     }
 }

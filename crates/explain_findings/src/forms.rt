@@ -7,6 +7,9 @@ use std::alloc::Global;
 /// How many parts of a form are looked into.
 const MOST_PARTS: usize = 4000;
 
+/// How many pieces of a form are written: more than a book has.
+const MOST_PIECES: usize = 100_000_000;
+
 /// The word that an object is; empty where it is no symbol.
 pub fn word_of<'a>(texts: &'a Texts, tree: &Tree) -> &'a [u8] {
     match tree.kind() {
@@ -61,10 +64,10 @@ pub(crate) fn bindings_form<'a>(texts: &Texts, form: &'a Tree) -> Option<&'a Tre
     }
 }
 
-/// Whether a word is one of a list of words, which are parted by blanks.
-pub(crate) fn is_among(word: &[u8], words: &str) -> bool {
+/// Whether a word is one of a list of words, which are parted by blanks, whatever its case.
+pub fn is_among(word: &[u8], words: &str) -> bool {
     for other in words.split_whitespace() {
-        if word == other.as_bytes() {
+        if word.eq_ignore_ascii_case(other.as_bytes()) {
             return true;
         }
     }
@@ -75,6 +78,67 @@ pub(crate) fn is_among(word: &[u8], words: &str) -> bool {
 pub(crate) fn printed(alloc: Global, tree: &Tree, texts: &Texts) -> Result<Vec<u8>, NoMemory> {
     let mut bytes = Vec::new(alloc);
     print(alloc, tree, texts, &mut bytes)?;
+    Ok(bytes)
+}
+
+/// A backquote or a comma, where a form is one in front of another form.
+fn mark_of(texts: &Texts, form: &Tree) -> Option<&'static str> {
+    let is_pair = form.elements().len() == 2 && word_of(texts, form.tail()) == b"NIL".as_slice();
+    let head = head_of(texts, form);
+    if is_pair && head == b"`".as_slice() {
+        Some("`")
+    } else if is_pair && head == b",".as_slice() {
+        Some(",")
+    } else {
+        None
+    }
+}
+
+/// What is left to be written of a form: a form, or bytes.
+#[derive(Clone, Copy)]
+enum Left<'a> {
+    Form(&'a Tree),
+    Bytes(&'static str),
+}
+
+/// Puts what a list's text has behind its parenthesis on a stack, the last of it first.
+fn push_list<'a>(texts: &Texts, list: &'a Tree, left: &mut Vec<Left<'a>>) -> Result<(), NoMemory> {
+    left.push(Left::Bytes(")"))?;
+    if word_of(texts, list.tail()) != b"NIL".as_slice() {
+        left.push(Left::Form(list.tail()))?;
+        left.push(Left::Bytes(" . "))?;
+    }
+    for (i, element) in list.elements().iter().enumerate() {
+        left.push(Left::Bytes(if i == 0 { "" } else { " " }))?;
+        left.push(Left::Form(element))?;
+    }
+    Ok(())
+}
+
+/// The text of a form, which reads as the form again: a backquote and a comma stand in front of what they are of.
+pub(crate) fn form_text(alloc: Global, form: &Tree, texts: &Texts) -> Result<Vec<u8>, NoMemory> {
+    let mut bytes = Vec::new(alloc);
+    let mut left = Vec::new(alloc);
+    left.push(Left::Form(form))?;
+    for _ in 0..MOST_PIECES {
+        match left.pop() {
+            None => return Ok(bytes),
+            Some(Left::Bytes(piece)) => bytes.extend_from_slice(piece.as_bytes())?,
+            Some(Left::Form(part)) => {
+                if let Some(mark) = mark_of(texts, part) {
+                    bytes.extend_from_slice(mark.as_bytes())?;
+                    for inner in part.elements().iter().take(1) {
+                        left.push(Left::Form(inner))?;
+                    }
+                } else if part.elements().is_empty() {
+                    print(alloc, part, texts, &mut bytes)?;
+                } else {
+                    bytes.push(b'(')?;
+                    push_list(texts, part, &mut left)?;
+                }
+            }
+        }
+    }
     Ok(bytes)
 }
 

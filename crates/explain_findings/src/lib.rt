@@ -34,7 +34,7 @@ mod values;
 
 pub use asker::Asker;
 pub use findings::put_finding;
-pub use forms::{head_of, word_of};
+pub use forms::{head_of, is_among, word_of};
 pub use reading::{bindings_of_text, is_bound};
 pub use replay::{FormFault, Refused, Replay};
 pub use stopwatch::Stopwatch;

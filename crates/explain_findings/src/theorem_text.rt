@@ -1,6 +1,6 @@
 //! Theorems as texts, with other hypotheses and bindings.
 
-use crate::forms::{element, is_among, option_of, printed, speaks_of, word_of};
+use crate::forms::{element, form_text, is_among, option_of, printed, speaks_of, word_of};
 use crate::reading::bindings_in;
 use crate::reordered::{Bound, bound_in, put_quoted};
 use explain_report::Report;
@@ -47,7 +47,7 @@ pub(crate) fn theorem_of(
             name: printed(alloc, name, texts)?,
             hyp: printed(alloc, hyp, texts)?,
             concl: printed(alloc, concl, texts)?,
-            bindings: printed(alloc, bindings, texts)?,
+            bindings: form_text(alloc, bindings, texts)?,
             bound,
         })),
         _ => Ok(None),
@@ -148,7 +148,7 @@ pub(crate) fn without_clocks(
             let is_clock = is_among(word_of(texts, part), ":HYP-CLK :CONCL-CLK");
             if !is_clock && !is_skipped {
                 text.say(if number == 0 { "(" } else { " " })?;
-                text.text(&printed(alloc, part, texts)?)?;
+                text.text(&form_text(alloc, part, texts)?)?;
             }
             is_skipped = is_clock;
         }

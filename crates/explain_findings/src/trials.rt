@@ -1,6 +1,6 @@
 //! What may decide an event that is left undecided, in the order that costs least.
 
-use crate::forms::printed;
+use crate::forms::form_text;
 use crate::reordered::{mixed, narrow_first, narrowed, narrowed_hypothesis};
 use crate::theorem_text::{Theorem, by_cases, changed, theorem_of, without_clocks};
 use gl_base::limits::Limits;
@@ -41,8 +41,11 @@ impl Ladder {
         Ok(())
     }
 
-    /// Adds the same event after other words of the command.
+    /// Adds the same event after other words of the command, where these change a limit.
     fn push_option(&mut self, words: &str, limits: Limits) -> Result<(), NoMemory> {
+        if limits == self.limits {
+            return Ok(());
+        }
         self.trials.push(Trial {
             change: words.as_bytes().to_vec(self.alloc)?,
             text: self.event.clone()?,
@@ -187,7 +190,7 @@ pub(crate) fn ladder_of(
 ) -> Result<Ladder, NoMemory> {
     let mut ladder = Ladder {
         alloc,
-        event: printed(alloc, form, texts)?,
+        event: form_text(alloc, form, texts)?,
         limits: *limits,
         trials: Vec::new(alloc),
     };

@@ -1,10 +1,12 @@
-//! The conjunct of a hypothesis under which nothing is left.
+//! The conjunct of a hypothesis under which nothing is left: of a theorem, and of each case.
 
 use crate::asker::Asker;
 use crate::decision::Outcome;
 use crate::evaluation::put_front;
-use crate::forms::{conjuncts, element, option_of, printed, word_of};
-use crate::reading::bindings_in;
+use crate::forms::{
+    bindings_form, conjuncts, element, form_text, head_of, operands, option_of, printed, word_of,
+};
+use crate::reading::bindings_of_text;
 use crate::shapes::put_conjunct;
 use explain_report::Report;
 use gl_logic::{NoMemory, Texts, Tree};
@@ -14,55 +16,67 @@ use std::thread::Threads;
 /// How many conjuncts are asked, each beside the one under which nothing is left.
 const MOST_PAIRS: usize = 16;
 
-/// The hypothesis that keeps variables within their shapes and says no more; none where a shape has no conjunct of its own.
+/// Of how many cases it is told.
+const MOST_CASES: usize = 16;
+
+/// The hypothesis that keeps variables within their shapes and says no more; none where the text is of no bindings.
 fn shape_hypothesis(
     alloc: Global,
-    texts: &Texts,
-    bindings: &Tree,
+    texts: &mut Texts,
+    bindings: &[u8],
 ) -> Result<Option<Vec<u8>>, NoMemory> {
-    let Some(all) = bindings_in(alloc, texts, bindings)? else {
+    let Some(all) = bindings_of_text(alloc, texts, bindings)? else {
         return Ok(None);
     };
     let mut hyp = Report::new(alloc);
     hyp.say("(and t")?;
     for i in 0..all.len() {
         hyp.say(" ")?;
-        let name = texts.text(all.variable(i));
-        if !put_conjunct(alloc, texts, &mut hyp, all.shape(i), name)? {
-            return Ok(None);
-        }
+        put_conjunct(
+            alloc,
+            texts,
+            &mut hyp,
+            all.shape(i),
+            texts.text(all.variable(i)),
+        )?;
     }
     hyp.say(")")?;
     Ok(Some(hyp.into_bytes()))
 }
 
-/// What is asked: a theorem's name, its bindings, and the hypothesis of their shapes.
+/// What is asked: a theorem's name, its bindings, the hypothesis of their shapes, and the terms of its own hypothesis.
 #[derive(Drop)]
 struct Question {
     name: Vec<u8>,
     shapes: Vec<u8>,
     bindings: Vec<u8>,
+    terms: Vec<Vec<u8>>,
 }
 
-/// The question of a theorem's form; none where it has none.
-fn question_of(alloc: Global, texts: &Texts, form: &Tree) -> Result<Option<Question>, NoMemory> {
-    let Some(bindings) = option_of(texts, form, b":G-BINDINGS") else {
-        return Ok(None);
-    };
+/// The question of a theorem's form, or of a case of it, whose bindings and terms are these; none where they are no bindings.
+fn question_of(
+    alloc: Global,
+    texts: &mut Texts,
+    form: &Tree,
+    bindings: Vec<u8>,
+    terms: Vec<Vec<u8>>,
+) -> Result<Option<Question>, NoMemory> {
     let Some(name) = element(form, 1) else {
         return Ok(None);
     };
-    let Some(shapes) = shape_hypothesis(alloc, texts, bindings)? else {
-        return Ok(None);
-    };
-    Ok(Some(Question {
-        name: word_of(texts, name).to_vec(alloc)?,
-        shapes,
-        bindings: printed(alloc, bindings, texts)?,
-    }))
+    let name = word_of(texts, name).to_vec(alloc)?;
+    match shape_hypothesis(alloc, texts, &bindings)? {
+        Some(shapes) => Ok(Some(Question {
+            name,
+            shapes,
+            bindings,
+            terms,
+        })),
+        None => Ok(None),
+    }
 }
 
-/// The theorem that no input of the shapes meets these terms, of which so many are skipped.
+/// The theorem that no input of the shapes meets these terms.
 fn theorem_text(
     alloc: Global,
     question: &Question,
@@ -84,32 +98,43 @@ fn theorem_text(
     Ok(text.into_bytes())
 }
 
-/// Whether no input of the shapes meets these terms; none where that is not decided.
-fn is_empty_under<R: Threads + Sync>(
+/// Whether an input of the shapes meets some terms.
+#[derive(Clone, Copy, Debug, PartialEq, Eq)]
+enum Left {
+    Nothing,
+    Something,
+    /// It is undecided, by a cause.
+    Open(&'static str),
+}
+
+/// Whether an input of the shapes meets these terms.
+fn left_under<R: Threads + Sync>(
     asker: &Asker<R>,
     texts: &mut Texts,
     question: &Question,
     terms: &[Vec<u8>],
-) -> Result<Option<bool>, NoMemory> {
+) -> Result<Left, NoMemory> {
     let text = theorem_text(asker.alloc, question, terms)?;
     match asker.decide(texts, &text)?.outcome {
-        Outcome::Proved => Ok(Some(true)),
-        Outcome::Refuted => Ok(Some(false)),
-        _ => Ok(None),
+        Outcome::Proved | Outcome::Vacuous => Ok(Left::Nothing),
+        Outcome::Open(cause) => Ok(Left::Open(cause)),
+        Outcome::Refuted | Outcome::Valued => Ok(Left::Something),
     }
 }
 
-/// The texts of the conjuncts of a hypothesis.
-fn terms_of(alloc: Global, texts: &Texts, hyp: &Tree) -> Result<Vec<Vec<u8>>, NoMemory> {
+/// The texts of the conjuncts of a hypothesis, and none where there is none.
+fn terms_of(alloc: Global, texts: &Texts, form: &Tree) -> Result<Vec<Vec<u8>>, NoMemory> {
     let mut terms = Vec::new(alloc);
-    for part in &conjuncts(alloc, texts, hyp)? {
-        terms.push(printed(alloc, part.tree, texts)?)?;
+    if let Some(hyp) = option_of(texts, form, b":HYP") {
+        for part in &conjuncts(alloc, texts, hyp)? {
+            terms.push(printed(alloc, part.tree, texts)?)?;
+        }
     }
     Ok(terms)
 }
 
 /// The first terms of a list.
-fn front_of(terms: &[Vec<u8>], count: usize) -> &[Vec<u8>] {
+fn first_terms(terms: &[Vec<u8>], count: usize) -> &[Vec<u8>] {
     if count <= terms.len() {
         &terms[..count]
     } else {
@@ -117,29 +142,36 @@ fn front_of(terms: &[Vec<u8>], count: usize) -> &[Vec<u8>] {
     }
 }
 
-/// The number of the first term with which and with those before it nothing is left, by halving; none where that is not
-/// decided.
+/// What is found of a question's terms.
+#[derive(Clone, Copy, Debug, PartialEq, Eq)]
+enum Found {
+    /// The number of the first term with which and with those before it nothing is left, from 0; that of all where something is.
+    First(usize),
+    /// It is undecided, by a cause, whether something is left under the first so many.
+    Open(usize, &'static str),
+}
+
+/// The first term with which and with those before it nothing is left, by halving.
 fn first_empty<R: Threads + Sync>(
     asker: &Asker<R>,
     texts: &mut Texts,
     question: &Question,
-    terms: &[Vec<u8>],
-) -> Result<Option<usize>, NoMemory> {
+) -> Result<Found, NoMemory> {
     let mut low = 0;
-    let mut high = terms.len();
+    let mut high = question.terms.len();
     for _ in 0..64 {
         if high <= low {
             break;
         }
         let middle = low + (high - low) / 2;
-        let front = front_of(terms, middle.saturating_add(1));
-        match is_empty_under(asker, texts, question, front)? {
-            Some(true) => high = middle,
-            Some(false) => low = middle.saturating_add(1),
-            None => return Ok(None),
+        let count = middle.saturating_add(1);
+        match left_under(asker, texts, question, first_terms(&question.terms, count))? {
+            Left::Nothing => high = middle,
+            Left::Something => low = count,
+            Left::Open(cause) => return Ok(Found::Open(count, cause)),
         }
     }
-    Ok(Some(low))
+    Ok(Found::First(low))
 }
 
 /// Puts the earlier terms each of which excludes a term by itself.
@@ -148,17 +180,16 @@ fn put_excluded<R: Threads + Sync>(
     texts: &mut Texts,
     report: &mut Report,
     question: &Question,
-    terms: &[Vec<u8>],
     number: usize,
 ) -> Result<(), NoMemory> {
-    let Some(last) = terms.get(number) else {
+    let Some(last) = question.terms.get(number) else {
         return Ok(());
     };
-    for term in front_of(terms, number.min(MOST_PAIRS)) {
+    for term in first_terms(&question.terms, number.min(MOST_PAIRS)) {
         let mut pair = Vec::new(asker.alloc);
         pair.push(term.clone()?)?;
         pair.push(last.clone()?)?;
-        if is_empty_under(asker, texts, question, &pair)? == Some(true) {
+        if left_under(asker, texts, question, &pair)? == Left::Nothing {
             report.say("   by itself it excludes:\n     ")?;
             put_front(report, term.as_slice())?;
             report.say("\n")?;
@@ -167,32 +198,176 @@ fn put_excluded<R: Threads + Sync>(
     Ok(())
 }
 
-/// Puts the first conjunct of a theorem's hypothesis under which nothing is left.
+/// Puts under how many conjuncts it is undecided whether something is left.
+fn put_open(report: &mut Report, count: usize, cause: &str) -> Result<(), NoMemory> {
+    report.say("whether something of the shapes meets the first ")?;
+    report.number(count as u64)?;
+    report.say(" conjuncts is undecided, ")?;
+    report.say(cause)?;
+    report.say("\n")
+}
+
+/// Puts a term on a line of its own.
+fn put_term(report: &mut Report, term: &[u8]) -> Result<(), NoMemory> {
+    report.say("     ")?;
+    put_front(report, term)?;
+    report.say("\n")
+}
+
+/// Puts what is found of the terms of a theorem's question.
+fn put_found<R: Threads + Sync>(
+    asker: &Asker<R>,
+    texts: &mut Texts,
+    report: &mut Report,
+    question: &Question,
+    found: Found,
+) -> Result<(), NoMemory> {
+    match found {
+        Found::Open(count, cause) => {
+            report.say("   ")?;
+            put_open(report, count, cause)
+        }
+        Found::First(number) => {
+            let Some(term) = question.terms.get(number) else {
+                return Ok(());
+            };
+            report.say(if number == 0 {
+                "   nothing of the shapes meets the first conjunct:\n"
+            } else {
+                "   of the shapes something meets the conjuncts in front of this one, and nothing meets it too:\n"
+            })?;
+            put_term(report, term.as_slice())?;
+            put_excluded(asker, texts, report, question, number)
+        }
+    }
+}
+
+/// Puts what is found of the terms of a case's question, the whole theorem's being another.
+fn put_found_of_case(
+    report: &mut Report,
+    question: &Question,
+    found: Found,
+    whole: Found,
+) -> Result<(), NoMemory> {
+    match found {
+        Found::Open(count, cause) => put_open(report, count, cause),
+        Found::First(_) if found == whole => report.say("the same conjunct leaves nothing\n"),
+        Found::First(number) => match question.terms.get(number) {
+            Some(term) => {
+                report.say("it is this one that leaves nothing:\n")?;
+                put_term(report, term.as_slice())
+            }
+            None => report.say("something is left\n"),
+        },
+    }
+}
+
+/// The text of what a case is of: the terms of the parameters where they are its constants.
+fn case_term(
+    alloc: Global,
+    texts: &Texts,
+    constants: &Tree,
+    term: &Tree,
+) -> Result<Vec<u8>, NoMemory> {
+    let mut text = Report::new(alloc);
+    text.say("(LET (")?;
+    for number in 0..constants.elements().len() {
+        if let Some(constant) = element(constants, number) {
+            if let (Some(name), Some(object)) = (element(constant, 0), element(constant, 1)) {
+                text.say("(")?;
+                text.text(word_of(texts, name))?;
+                text.say(" '")?;
+                text.text(&printed(alloc, object, texts)?)?;
+                text.say(")")?;
+            }
+        }
+    }
+    text.say(") ")?;
+    text.text(&printed(alloc, term, texts)?)?;
+    text.say(")")?;
+    Ok(text.into_bytes())
+}
+
+/// The text of a case's bindings, behind the mark of the cases, a quote or a backquote.
+fn case_bindings(
+    alloc: Global,
+    texts: &Texts,
+    mark: &[u8],
+    bindings: &Tree,
+) -> Result<Vec<u8>, NoMemory> {
+    let mut text = Report::new(alloc);
+    text.say(if mark == b"`".as_slice() { "`" } else { "'" })?;
+    text.text(&form_text(alloc, bindings, texts)?)?;
+    Ok(text.into_bytes())
+}
+
+/// The question of a case, whose cases stand behind a mark.
+fn question_of_case(
+    alloc: Global,
+    texts: &mut Texts,
+    form: &Tree,
+    mark: &[u8],
+    case: &Tree,
+) -> Result<Option<Question>, NoMemory> {
+    let (Some(constants), Some(bindings), Some(term)) = (
+        element(case, 0),
+        element(case, 1),
+        option_of(texts, form, b":PARAM-HYP"),
+    ) else {
+        return Ok(None);
+    };
+    let mut terms = terms_of(alloc, texts, form)?;
+    terms.push(case_term(alloc, texts, constants, term)?)?;
+    let bindings = case_bindings(alloc, texts, mark, bindings)?;
+    question_of(alloc, texts, form, bindings, terms)
+}
+
+/// Puts of each case under which conjunct nothing is left of its own shapes.
+fn put_cases<R: Threads + Sync>(
+    asker: &Asker<R>,
+    texts: &mut Texts,
+    report: &mut Report,
+    form: &Tree,
+    cases: &Tree,
+    whole: Found,
+) -> Result<(), NoMemory> {
+    let mark = head_of(texts, cases).to_vec(asker.alloc)?;
+    let Some(list) = operands(cases).first() else {
+        return Ok(());
+    };
+    for number in 0..list.elements().len().min(MOST_CASES) {
+        if let Some(case) = element(list, number) {
+            if let Some(question) = question_of_case(asker.alloc, texts, form, &mark, case)? {
+                report.say("   of the shapes of case ")?;
+                report.number(number.saturating_add(1) as u64)?;
+                report.say(": ")?;
+                let found = first_empty(asker, texts, &question)?;
+                put_found_of_case(report, &question, found, whole)?;
+            }
+        }
+    }
+    Ok(())
+}
+
+/// Puts the first conjunct of a theorem's hypothesis under which nothing is left, and of a theorem by cases that of each case.
 pub(crate) fn put_vacuity<R: Threads + Sync>(
     asker: &Asker<R>,
     texts: &mut Texts,
     report: &mut Report,
     form: &Tree,
 ) -> Result<(), NoMemory> {
-    let Some(hyp) = option_of(texts, form, b":HYP") else {
+    let Some(bindings) = bindings_form(texts, form) else {
         return Ok(());
     };
-    let terms = terms_of(asker.alloc, texts, hyp)?;
-    let Some(question) = question_of(asker.alloc, texts, form)? else {
+    let terms = terms_of(asker.alloc, texts, form)?;
+    let bindings = form_text(asker.alloc, bindings, texts)?;
+    let Some(question) = question_of(asker.alloc, texts, form, bindings, terms)? else {
         return Ok(());
     };
-    let Some(number) = first_empty(asker, texts, &question, &terms)? else {
-        return Ok(());
-    };
-    let Some(term) = terms.get(number) else {
-        return Ok(());
-    };
-    report.say(if number == 0 {
-        "   nothing of the shapes meets the first conjunct:\n     "
-    } else {
-        "   of the shapes something meets the conjuncts in front of this one, and nothing meets it too:\n     "
-    })?;
-    put_front(report, term.as_slice())?;
-    report.say("\n")?;
-    put_excluded(asker, texts, report, &question, &terms, number)
+    let whole = first_empty(asker, texts, &question)?;
+    put_found(asker, texts, report, &question, whole)?;
+    match option_of(texts, form, b":PARAM-BINDINGS") {
+        Some(cases) => put_cases(asker, texts, report, form, cases, whole),
+        None => Ok(()),
+    }
 }

@@ -13,6 +13,7 @@ pub(crate) enum Value {
     Unknown,
 }
 
+/// The word of a cause, and what it means.
 fn words_of(cause: Cause) -> &'static str {
     match cause {
         Cause::Width => "width: some integer on the way is outside 128 bits",
@@ -20,6 +21,14 @@ fn words_of(cause: Cause) -> &'static str {
         Cause::Cells => "cells: its evaluation makes more objects than `--cells` says",
         Cause::Size => "size: it is too large to print",
         Cause::Memory => "memory: the system refused it",
+    }
+}
+
+/// The word of a cause.
+pub(crate) fn word_of(cause: Cause) -> &'static str {
+    match words_of(cause).split_once(": ") {
+        Some((word, _)) => word,
+        None => "",
     }
 }
 
