@@ -8,7 +8,7 @@ use Rattle.gl_book.proofs.Ends.{list_reported, list_written, of_list, of_no_memo
 use Rattle.gl_book.proofs.run.run_book.Goals as goal
 
 pub walk-requires-clause-empty : goal.walk-requires-clause-empty
-walk-requires-clause-empty g c = still_empty c.new-2.new.texts c.load.new.texts c.load.ensures.texts c.in-Ok-new.ensures.empty
+walk-requires-clause-empty g c κs h = still_empty c.new-2.new.texts c.load.new.texts c.load.ensures.texts c.in-Ok-new.ensures.empty
 
 pub status_of_run-requires : goal.status_of_run-requires
 status_of_run-requires g c =
