@@ -201,8 +201,8 @@ pub of_list : (bounds : Bounds) (opened table : List (List ℕ)) (holds : List �
     → IsFlat opened table holds name items end → EndsWithList bounds table items end old new before after s → WritesBook bounds holds name old new before after s
 of_list bounds opened table holds name items end old new before after s is flat w =
     let opens : (names : List (List ℕ)) → Extends table names → length (flat.shelf name) ≤ most_bytes → IsTableOf (flat.shelf name) opening_names names = λ names grown few.
-        let t = subst (λ first. IsTableOf (flat.shelf name) first table) is (flat.begins few) in
-        record { front = t.front; gathers = t.gathers; numbers = t.numbers; extends = extends_then t.front table names t.extends grown } in
+    let t = subst (λ first. IsTableOf (flat.shelf name) first table) is (flat.begins few) in
+    record { front = t.front; gathers = t.gathers; numbers = t.numbers; extends = extends_then t.front table names t.extends grown } in
     record {
       shelf = flat.shelf;
       told = flat.told;

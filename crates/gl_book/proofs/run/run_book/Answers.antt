@@ -28,7 +28,7 @@ returns-clause-written g c = λ _.
     let empty = still_empty c.new-2.new.texts names c.load.ensures.texts c.in-Ok-new.ensures.empty in
     let begins = later_first c.new-2.new.texts names state c.is_table.ensures c.load.ensures.texts c.in-Ok-new.ensures.first in
     let written = subst (EndsWithList bounds names book.items book.finish _ _ _ _) (sym c.status_of_run.ensures.status)
-        (list_written bounds names names book state (extends_same names) c.is_table.ensures empty c.in-Ok-load.ensures.numbered begins _ _ _ _ c.walk.result c.walk.ensures.ok c.walk.ensures.front) in
+    (list_written bounds names names book state (extends_same names) c.is_table.ensures empty c.in-Ok-load.ensures.numbered begins _ _ _ _ c.walk.result c.walk.ensures.ok c.walk.ensures.front) in
     of_list bounds c.new-2.new.texts names (g.S.Shelf.holds c.args.shelf.now) c.args.name.now book.items book.finish _ _ _ _ c.status_of_run.result (is_opening c.in-Ok.texts c.new-2.new.texts c.in-Ok.ensures c.in-Ok-new.ensures.names) c.in-Ok-load.ensures.flat written
 
 pub returns-in_default-clause-written : goal.returns-in_default-clause-written
