@@ -8,7 +8,7 @@ use std::alloc::Global;
 const MOST_PARTS: usize = 4000;
 
 /// How many pieces of a form are written: more than a book has.
-const MOST_PIECES: usize = 100_000_000;
+const MOST_PIECES: usize = 20_000_000;
 
 /// The word that an object is; empty where it is no symbol.
 pub fn word_of<'a>(texts: &'a Texts, tree: &Tree) -> &'a [u8] {
@@ -115,6 +115,30 @@ fn push_list<'a>(texts: &Texts, list: &'a Tree, left: &mut Vec<Left<'a>>) -> Res
     Ok(())
 }
 
+/// Writes what the text of a form begins with, and puts what is left of it on the stack.
+fn put_front<'a>(
+    alloc: Global,
+    texts: &Texts,
+    form: &'a Tree,
+    bytes: &mut Vec<u8>,
+    left: &mut Vec<Left<'a>>,
+) -> Result<(), NoMemory> {
+    match mark_of(texts, form) {
+        Some(mark) => {
+            bytes.extend_from_slice(mark.as_bytes())?;
+            for inner in form.elements().iter().take(1) {
+                left.push(Left::Form(inner))?;
+            }
+        }
+        None if form.elements().is_empty() => print(alloc, form, texts, bytes)?,
+        None => {
+            bytes.push(b'(')?;
+            push_list(texts, form, left)?;
+        }
+    }
+    Ok(())
+}
+
 /// The text of a form, which reads as the form again: a backquote and a comma stand in front of what they are of.
 pub(crate) fn form_text(alloc: Global, form: &Tree, texts: &Texts) -> Result<Vec<u8>, NoMemory> {
     let mut bytes = Vec::new(alloc);
@@ -124,19 +148,7 @@ pub(crate) fn form_text(alloc: Global, form: &Tree, texts: &Texts) -> Result<Vec
         match left.pop() {
             None => return Ok(bytes),
             Some(Left::Bytes(piece)) => bytes.extend_from_slice(piece.as_bytes())?,
-            Some(Left::Form(part)) => {
-                if let Some(mark) = mark_of(texts, part) {
-                    bytes.extend_from_slice(mark.as_bytes())?;
-                    for inner in part.elements().iter().take(1) {
-                        left.push(Left::Form(inner))?;
-                    }
-                } else if part.elements().is_empty() {
-                    print(alloc, part, texts, &mut bytes)?;
-                } else {
-                    bytes.push(b'(')?;
-                    push_list(texts, part, &mut left)?;
-                }
-            }
+            Some(Left::Form(part)) => put_front(alloc, texts, part, &mut bytes, &mut left)?,
         }
     }
     Ok(bytes)
