@@ -109,10 +109,7 @@ impl HonsArena {
                 }
                 self.slots[slot] = number;
                 self.fingerprints[slot] = fingerprint_of(hash);
-                match self.cells.push(cell) {
-                    Ok(()) => {}
-                    Err(_) => unreachable!(),
-                }
+                self.cells.push_reserved(cell);
                 make_room(
                     self.cells.as_slice(),
                     &mut self.slots,

@@ -32,10 +32,7 @@ pub(crate) fn chain(nodes: &[Node], next: &mut Vec<u32>, heads: &mut Vec<u32>, c
     next.clear();
     for number in 0..nodes.len() {
         let bucket = nodes[number].bucket(count);
-        match next.push(heads[bucket]) {
-            Ok(()) => {}
-            Err(_) => unreachable!(),
-        }
+        next.push_reserved(heads[bucket]);
         heads[bucket] = number as u32 + 1;
     }
 }

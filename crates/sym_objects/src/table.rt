@@ -131,18 +131,9 @@ impl Table {
         let number = self.nodes.len() as u32;
         let bucket = node.bucket(self.heads.len());
         let head = self.heads[bucket];
-        match self.nodes.push(node) {
-            Ok(()) => {}
-            Err(_) => unreachable!(),
-        }
-        match self.marks.push(mark) {
-            Ok(()) => {}
-            Err(_) => unreachable!(),
-        }
-        match self.next.push(head) {
-            Ok(()) => {}
-            Err(_) => unreachable!(),
-        }
+        self.nodes.push_reserved(node);
+        self.marks.push_reserved(mark);
+        self.next.push_reserved(head);
         self.heads[bucket] = number + 1;
         number
     }

@@ -10,6 +10,6 @@ invariant_of-self c =
     let same = c.self.view_is ∙ c.grow_where_full.ensures in
     let absent : (k : ℕ) → k < length i.nodes.items → numbered i.nodes.items k ≢ c.args.node = subst (λ (ns : List Node). (k : ℕ) → k < length ns → numbered ns k ≢ c.args.node) (sym (ap (λ (m : Marked). m.nodes) same)) c.requires.absent in
     table-pushed i.nodes.items _ i.marks.items _ i.next.items _ i.heads.items _ _ _ _ _ _ _ c.len-number.result c.len.result c.bucket-bucket.result _ c.args.node c.args.mark c.self.invariant
-    c.in-Ok.ensures.items c.in-Ok-push.ensures.items c.in-Ok-push-2.ensures.items (omega arith) (omega arith) c.bucket-bucket.ensures.bucket c.bucket-bucket.ensures.within c.index-head.ensures
+    c.push_reserved.ensures.items c.push_reserved-2.ensures.items c.push_reserved-3.ensures.items (omega arith) (omega arith) c.bucket-bucket.ensures.bucket c.bucket-bucket.ensures.within c.index-head.ensures
     (omega (arith, c.requires.room, ap (λ (m : Marked). length m.nodes) same, ap (λ (m : Marked). m.limit) same)) absent
-    (omega (arith, c.push.ensures.capacity)) (omega (arith, c.push-2.ensures.capacity)) (omega (arith, c.push-3.ensures.capacity))
+    (omega (arith, c.push_reserved.ensures.capacity)) (omega (arith, c.push_reserved-2.ensures.capacity)) (omega (arith, c.push_reserved-3.ensures.capacity))
