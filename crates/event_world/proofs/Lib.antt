@@ -7,6 +7,7 @@ pub mod PreludeRows
 pub mod PreludeSteps
 pub mod PreludeParts
 pub mod PreludeWorlds
+pub mod CasesClaimed
 pub mod Cursors
 pub mod EmptyCalls
 pub mod Forms

@@ -9,6 +9,7 @@ use Rattle.gl_logic.specs.Wording.{spells, elements, all_meant}
 use Rattle.shape_spec.specs.BindingsMeant.{bindings_meant, is_backquote}
 use Rattle.gl_logic.specs.NameSets.{are_different}
 use Rattle.shape_spec.specs.declared.theorem.Mode.{Mode}
+use Rattle.shape_spec.specs.ShapeSeen.{ShapeSeen}
 use Rattle.shape_spec.specs.TheoremSeen.{TheoremSeen, plain_theorem}
 use Rattle.gl_cases.specs.Parts.{CaseSeen, ParamSeen, parts_made}
 use Rattle.gl_cases.specs.ParamMade.{param_set}
@@ -143,12 +144,20 @@ abbrev pub param_bound : ParamSeen → Outcome ParamSeen
 param_bound thm = holds_or code.BadBindings (are_bound thm) (Ok thm)
 
 -- ---- checks 7 and 8, with the settings that a command has where it says nothing
+-- a theorem of these parts, where each binds its variables
+abbrev pub claim_of : ℕ → Exp → Exp → Exp → List (ℕ × ShapeSeen) → List CaseSeen → Outcome ParamSeen
+claim_of n h c t b cs = param_bound (parts_made (plain_theorem n h c) t b cs)
+
 -- a theorem with these terms, where its bindings and those of its cases are some
 abbrev pub parts_claimed : List (List ℕ) → CasesParts → QuotedCases → Exp → Exp → Exp → Outcome ParamSeen
 parts_claimed names p q h c t =
     found_or code.BadBindings (bindings_meant names p.cover) (λ b.
     found_or code.BadBindings (all_meant (case_bound names q.mark) q.cases) (λ cs.
-    param_bound (parts_made (plain_theorem p.name h c) t b cs)))
+    claim_of p.name h c t b cs))
+
+-- the bindings of the cover, and the cases with theirs, where all are some
+abbrev pub parts_bound : List (List ℕ) → CasesParts → QuotedCases → Option (List (ℕ × ShapeSeen) × List CaseSeen)
+parts_bound names p q = option_and_then (λ b. option_map (λ cs. (b, cs)) (all_meant (case_bound names q.mark) q.cases)) (bindings_meant names p.cover)
 
 abbrev pub cases_claimed : List (List ℕ) → WorldSeen → CasesParts → QuotedCases → Outcome ParamSeen
 cases_claimed names w p q =

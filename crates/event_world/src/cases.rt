@@ -13,7 +13,7 @@ ghost use Rattle.gl_cases.specs.ParamMade.{param_seen, param_set};
 ghost use Rattle.event_world.specs.Outcomes.{Gives};
 ghost use Rattle.event_world.specs.Seen.{event_seen};
 ghost use Rattle.event_world.specs.FormsSeen.{cases_form_seen, case_form_seen, quoted_form_seen};
-ghost use Rattle.event_world.specs.CasesMeant.{case_bound as bound_case, binds_its_own as own_bound, are_bound as bound_are, parts_claimed, cases_claimed, param_meant};
+ghost use Rattle.event_world.specs.CasesMeant.{case_bound as bound_case, binds_its_own as own_bound, are_bound as bound_are, claim_of, parts_bound, parts_claimed, cases_claimed, param_meant};
 
 use super::bound::binds;
 use super::cases_form::{CaseForm, CasesForm, QuotedForm, cases_form, quoted_cases};
@@ -26,7 +26,7 @@ use super::theorem::hypothesis;
 use super::theorem_form::clocks;
 use super::translated::claim_term;
 use gl_cases::{Case, CaseList, ParamThm, copied_functions, param_of};
-use gl_logic::{NoMemory, Term, Texts, Tree, World};
+use gl_logic::{NoMemory, Term, TextId, Texts, Tree, World};
 use shape_spec::{BindFault, Bindings, FnSet, Mode, Thm, bindings};
 use std::alloc::Global;
 
@@ -109,7 +109,46 @@ fn are_bound(alloc: Global, thm: &ParamThm) -> Result<bool, NoMemory>
     Ok(true)
 }
 
+/// The bindings of the cover, and the cases with theirs, where all of them are some.
+fn bound_parts(
+    alloc: Global,
+    texts: &Texts,
+    form: &CasesForm<'_>,
+    quoted: QuotedForm<'_>,
+) -> Result<Option<(Bindings, CaseList)>, NoMemory>
+    ensures { IfOk result (λ o. o ≡ parts_bound texts.now (cases_form_seen form.now) (quoted_form_seen quoted.entry)) }
+{
+    let Some(cover) = bindings_in(alloc, texts, form.cover)? else {
+        return Ok(None);
+    };
+    let Some(cases) = all_bound(alloc, texts, quoted.mark, quoted.cases)? else {
+        return Ok(None);
+    };
+    Ok(Some((cover, cases)))
+}
+
+/// A theorem by cases of these parts, where each part binds its variables.
+fn of_parts(
+    alloc: Global,
+    name: TextId,
+    hyp: Term,
+    concl: Term,
+    term: Term,
+    cases: CaseList,
+    cover: Bindings,
+) -> Result<ParamThm, EventFault>
+    ensures { Gives param_seen (claim_of name.number (term_of hyp) (term_of concl) (term_of term) cover cases) result }
+{
+    let thm = param_of(alloc, name, hyp, concl, term, cases, cover)?;
+    if are_bound(alloc, &thm)? {
+        Ok(thm)
+    } else {
+        Err(EventFault::BadBindings)
+    }
+}
+
 /// A theorem by cases with these terms, where its bindings and those of its cases are some and bind its variables.
+#[tactic(auto, using(crate::proofs::CasesClaimed::claimed_by_parts))]
 fn with_terms(
     alloc: Global,
     texts: &Texts,
@@ -121,17 +160,9 @@ fn with_terms(
 ) -> Result<ParamThm, EventFault>
     ensures { Gives param_seen (parts_claimed texts.now (cases_form_seen form.now) (quoted_form_seen quoted.entry) (term_of hyp) (term_of concl) (term_of term)) result }
 {
-    let Some(cover) = bindings_in(alloc, texts, form.cover)? else {
-        return Err(EventFault::BadBindings);
-    };
-    let Some(cases) = all_bound(alloc, texts, quoted.mark, quoted.cases)? else {
-        return Err(EventFault::BadBindings);
-    };
-    let thm = param_of(alloc, form.name, hyp, concl, term, cases, cover)?;
-    if are_bound(alloc, &thm)? {
-        Ok(thm)
-    } else {
-        Err(EventFault::BadBindings)
+    match bound_parts(alloc, texts, form, quoted)? {
+        Some((cover, cases)) => of_parts(alloc, form.name, hyp, concl, term, cases, cover),
+        None => Err(EventFault::BadBindings),
     }
 }
 
