@@ -1,5 +1,5 @@
 -- What attempts at parts of a term tell of the term.
-use Rattle.std.proofs.Common.{◌≡◌, ◌∙◌, ap, sym, refl, subst, ℕ, zero, suc, ◌+◌, ◌-◌, arith, Bool, true, cond, List, [], ◌∷◌, get_or, slice_get, Some, Result, Ok, Err, IsErr, ◌⊎◌, inl, inr}
+use Rattle.std.proofs.Common.{◌≡◌, ◌∙◌, ap, sym, refl, subst, ℕ, zero, suc, ◌+◌, ◌-◌, ◌<◌, arith, Bool, true, cond, List, [], ◌∷◌, get_or, slice_get, Some, Result, Ok, Err, IsErr, ◌⊎◌, inl, inr}
 use Rattle.std.specs.Prelude.{IfOk, IsErrOf}
 use Rattle.gl_logic.specs.Counts.{is_among}
 use Rattle.gl_logic.specs.Definition.{Definition}
@@ -11,9 +11,9 @@ use Rattle.gl_logic.specs.ObjectEq.{is_nil}
 use Rattle.gl_logic.specs.PrimValue.{prim_of}
 use Rattle.gl_logic.specs.declared.prim.Primitive.{Primitive}
 use Rattle.fast_alists.specs.Tables.{Agree}
-use Rattle.hons_arena.specs.Held.{Held, AddsCellsOf, IsWhole}
+use Rattle.hons_arena.specs.Held.{Held, IsWhole}
 use Rattle.lisp_eval.specs.Answers.{HasGrown}
-use Rattle.lisp_eval.specs.Attempts.{Alists, Tells, TellsAll, Applies, IsSeenOrNil, SeesThree, unary_term, binary_term, value_found}
+use Rattle.lisp_eval.specs.Attempts.{Alists, Tells, TellsAll, Applies, IsHere, IsSeenOrNil, SeesAnswer, TablesTell, given_answer, unary_term, binary_term, value_found}
 use Rattle.lisp_eval.specs.CallValue.{IsCallValue}
 use Rattle.lisp_eval.specs.Directs.{GivesAtOnce, IsFound, AreGiven, OpensAtOnce}
 use Rattle.lisp_eval.specs.Narrow.{IsNarrow}
@@ -29,7 +29,7 @@ use Rattle.lisp_eval.specs.declared.value.Value.{Value}
 use Rattle.lisp_eval.proofs.DirectFound.{value_narrow, found_const, found_if, one_given, two_given, three_given, found_prim, found_call}
 use Rattle.lisp_eval.proofs.Directly.{shut_gives, shut_seen}
 use Rattle.lisp_eval.proofs.Entering.{value_grown}
-use Rattle.lisp_eval.proofs.Sights.{Covers, SeesWithin, const_seen, adds_cells, adds_on, adds_by, lacks_by, lacks_cell, if_sees_test, if_sees_branch, prim_sees_parts, prim_value_seen, call_sees_parts, call_sees_body, first_seen, rest_seen, arguments_seen, in_behind}
+use Rattle.lisp_eval.proofs.Sights.{Covers, SeesWithin, const_seen, adds_none, adds_cells, adds_on, adds_by, lacks_by, lacks_cell, if_sees_test, if_sees_branch, prim_sees_parts, prim_value_seen, call_sees_parts, call_sees_body, first_seen, rest_seen, arguments_seen, in_behind}
 use Rattle.lisp_eval.proofs.TableValues.{tables_are_right}
 
 get_or_in : (xs : List Object) (k : ℕ) → IsIn xs (get_or xs k nil) ⊎ (get_or xs k nil ≡ nil)
@@ -76,6 +76,13 @@ module _ (ds : List Definition) (functions : List ℕ) where
     tells_refused : (t : Exp) (left : ℕ) (old new : Held) (tables : Alists) (answer : Result Found Stop) → IsErr answer → Adds (S t) old new → Agree new.objects tables → (IsErrOf answer stop.Full → Lacks (S t) new) → Tell t left old new tables answer
     tells_refused t left old new tables (Ok f) h a agree l = absurd cc
     tells_refused t left old new tables (Err s) h a agree l = record { adds = a; agree = agree; found = tt; lacks = l }
+
+    -- nothing is done
+    pub beyond_tells : (t : Exp) (left : ℕ) (held : Held) (tables : Alists) → IsWhole held → Agree held.objects tables → Tell t left held held tables (Err stop.Beyond)
+    beyond_tells t left held tables whole agree = record { adds = adds_none (S t) held whole; agree = agree; found = tt; lacks = λ e. absurd cc }
+
+    pub beyond_tell_all : (ts : Exps) (left : ℕ) (held : Held) (tables : Alists) → IsWhole held → Agree held.objects tables → TellOf ts left held held tables (Err stop.Beyond)
+    beyond_tell_all ts left held tables whole agree = record { adds = adds_none (All ts) held whole; agree = agree; given = tt; lacks = λ e. absurd cc }
 
     -- a last part, in an environment of its own, whose value is the whole's
     tells_on : (t : Exp) (inner : List (ℕ × Object)) (u : Exp) (left rest : ℕ) (old mid new : Held) (tables : Alists) (answer : Result Found Stop) → Adds (S t) old mid → Covers (S t) (Sees ds functions inner u) → Tells ds functions inner u rest mid new tables answer
@@ -280,8 +287,8 @@ module _ (ds : List Definition) (functions : List ℕ) where
 
     -- ---- a call that tables answer
     module _ (ground : AreGround ds) (f : ℕ) (ts : Exps) (left : ℕ) (old mid : Held) (g : Given) (table : is_among (answered_in ds) f ≡ true) (adds : Adds (All ts) old mid) (given : AreGiven ds functions mid.objects env ts left g) where
-      abbrev pub the_answer : Object
-      the_answer = table_value f (value_object mid.objects g.first) (value_object mid.objects g.second) (value_object mid.objects g.third)
+      abbrev the_answer : Object
+      the_answer = given_answer mid.objects f g
 
       is_call_value : IsCallValue ds f given.values the_answer
       is_call_value = subst (IsCallValue ds f given.values) (λ i. table_value f (given.first i) (given.second i) (given.third i)) (tables_are_right ds ground f table given.values)
@@ -299,29 +306,23 @@ module _ (ds : List Definition) (functions : List ℕ) where
         | inr e ↦ inr e
       ]
 
-      covers_three : Covers (S (Call f ts)) (SeesThree mid.objects g)
-      covers_three seen s = (seen, ((subst (IsSeenOrNil seen) given.first (seen_or_nil seen s 0), (subst (IsSeenOrNil seen) given.second (seen_or_nil seen s 1), subst (IsSeenOrNil seen) given.third (seen_or_nil seen s 2))), λ x h. h))
+      covers_answer : Covers (S (Call f ts)) (SeesAnswer mid.objects f g)
+      covers_answer seen s = (seen, (((subst (IsSeenOrNil seen) given.first (seen_or_nil seen s 0), (subst (IsSeenOrNil seen) given.second (seen_or_nil seen s 1), subst (IsSeenOrNil seen) given.third (seen_or_nil seen s 2))), answer_seen seen s), λ x h. h))
 
-      module _ (late : Held) (entered : Adds (SeesThree mid.objects g) mid late) where
-        entered_adds : Adds (S (Call f ts)) old late
-        entered_adds = adds_on (S (Call f ts)) old mid late (adds_by (S (Call f ts)) (All ts) old mid (covers_arguments (Call f ts) f ts refl) adds) (adds_by (S (Call f ts)) (SeesThree mid.objects g) mid late covers_three entered)
+      pub answered_tells : (new : Held) (tables : Alists) (answer : Result Found Stop) → TablesTell f g mid new tables answer → Tell (Call f ts) (left + 1) old new tables answer
+      answered_tells new tables answer h = record {
+        adds = adds_on (S (Call f ts)) old mid new (adds_by (S (Call f ts)) (All ts) old mid (covers_arguments (Call f ts) f ts refl) adds) (adds_by (S (Call f ts)) (SeesAnswer mid.objects f g) mid new covers_answer h.adds);
+        agree = h.agree;
+        found = ok_map (λ x. IsHere new.objects the_answer x.value × (x.left ≡ g.left)) (IsFound ds functions new.objects env (Call f ts) (left + 1)) answer found h.found;
+        lacks = λ e. absurd (h.cells e);
+      } where
+        gives : (v : Value) → IsHere new.objects the_answer v → GivesAtOnce ds functions env (Call f ts) (value_object new.objects v) (left + 1 - g.left)
+        gives v is = subst (λ (z : Object). GivesAtOnce ds functions env (Call f ts) z (left + 1 - g.left)) (sym is.1) (subst (GivesAtOnce ds functions env (Call f ts) the_answer) (omega (arith, given.fewer))
+            (shut_gives ds functions env f ts given.values the_answer (left - g.left) table given.give is_call_value (subst IsNarrow is.1 (value_narrow new h.adds.whole v is.0))))
 
-        pub entering_refused : (tables : Alists) → Agree late.objects tables → Tell (Call f ts) (left + 1) old late tables (Err stop.Beyond)
-        entering_refused tables agree = record { adds = entered_adds; agree = agree; found = tt; lacks = λ e. absurd cc }
+        found : (x : Found) → IsHere new.objects the_answer x.value × (x.left ≡ g.left) → IsFound ds functions new.objects env (Call f ts) (left + 1) x
+        found x is = record { live = is.0.0; fewer = omega (arith, given.fewer, is.1); gives = subst (λ (n : ℕ). GivesAtOnce ds functions env (Call f ts) (value_object new.objects x.value) (left + 1 - n)) (sym is.1) (gives x.value is.0) }
 
-        module _ (new : Held) (made : AddsCellsOf the_answer late.objects new.objects) (limit : new.limit ≡ late.limit) (whole : IsWhole new) (tables : Alists) (agree : Agree new.objects tables) where
-          answered_adds : Adds (S (Call f ts)) old new
-          answered_adds = adds_on (S (Call f ts)) old late new entered_adds (adds_cells (S (Call f ts)) the_answer late new answer_seen made limit whole)
-
-          pub answering_refused : (s : Stop) → (s ≡ stop.Full → ⊥) → Tell (Call f ts) (left + 1) old new tables (Err s)
-          answering_refused s h = record { adds = answered_adds; agree = agree; found = tt; lacks = λ e. absurd (h (err_is s e)) } where
-            err_is : (s : Stop) → IsErrOf {T = Found} (Err s) stop.Full → s ≡ stop.Full
-            err_is s e = cc
-
-          pub answered_tells : (v : Value) → IsLiveValue new.objects v → value_object new.objects v ≡ the_answer → Tell (Call f ts) (left + 1) old new tables (Ok (record { value = v; left = g.left }))
-          answered_tells v live is = tells_found (Call f ts) (left + 1) old new tables (record { value = v; left = g.left }) answered_adds agree (record {
-            live = live;
-            fewer = omega (arith, given.fewer);
-            gives = subst (λ (z : Object). GivesAtOnce ds functions env (Call f ts) z (left + 1 - g.left)) (sym is) (subst (GivesAtOnce ds functions env (Call f ts) the_answer) (omega (arith, given.fewer))
-                (shut_gives ds functions env f ts given.values the_answer (left - g.left) table given.give is_call_value (subst IsNarrow is (value_narrow new whole v live))));
-          })
+    -- behind the visit of the call itself
+    pub call_same : (t : Exp) (f : ℕ) (ts : Exps) (left : ℕ) (old new : Held) (tables : Alists) (answer : Result Found Stop) → t ≡ Call f ts → 0 < left → Tell (Call f ts) (left - 1 + 1) old new tables answer → Tell t left old new tables answer
+    call_same t f ts left old new tables answer e some h = subst (λ (u : Exp). Tell u left old new tables answer) (sym e) (subst (λ (n : ℕ). Tell (Call f ts) n old new tables answer) (omega (arith, some)) h)

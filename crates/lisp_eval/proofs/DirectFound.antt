@@ -27,13 +27,13 @@ value_narrow held whole (value.Cell n) live = whole_narrow held whole (id.Cell n
 value_narrow held whole (value.Symbol t) live = tt
 value_narrow held whole (value.Text t) live = tt
 
-one_bound : (names : List ℕ) (xs : List Object) (n : ℕ) → length names ≡ 1 → slice_get names 0 ≡ Some n → extended names xs [] ≡ (n, get_or xs 0 nil) ∷ []
+pub one_bound : (names : List ℕ) (xs : List Object) (n : ℕ) → length names ≡ 1 → slice_get names 0 ≡ Some n → extended names xs [] ≡ (n, get_or xs 0 nil) ∷ []
 one_bound [] xs n c e = absurd (omega (arith, c))
 one_bound (m ∷ []) [] n c e = ap (λ k. (k, nil) ∷ []) (some_same m n e)
 one_bound (m ∷ []) (x ∷ xs) n c e = ap (λ k. (k, x) ∷ []) (some_same m n e)
 one_bound (m ∷ k ∷ names) xs n c e = absurd (omega (arith, c))
 
-two_bound : (names : List ℕ) (xs : List Object) (n k : ℕ) → length names ≡ 2 → slice_get names 0 ≡ Some n → slice_get names 1 ≡ Some k → extended names xs [] ≡ (n, get_or xs 0 nil) ∷ (k, get_or xs 1 nil) ∷ []
+pub two_bound : (names : List ℕ) (xs : List Object) (n k : ℕ) → length names ≡ 2 → slice_get names 0 ≡ Some n → slice_get names 1 ≡ Some k → extended names xs [] ≡ (n, get_or xs 0 nil) ∷ (k, get_or xs 1 nil) ∷ []
 two_bound [] xs n k c e f = absurd (omega (arith, c))
 two_bound (m ∷ []) xs n k c e f = absurd (omega (arith, c))
 two_bound (m ∷ l ∷ []) [] n k c e f = λ i. (some_same m n e i, nil) ∷ (some_same l k f i, nil) ∷ []
@@ -142,10 +142,6 @@ module _ (ds : List Definition) (functions : List ℕ) (held : Held) (whole : Is
 
   pub one_local : (names : List ℕ) (n : ℕ) (g : Given) (ts : Exps) (left : ℕ) (a : AreGiven ds functions objects env ts left g) → length names ≡ 1 → slice_get names 0 ≡ Some n → (n, value_object objects g.first) ∷ [] ≡ extended names a.values []
   one_local names n g ts left a c e = ap (λ x. (n, x) ∷ []) (sym a.first) ∙ sym (one_bound names a.values n c e)
-
-  pub two_locals : (names : List ℕ) (n k : ℕ) (g : Given) (ts : Exps) (left : ℕ) (a : AreGiven ds functions objects env ts left g) → length names ≡ 2 → slice_get names 0 ≡ Some n → slice_get names 1 ≡ Some k
-      → (n, value_object objects g.first) ∷ (k, value_object objects g.second) ∷ [] ≡ extended names a.values []
-  two_locals names n k g ts left a c e f = (λ i. (n, sym a.first i) ∷ (k, sym a.second i) ∷ []) ∙ sym (two_bound names a.values n k c e f)
 
 -- ---- lists of one term and of two
 pub first_term : (ts : List Term) (x : Term) → slice_get ts 0 ≡ Some x → (us : Exps) × (terms_of ts ≡ More (term_of x) us)

@@ -1,6 +1,7 @@
 -- Values that enter an arena, and arenas that have grown.
 use Rattle.std.proofs.Common.{◌≡◌, ◌∙◌, sym, refl, subst, ℕ, List, [], ◌∷◌, ◌++◌, length, length-append, arith, inl, inr, Result, Ok, Err, IsErr}
 use Rattle.std.specs.List.{Contains}
+use Rattle.std.specs.Prelude.{IsErrOf}
 use Rattle.fast_alists.proofs.Agreeing.{tables_still}
 use Rattle.fast_alists.specs.Tables.{Agree}
 use Rattle.gl_logic.specs.Every.{Every}
@@ -16,23 +17,26 @@ use Rattle.hons_arena.specs.Held.{Held, AddsCellsOf, Interns, IsWhole, LacksCell
 use Rattle.hons_arena.specs.Ids.{kind_in, number_in, object_at, IsLive, IsNumberBelow}
 use Rattle.hons_arena.specs.Parts.{IsCellOf}
 use Rattle.lisp_eval.specs.Answers.{HasGrown}
-use Rattle.lisp_eval.specs.Attempts.{IsSeenOrNil, SeesThree, EntersThree}
+use Rattle.lisp_eval.specs.Attempts.{Alists, IsSeenOrNil, SeesThree, SeesAnswer, EntersThree, TablesTell, given_answer}
 use Rattle.lisp_eval.specs.Directs.{scope_env, IsLiveScope}
 use Rattle.lisp_eval.specs.Outside.{value_object, IsLiveValue, locals_of}
 use Rattle.lisp_eval.specs.Sights.{Adds}
 use Rattle.lisp_eval.specs.States.{env_of}
 use Rattle.lisp_eval.specs.Within.{IsWithin}
+use Rattle.lisp_eval.specs.declared.attempt.Found.{Found}
 use Rattle.lisp_eval.specs.declared.attempt.Given.{Given}
 use Rattle.lisp_eval.specs.declared.attempt.Ids.{Ids}
 use Rattle.lisp_eval.specs.declared.attempt.Scope.{Scope}
 use Rattle.lisp_eval.specs.declared.attempt.Scope.TheVariants as scope
+use Rattle.lisp_eval.specs.declared.attempt.Stop.{Stop}
+use Rattle.lisp_eval.specs.declared.attempt.Stop.TheVariants as stop
 use Rattle.lisp_eval.specs.declared.frame.Binding.{Binding}
 use Rattle.lisp_eval.specs.declared.value.Local.{Local}
 use Rattle.lisp_eval.specs.declared.value.Value.{Value}
 use Rattle.lisp_eval.specs.declared.value.Value.TheVariants as value
 use Rattle.lisp_eval.proofs.Environments.{stays_at}
 use Rattle.lisp_eval.proofs.Grown.{lacks_itself}
-use Rattle.lisp_eval.proofs.Sights.{adds_on}
+use Rattle.lisp_eval.proofs.Sights.{adds_on, adds_by, adds_cells}
 use Rattle.lisp_eval.proofs.Within.{split, all_at}
 
 -- ---- what is live stays so, for the same object
@@ -147,3 +151,19 @@ module _ (g : Given) (old : Held) where
   pub third_adds : (mid new : Held) → Adds sees_three old mid → IsLiveValue old.objects g.third → AddsCellsOf (value_object mid.objects g.third) mid.objects new.objects → new.limit ≡ mid.limit → IsWhole new → Adds sees_three old new
   third_adds mid new b live a l whole = adds_on sees_three old mid new b
       (adds_or_nil sees_three (value_object mid.objects g.third) mid new (λ seen s. subst (IsSeenOrNil seen) (sym (value_grown old.objects mid.objects b.grown g.third live).1) s.1.1) a l whole)
+
+-- ---- what tables answer
+pub entered_answer : (f : ℕ) (g : Given) (old late : Held) → Adds (SeesThree old.objects g) old late → Adds (SeesAnswer old.objects f g) old late
+entered_answer f g old late h = adds_by (SeesAnswer old.objects f g) (SeesThree old.objects g) old late (λ seen s. (seen, (s.0, λ x i. i))) h
+
+module _ (f : ℕ) (g : Given) (old late : Held) (entered : Adds (SeesThree old.objects g) old late) (new : Held) (tables : Alists) (made : AddsCellsOf (given_answer old.objects f g) late.objects new.objects) (limit : new.limit ≡ late.limit) (whole : IsWhole new) (agree : Agree new.objects tables) where
+  answer_adds : Adds (SeesAnswer old.objects f g) old new
+  answer_adds = adds_on (SeesAnswer old.objects f g) old late new (entered_answer f g old late entered) (adds_cells (SeesAnswer old.objects f g) (given_answer old.objects f g) late new (λ seen s. s.1) made limit whole)
+
+  pub tables_refused : (s : Stop) → (s ≡ stop.Full → ⊥) → TablesTell f g old new tables (Err s)
+  tables_refused s other = record { adds = answer_adds; agree = agree; found = tt; cells = λ e. other (is_full s e) } where
+    is_full : (s : Stop) → IsErrOf {T = Found} (Err s) stop.Full → s ≡ stop.Full
+    is_full s e = cc
+
+  pub tables_found : (v : Value) → IsLiveValue new.objects v → value_object new.objects v ≡ given_answer old.objects f g → TablesTell f g old new tables (Ok (record { value = v; left = g.left }))
+  tables_found v live is = record { adds = answer_adds; agree = agree; found = ((live, is), refl); cells = λ e. absurd cc }

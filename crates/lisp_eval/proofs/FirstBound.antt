@@ -6,7 +6,7 @@ use Rattle.gl_logic.specs.Object.{Int}
 use Rattle.gl_logic.specs.TermOf.{term_of, terms_of}
 use Rattle.gl_logic.specs.declared.term.Term.{Term}
 use Rattle.hons_arena.specs.Held.{Held, IsWhole}
-use Rattle.lisp_eval.specs.Aheads.{BindsFound, BindsUpTo}
+use Rattle.lisp_eval.specs.Frameless.{BindsFound, BindsUpTo}
 use Rattle.lisp_eval.specs.Directs.{GivesAtOnce}
 use Rattle.lisp_eval.specs.Integers.{GivesInteger}
 use Rattle.lisp_eval.specs.Narrow.{IsNarrow}
@@ -15,7 +15,7 @@ use Rattle.lisp_eval.specs.Sights.{Sees}
 use Rattle.lisp_eval.specs.declared.value.Local.{Local}
 use Rattle.lisp_eval.specs.declared.value.Value.TheVariants as value
 use Rattle.lisp_eval.proofs.Sights.{adds_none}
-use Rattle.lisp_eval.proofs.StepsAhead.{Told, first_left, later_bound}
+use Rattle.lisp_eval.proofs.Advancing.{Told, first_left, later_bound}
 
 -- an integer is found in any arena, to which nothing is added
 integer_told : (locals : List Local) (t : Exp) (left rest : ℕ) (i x : ℤ) → x ≡ i → GivesInteger locals t left rest i → (ds : List Definition) (fs : List ℕ) (held : Held) → IsWhole held

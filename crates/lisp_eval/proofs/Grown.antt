@@ -13,8 +13,8 @@ use Rattle.lisp_eval.specs.Answers.{IsCrowded, HasGrown, IsLiveBinding, IsCauseO
 use Rattle.lisp_eval.specs.declared.fault.EvalFault.{EvalFault}
 use Rattle.lisp_eval.specs.declared.fault.EvalFault.TheVariants as fault
 use Rattle.lisp_eval.specs.declared.frame.Binding.{Binding}
-use Rattle.lisp_eval.specs.declared.run.Cause.{Cause}
-use Rattle.lisp_eval.specs.declared.run.Cause.TheVariants as cause
+use Rattle.lisp_eval.specs.declared.halt.Cause.{Cause}
+use Rattle.lisp_eval.specs.declared.halt.Cause.TheVariants as cause
 use Rattle.lisp_eval.specs.States.{env_of}
 use Rattle.lisp_eval.proofs.Environments.{stays_at}
 

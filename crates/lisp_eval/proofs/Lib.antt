@@ -33,13 +33,15 @@ pub mod Sights
 pub mod SmallBits
 pub mod Standing
 pub mod State
-pub mod StateAhead
+pub mod StateAdvance
 pub mod StateApplies
 pub mod StateGives
-pub mod StepsAhead
+pub mod StateTurns
+pub mod Advancing
 pub mod Structural
 pub mod TableAnswers
 pub mod TableValues
+pub mod Turning
 pub mod Turns
 pub mod Values
 pub mod WholeNarrow

@@ -5,7 +5,7 @@ use Rattle.gl_logic.specs.Object.{Object}
 use Rattle.gl_logic.specs.TermOf.{term_of, terms_of}
 use Rattle.gl_logic.specs.declared.term.Term.{Term}
 use Rattle.hons_arena.specs.Held.{Held, IsWhole}
-use Rattle.lisp_eval.specs.Aheads.{BindsFound, BindsUpTo}
+use Rattle.lisp_eval.specs.Frameless.{BindsFound, BindsUpTo}
 use Rattle.lisp_eval.specs.Answers.{HasGrown}
 use Rattle.lisp_eval.specs.Directs.{scope_env, in_scope, IsLiveScope}
 use Rattle.lisp_eval.specs.declared.attempt.Found.{Found}
@@ -14,7 +14,7 @@ use Rattle.lisp_eval.specs.declared.attempt.Stop.{Stop}
 use Rattle.lisp_eval.specs.declared.attempt.Stop.TheVariants as stop
 use Rattle.lisp_eval.specs.declared.value.Local.{Local}
 use Rattle.lisp_eval.proofs.Entering.{scope_grown}
-use Rattle.lisp_eval.proofs.StepsAhead.{Told, nothing_left, first_left, none_bound, none_held, first_stops, first_unheld, later_bound}
+use Rattle.lisp_eval.proofs.Advancing.{Told, nothing_left, first_left, none_bound, none_held, first_stops, first_unheld, later_bound}
 
 -- what binds the names behind a place has bound all
 abbrev pub BindsBehind : List Definition → List ℕ → List (ℕ × Object) → List ℕ → List Term → ℕ → Held → List Local → Held → ℕ → List Local → ℕ → Type 0

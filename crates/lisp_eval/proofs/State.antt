@@ -2,7 +2,6 @@
 use Rattle.std.proofs.Common.{◌≡◌, ◌∙◌, ap, sym, refl, subst, ℕ, ◌-◌, List, [], ◌∷◌, ◌++◌, arith}
 use Rattle.std.specs.Prelude.{map}
 use Rattle.gl_logic.specs.Object.{Object}
-use Rattle.gl_logic.specs.Environment.{look}
 use Rattle.gl_logic.specs.Every.{Every}
 use Rattle.gl_logic.specs.Exp.{Exp, Var, Const}
 use Rattle.gl_logic.specs.IsGround.{AreGround}
@@ -10,29 +9,25 @@ use Rattle.gl_logic.specs.TermOf.{term_of}
 use Rattle.gl_logic.specs.Walk.{CallMade}
 use Rattle.gl_logic.specs.WorldSeen.{WorldSeen}
 use Rattle.hons_arena.specs.declared.id.Id.{Id}
-use Rattle.hons_arena.specs.Held.{Held, AddsCellsOf, IsEachOnce, LacksCell}
-use Rattle.hons_arena.specs.Ids.{object_at, IsLive, IsIdOf}
+use Rattle.hons_arena.specs.Ids.{object_at, IsLive}
 use Rattle.memo_tables.specs.Calls.{Call}
-use Rattle.lisp_eval.specs.Answers.{IsDear, IsCrowded}
-use Rattle.lisp_eval.specs.Bindings.{id_in}
+use Rattle.lisp_eval.specs.Answers.{IsDear}
 use Rattle.lisp_eval.specs.CallValue.{IsCallValue}
 use Rattle.lisp_eval.specs.Compound.{IsCompound}
-use Rattle.lisp_eval.specs.Frames.{Frame, Focus, Visit, Give}
+use Rattle.lisp_eval.specs.Frames.{Frame, Focus, Visit}
 use Rattle.lisp_eval.specs.Kept.{entries_of}
-use Rattle.lisp_eval.specs.Moves.{Next, on, entered, entered_met}
+use Rattle.lisp_eval.specs.Moves.{Next, entered, entered_met}
 use Rattle.lisp_eval.specs.States.{env_of, frames_of, focus_of, IsNext}
 use Rattle.lisp_eval.specs.Threads.{is_kept}
 use Rattle.lisp_eval.specs.Tables.{answered_in}
-use Rattle.lisp_eval.specs.Within.{IsIn, AreWithin}
+use Rattle.lisp_eval.specs.Within.{IsIn}
 use Rattle.lisp_eval.specs.declared.frame.Binding.{Binding}
 use Rattle.lisp_eval.specs.declared.frame.Focus as program
 use Rattle.lisp_eval.specs.declared.frame.Focus.TheVariants as focus
 use Rattle.lisp_eval.specs.declared.frame.Frame as held
-use Rattle.lisp_eval.proofs.Environments.{append_none, look_is, stays_at}
-use Rattle.lisp_eval.proofs.Going.{Narrow, Going, StepOn, going_step, going_crowded, going_dear}
+use Rattle.lisp_eval.proofs.Going.{Narrow, Going, StepOn, going_step, going_dear}
 use Rattle.lisp_eval.proofs.MovesGo.{entered_goes}
-use Rattle.lisp_eval.proofs.Standing.{stable_live, grows_added, still, env_in, at_once}
-use Rattle.lisp_eval.proofs.Within.{stays}
+use Rattle.lisp_eval.proofs.Standing.{stable_live, env_in}
 
 compound_met : (u : Exp) (env : List (ℕ × Object)) → IsCompound u → entered_met u env ≡ []
 compound_met (Var v) env h = absurd h
@@ -93,69 +88,6 @@ module _ (w : WorldSeen) (functions : List ℕ) (env : List (ℕ × Object)) (t 
           right = s.right;
           same = s.same;
         }
-
-    -- a visit whose value is there at once
-    gives : (x : Exp) (v : Object) → entered x visit_env ≡ on (Give v) → entered_met x visit_env ≡ v ∷ [] → term_of u.now ≡ x → (left ≡ 0 → ⊥)
-        → (i : Going w s.ground functions env t limit start left (Visit x visit_env) s.stack s.kept objects) × StepOn w s.ground functions env t limit start left (Visit x visit_env) s.stack s.kept objects i (v ∷ []) (left - 1) (Give v) s.stack s.kept
-    gives x v e m q h =
-        let i : Going w s.ground functions env t limit start left (Visit x visit_env) s.stack s.kept objects = subst (λ (y : Exp). Going w s.ground functions env t limit start left (Visit y visit_env) s.stack s.kept objects) q at_visit in
-        let a = entered_step x i h in
-        let b = subst (λ (k : Next). StepOn w s.ground functions env t limit start left (Visit x visit_env) s.stack s.kept objects i (entered_met x visit_env) (left - 1) k.focus (s.stack ++ k.pushed) s.kept) e a in
-        let d = subst (λ (zs : List Object). StepOn w s.ground functions env t limit start left (Visit x visit_env) s.stack s.kept objects i zs (left - 1) (Give v) (s.stack ++ []) s.kept) m b in
-        (i, subst (λ (zs : List Frame). StepOn w s.ground functions env t limit start left (Visit x visit_env) s.stack s.kept objects i (v ∷ []) (left - 1) (Give v) zs s.kept) (append_none s.stack) d)
-
-    -- a variable
-    module _ (v : ℕ) (id : Id) (is_var : term_of u.now ≡ Var v) (is_id : id ≡ id_in uenv.value.items v) where
-      var_stands : (more : List Object) → object_at (objects ++ more) id ≡ look visit_env v
-      var_stands more = ap (object_at (objects ++ more)) is_id ∙ (look_is (objects ++ more) uenv.value.items v ∙ ap (λ e. look e v) (env_stands more))
-
-      pub var_live : IsLive objects id
-      var_live = stable_live objects id (look visit_env v) var_stands
-
-      pub var_next : (left ≡ 0 → ⊥) → Narrow (object_at objects id) → State (left - 1) (focus.Give id) frames objects entries
-      var_next h n =
-          let g = gives (Var v) (look visit_env v) refl refl is_var h in
-          let narrow : Narrow (look visit_env v) = subst Narrow (at_once (λ all. object_at all id) (look visit_env v) objects var_stands) n in
-          record {
-            focus = Give (look visit_env v);
-            stack = s.stack;
-            ground = s.ground;
-            kept = s.kept;
-            calls = s.calls;
-            going = g.1.goes_on (narrow, tt) objects g.0.within;
-            focus_is = λ more. ap Give (var_stands more);
-            frames_are = s.frames_are;
-            entries_are = s.entries_are;
-            right = s.right;
-            same = s.same;
-          }
-
-    -- a constant
-    module _ (x : Object) (is_const : term_of u.now ≡ Const x) (h : left ≡ 0 → ⊥) (new : List Object) (adds : AddsCellsOf x objects new) where
-      const_gives : (i : Going w s.ground functions env t limit start left (Visit (Const x) visit_env) s.stack s.kept objects) × StepOn w s.ground functions env t limit start left (Visit (Const x) visit_env) s.stack s.kept objects i (x ∷ []) (left - 1) (Give x) s.stack s.kept
-      const_gives = gives (Const x) x refl refl is_const h
-
-      const_within : AreWithin start const_gives.0.walked.seen new
-      const_within = stays start const_gives.0.walked.seen objects new x const_gives.1.met_seen.0 adds const_gives.0.within
-
-      pub const_next : (id : Id) → IsIdOf new x id → Narrow x → State (left - 1) (focus.Give id) frames new entries
-      const_next id is n = record {
-        focus = Give x;
-        stack = s.stack;
-        ground = s.ground;
-        kept = s.kept;
-        calls = s.calls;
-        going = const_gives.1.goes_on (n, tt) new const_within;
-        focus_is = λ more. ap Give (stays_at new more id is.0 ∙ is.1);
-        frames_are = still (λ all. frames_of all frames) s.stack objects new (grows_added x objects new adds) s.frames_are;
-        entries_are = still (λ all. entries_of all entries) s.calls objects new (grows_added x objects new adds) s.entries_are;
-        right = s.right;
-        same = s.same;
-      }
-
-      pub const_crowded : (held : Held) → held.objects ≡ new → LacksCell held x → IsEachOnce held.objects → IsCrowded w env t start held.limit
-      const_crowded held e lack once = going_crowded w s.ground functions env t limit start left (Visit (Const x) visit_env) s.stack s.kept objects const_gives.0 held x const_gives.1.met_seen.0 lack once
-          (subst (λ (zs : List Object). AreWithin start const_gives.0.walked.seen zs) (sym e) const_within)
 
     pub visit_live : (bindings : List Binding) → bindings ≡ uenv.value.items → Every (λ b. IsLive objects b.value) bindings
     visit_live bindings e = all_live bindings visit_env (λ more. ap (env_of (objects ++ more)) e ∙ env_stands more) where

@@ -32,7 +32,7 @@ kept_few : (objects : List Object) (keep : Option Call) → length (kept_frame o
 kept_few objects None = omega arith
 kept_few objects (Some c) = omega arith
 
-begun_few : (w : Work) (done : List Object) (ts : Exps) (env : List (ℕ × Object)) → turns_of (begun w done ts env).focus + 2 * length (begun w done ts env).pushed ≤ 3
+pub begun_few : (w : Work) (done : List Object) (ts : Exps) (env : List (ℕ × Object)) → turns_of (begun w done ts env).focus + 2 * length (begun w done ts env).pushed ≤ 3
 begun_few w done Last env = omega arith
 begun_few w done (More t ts) env = omega arith
 

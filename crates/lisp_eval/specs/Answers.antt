@@ -20,8 +20,8 @@ use Rattle.lisp_eval.specs.CallValue.{IsCallValue}
 use Rattle.lisp_eval.specs.Kept.{entries_of}
 use Rattle.lisp_eval.specs.Narrow.{IsNarrow}
 use Rattle.lisp_eval.specs.declared.frame.Binding.{Binding}
-use Rattle.lisp_eval.specs.declared.run.Cause.{Cause}
-use Rattle.lisp_eval.specs.declared.run.Cause.TheVariants as cause
+use Rattle.lisp_eval.specs.declared.halt.Cause.{Cause}
+use Rattle.lisp_eval.specs.declared.halt.Cause.TheVariants as cause
 use Rattle.lisp_eval.specs.declared.fault.EvalFault.{EvalFault}
 use Rattle.lisp_eval.specs.declared.fault.EvalFault.TheVariants as fault
 

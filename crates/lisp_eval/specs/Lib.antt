@@ -1,4 +1,4 @@
-pub mod Aheads
+pub mod Frameless
 pub mod Answers
 pub mod Applied
 pub mod Attempts
@@ -23,5 +23,6 @@ pub mod Sights
 pub mod States
 pub mod Tables
 pub mod Threads
+pub mod Turns
 pub mod Within
 pub mod Zero

@@ -11,16 +11,19 @@ use Rattle.gl_logic.specs.declared.term.Term.{Term}
 use Rattle.hons_arena.specs.declared.id.Id.{Id}
 use Rattle.hons_arena.specs.Held.{Held}
 use Rattle.memo_tables.specs.Calls.{Call}
-use Rattle.lisp_eval.specs.Answers.{IsValueOf, IsCauseOf}
+use Rattle.lisp_eval.specs.Answers.{IsValueOf, IsCauseOf, IsLicensed}
 use Rattle.lisp_eval.specs.Frames.{Visit}
 use Rattle.lisp_eval.specs.Kept.{kept_frame}
+use Rattle.lisp_eval.specs.MachineCalls.{HoldsSeen}
 use Rattle.lisp_eval.specs.Moves.{Next, begun, entered, handed}
 use Rattle.lisp_eval.specs.States.{env_of, values_of, work_of, frame_of, IsNext}
+use Rattle.lisp_eval.specs.declared.attempt.Setting.{Setting}
+use Rattle.lisp_eval.specs.declared.fault.EvalFault.{EvalFault}
 use Rattle.lisp_eval.specs.declared.frame.Binding.{Binding}
 use Rattle.lisp_eval.specs.declared.frame.Focus.{Focus}
 use Rattle.lisp_eval.specs.declared.frame.Frame.{Frame}
 use Rattle.lisp_eval.specs.declared.frame.Work.{Work}
-use Rattle.lisp_eval.specs.declared.run.Cause.{Cause}
+use Rattle.lisp_eval.specs.declared.halt.Cause.{Cause}
 
 -- the first of some terms is visited, or the work is done
 abbrev pub Begins : Work → List Id → List Term → List Binding → List Frame → List Frame → Result Focus NoMemory → Type 0
@@ -56,3 +59,13 @@ Stand objects env = (more : List Object) → env_of (objects ++ more) env ≡ en
 -- the id of the term's value, or a cause that holds
 abbrev pub Answered : WorldSeen → List ℕ → List Binding → Exp → ℕ → Held → Held → Result Id Cause → Type 0
 Answered w functions env t limit old new answer = MatchResult answer (IsValueOf w (env_of old.objects env) t new.objects) (IsCauseOf w functions (env_of old.objects env) t limit old.objects old.limit)
+
+-- the same of a setting
+abbrev pub AnsweredIn : Setting → List Binding → Exp → ℕ → Held → Held → Result Id Cause → Type 0
+AnsweredIn setting env t limit old new answer = Answered setting.world.now setting.functions.now env t limit old new answer
+
+abbrev pub HoldsSeenIn : Setting → List Binding → Exp → List Object → List Object → Type 0
+HoldsSeenIn setting env t old new = HoldsSeen setting.world.now (env_of old env) t old new
+
+abbrev pub IsLicensedIn : Setting → List Binding → Exp → ℕ → Held → Result Id EvalFault → Type 0
+IsLicensedIn setting env t steps old answer = IsLicensed setting.world.now setting.functions.now (env_of old.objects env) t steps old answer

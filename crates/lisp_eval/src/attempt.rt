@@ -12,15 +12,17 @@ use crate::frame::Binding;
 use crate::value::{Local, Value};
 use gl_logic::{Names, NoMemory, TextId, World};
 use hons_arena::{Full, Id};
-use std::alloc::{AllocError, AllocFailed};
+use std::alloc::{AllocError, AllocFailed, Global};
 
-/// A world, and the functions whose calls are kept.
+/// What an evaluation does not change: a world, the functions whose calls are kept, and where memory comes from.
 #[derive(Clone, Copy)]
 pub struct Setting<'a> {
     /// The world.
     pub world: &'a World,
     /// The numbers of the functions.
     pub functions: &'a [u64],
+    /// Where memory comes from.
+    pub alloc: Global,
 }
 
 /// The variables that a term may name.

@@ -1,16 +1,13 @@
 //! Terms that are evaluated at once, with no frame; cells and memory go to conses and to what tables answer.
 
-ghost use Rattle.std.specs.Prelude.{◌+◌, ◌<◌, IsTrue};
+ghost use Rattle.std.specs.Prelude.{◌<◌};
 ghost use Rattle.fast_alists.specs.Tables.{Agree};
-ghost use Rattle.gl_logic.specs.Counts.{is_among};
-ghost use Rattle.gl_logic.specs.Exp.{Call};
+ghost use Rattle.gl_logic.specs.DefinitionOf.{definition_of};
 ghost use Rattle.gl_logic.specs.TermOf.{term_of, terms_of};
 ghost use Rattle.hons_arena.specs.Held.{IsWhole};
-ghost use Rattle.lisp_eval.specs.Attempts.{TellsIn, TellsAllIn, EntersThree, unary_term, binary_term};
+ghost use Rattle.lisp_eval.specs.Attempts.{TellsIn, TellsAllIn, BodyTells, TablesTell, ZeroTells, EntersThree, unary_term, binary_term};
 ghost use Rattle.lisp_eval.specs.Directs.{IsLiveScope};
 ghost use Rattle.lisp_eval.specs.Outside.{IsLiveValue};
-ghost use Rattle.lisp_eval.specs.Tables.{answered_in};
-ghost use Rattle.lisp_eval.specs.Zero.{IsZp};
 
 use crate::applied::{apply, constant_found};
 use crate::attempt::{Found, Given, Ids, NOTHING, Scope, Setting, Stop, local};
@@ -20,7 +17,7 @@ use crate::tables::answer;
 use crate::value::Value;
 use crate::zero::{is_zp, zero_test};
 use fast_alists::{AlistFault, FastAlists};
-use gl_logic::{FnId, Prim, Term};
+use gl_logic::{Def, FnId, Prim, Term};
 use hons_arena::{Full, HonsArena};
 
 /// How deep a term that is evaluated at once may nest, with the bodies of the definitions that it opens.
@@ -199,7 +196,7 @@ fn binary(
     })
 }
 
-/// What a call of a small definition gives at once; nothing for any other term.
+/// What a call gives at once that `zp`, tables or a small definition answer; nothing for any other term.
 #[cycle(at_once)]
 #[inline(never)]
 fn opened(
@@ -220,98 +217,85 @@ fn opened(
 {
     match term {
         Term::Call(f, terms) => {
+            let terms = terms.as_slice();
             if is_zp(setting.world, setting.functions, *f) {
-                return zero(
-                    setting,
-                    arena,
-                    alists,
-                    *f,
-                    terms.as_slice(),
-                    scope,
-                    levels - 1,
-                    left - 1,
-                );
+                return zero(setting, arena, alists, terms, scope, levels - 1, left - 1);
             }
             if is_answered(setting.world, *f) {
-                return answered(
-                    setting,
-                    arena,
-                    alists,
-                    *f,
-                    terms.as_slice(),
-                    scope,
-                    levels - 1,
-                    left - 1,
-                );
+                // Read for what it tells of the world: its definitions are cliques of admissible ones.
+                let _count = setting.world.count();
+                let given = arguments(setting, arena, alists, terms, scope, levels - 1, left - 1)?;
+                return answered(arena, alists, *f, given);
             }
             if !opens_at_once(setting.world, setting.functions, *f) {
                 return Err(Stop::Beyond);
             }
-            let given = arguments(
+            let given = arguments(setting, arena, alists, terms, scope, levels - 1, left - 1)?;
+            body(
                 setting,
                 arena,
                 alists,
-                terms.as_slice(),
-                scope,
+                setting.world.def(*f),
+                given,
                 levels - 1,
-                left - 1,
-            )?;
-            let def = setting.world.def(*f);
-            if def.formals.len() == 1 {
-                let locals = [local(&def.formals, 0, given.first)];
-                at_once(
-                    setting,
-                    arena,
-                    alists,
-                    &def.body,
-                    &Scope::Inner(&locals),
-                    levels - 1,
-                    given.left,
-                )
-            } else if def.formals.len() == 2 {
-                let locals = [
-                    local(&def.formals, 0, given.first),
-                    local(&def.formals, 1, given.second),
-                ];
-                at_once(
-                    setting,
-                    arena,
-                    alists,
-                    &def.body,
-                    &Scope::Inner(&locals),
-                    levels - 1,
-                    given.left,
-                )
-            } else {
-                Err(Stop::Beyond)
-            }
+            )
         }
         _ => Err(Stop::Beyond),
     }
 }
 
-/// What a call of a function that tables answer gives at once, behind the visit of the call itself.
+/// What the body of a definition of one formal or two gives at once on values of the arguments.
 #[cycle(at_once)]
-#[inline(never)]
-fn answered(
+#[inline(always)]
+fn body(
     setting: &Setting,
     arena: &mut HonsArena,
     alists: &mut FastAlists,
-    f: FnId,
-    terms: &[Term],
-    scope: &Scope,
+    def: &Def,
+    given: Given,
     levels: u64,
-    left: u64,
 ) -> Result<Found, Stop>
     requires whole { IsWhole arena.old }
-    requires scope { IsLiveScope arena.old.objects scope.now }
+    requires first { IsLiveValue arena.old.objects given.first }
+    requires second { IsLiveValue arena.old.objects given.second }
     requires agree { Agree arena.old.objects alists.old }
-    requires answered { IsTrue (is_among (answered_in setting.now.world.now.definitions) f.number) }
-    ensures { TellsIn setting.now scope.now (Call f.number (terms_of terms.now)) (left + 1) arena.old arena.new alists.new result }
+    ensures { BodyTells setting.now (definition_of def.now) given arena.old arena.new alists.new result }
 {
-    // Read for what it tells of the world: its definitions are cliques of admissible ones.
-    let _count = setting.world.count();
-    let given = arguments(setting, arena, alists, terms, scope, levels, left)?;
+    if def.formals.len() == 1 {
+        let locals = [local(&def.formals, 0, given.first)];
+        let scope = Scope::Inner(&locals);
+        at_once(
+            setting, arena, alists, &def.body, &scope, levels, given.left,
+        )
+    } else if def.formals.len() == 2 {
+        let locals = [
+            local(&def.formals, 0, given.first),
+            local(&def.formals, 1, given.second),
+        ];
+        let scope = Scope::Inner(&locals);
+        at_once(
+            setting, arena, alists, &def.body, &scope, levels, given.left,
+        )
+    } else {
+        Err(Stop::Beyond)
+    }
+}
+
+/// What a function that tables answer gives at once on values of the arguments.
+#[inline(never)]
+fn answered(
+    arena: &mut HonsArena,
+    alists: &mut FastAlists,
+    f: FnId,
+    given: Given,
+) -> Result<Found, Stop>
+    requires whole { IsWhole arena.old }
+    requires first { IsLiveValue arena.old.objects given.first }
+    requires second { IsLiveValue arena.old.objects given.second }
+    requires third { IsLiveValue arena.old.objects given.third }
+    requires agree { Agree arena.old.objects alists.old }
+    ensures { TablesTell f.number given arena.old arena.new alists.new result }
+{
     match ids_of(arena, given) {
         Ok(ids) => match answer(arena, alists, f, &[ids.first, ids.second, ids.third]) {
             Ok(id) => Ok(Found {
@@ -332,7 +316,6 @@ fn zero(
     setting: &Setting,
     arena: &mut HonsArena,
     alists: &mut FastAlists,
-    f: FnId,
     terms: &[Term],
     scope: &Scope,
     levels: u64,
@@ -341,8 +324,7 @@ fn zero(
     requires whole { IsWhole arena.old }
     requires scope { IsLiveScope arena.old.objects scope.now }
     requires agree { Agree arena.old.objects alists.old }
-    requires zp { IsZp setting.now.world.now.definitions setting.now.functions.now f.number }
-    ensures { TellsIn setting.now scope.now (Call f.number (terms_of terms.now)) (left + 1) arena.old arena.new alists.new result }
+    ensures { ZeroTells setting.now scope.now (terms_of terms.now) left arena.old arena.new alists.new result }
 {
     if terms.len() != 1 {
         return Err(Stop::Beyond);
@@ -394,42 +376,41 @@ fn arguments(
     requires agree { Agree arena.old.objects alists.old }
     ensures { TellsAllIn setting.now scope.now (terms_of terms.now) left arena.old arena.new alists.new result }
 {
-    if terms.len() == 1 {
-        let first = at_once(setting, arena, alists, &terms[0], scope, levels, left)?;
-        Ok(Given {
+    let count = terms.len();
+    if count == 0 || count > 3 {
+        return Err(Stop::Beyond);
+    }
+    let first = at_once(setting, arena, alists, &terms[0], scope, levels, left)?;
+    if count == 1 {
+        return Ok(Given {
             first: first.value,
             second: NOTHING,
             third: NOTHING,
             left: first.left,
-        })
-    } else if terms.len() == 2 {
-        let first = at_once(setting, arena, alists, &terms[0], scope, levels, left)?;
-        let second = at_once(setting, arena, alists, &terms[1], scope, levels, first.left)?;
-        Ok(Given {
+        });
+    }
+    let second = at_once(setting, arena, alists, &terms[1], scope, levels, first.left)?;
+    if count == 2 {
+        return Ok(Given {
             first: first.value,
             second: second.value,
             third: NOTHING,
             left: second.left,
-        })
-    } else if terms.len() == 3 {
-        let first = at_once(setting, arena, alists, &terms[0], scope, levels, left)?;
-        let second = at_once(setting, arena, alists, &terms[1], scope, levels, first.left)?;
-        let third = at_once(
-            setting,
-            arena,
-            alists,
-            &terms[2],
-            scope,
-            levels,
-            second.left,
-        )?;
-        Ok(Given {
-            first: first.value,
-            second: second.value,
-            third: third.value,
-            left: third.left,
-        })
-    } else {
-        Err(Stop::Beyond)
+        });
     }
+    let third = at_once(
+        setting,
+        arena,
+        alists,
+        &terms[2],
+        scope,
+        levels,
+        second.left,
+    )?;
+    Ok(Given {
+        first: first.value,
+        second: second.value,
+        third: third.value,
+        left: third.left,
+    })
 }

@@ -4,7 +4,7 @@ ghost use Rattle.std.specs.Prelude.{◌≡◌};
 ghost use Rattle.lisp_eval.specs.Answers.{fault_of};
 ghost use Rattle.lisp_eval.specs.declared.fault.EvalFault.TheVariants as fault;
 
-use crate::run::Cause;
+use crate::halt::Cause;
 use gl_logic::NoMemory;
 use hons_arena::Full;
 use std::alloc::AllocFailed;

@@ -5,7 +5,7 @@ ghost use Rattle.gl_logic.specs.Definition.{Definition};
 ghost use Rattle.gl_logic.specs.Environment.{look};
 ghost use Rattle.gl_logic.specs.Object.{Object, Int};
 ghost use Rattle.gl_logic.specs.TermOf.{term_of};
-ghost use Rattle.lisp_eval.specs.Aheads.{BindsUpTo};
+ghost use Rattle.lisp_eval.specs.Frameless.{BindsUpTo};
 ghost use Rattle.lisp_eval.specs.Attempts.{unary_term, binary_term};
 ghost use Rattle.lisp_eval.specs.Integers.{GivesInteger, IsFoundOn};
 ghost use Rattle.lisp_eval.specs.Narrow.{IsNarrow};

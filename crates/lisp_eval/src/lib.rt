@@ -20,7 +20,6 @@
 //! Tests: the crate `eval_tests`.
 #![tactic(auto)]
 
-mod ahead;
 mod applied;
 mod attempt;
 mod bindings;
@@ -31,6 +30,8 @@ mod env;
 mod eval;
 mod fault;
 mod frame;
+mod frameless;
+mod halt;
 mod integers;
 pub mod laws;
 mod machine;
@@ -39,6 +40,7 @@ mod primitives;
 mod run;
 mod steps;
 mod tables;
+mod turn;
 mod value;
 mod word_arithmetic;
 mod zero;

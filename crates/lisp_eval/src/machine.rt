@@ -15,6 +15,7 @@ ghost use Rattle.lisp_eval.specs.Machines.{Fits, AreFunctionsOf, IsLiveEntry};
 ghost use Rattle.lisp_eval.specs.States.{env_of};
 ghost use Rattle.lisp_eval.specs.declared.fault.EvalFault.TheVariants as fault;
 
+use crate::attempt::Setting;
 use crate::constants::{constants_in, place_all};
 use crate::env::Env;
 use crate::eval::evaluate;
@@ -152,13 +153,16 @@ impl Machine {
         ensures settings { KeepsSettings self.old self.new }
         ensures refused { OnErr result (IsRefused self.old self.new) }
     {
-        evaluate(
+        let setting = Setting {
             world,
+            functions: self.functions.as_slice(),
+            alloc: self.alloc,
+        };
+        evaluate(
+            &setting,
             term,
             env.as_slice(),
-            self.functions.as_slice(),
             self.steps,
-            self.alloc,
             &mut self.arena,
             &mut self.alists,
             &mut self.memos,

@@ -1,24 +1,23 @@
-use Rattle.std.proofs.Common.{rules, arith, ◌≡◌, ◌∙◌, ap, sym, subst, refl, true, false, [], ◌∷◌, ◌+◌, ◌-◌, List, Some, slice_get, length, ℕ, IsErr, Err, Ok}
+use Rattle.std.proofs.Common.{rules, arith, ◌≡◌, ◌∙◌, ap, sym, subst, refl, true, false, [], ◌∷◌, ◌+◌, ◌-◌, List, Some, get_or, slice_get, length, ℕ, IsErr, Ok}
 use Rattle.std.specs.Prelude.{IsErrOf}
 use Rattle.gl_logic.proofs.Worlds.{world_ground}
 use Rattle.gl_logic.specs.Counts.{is_among}
 use Rattle.gl_logic.specs.DefinitionOf.{definition_of}
+use Rattle.gl_logic.specs.Environment.{extended}
 use Rattle.gl_logic.specs.Exp.{Call}
-use Rattle.gl_logic.specs.Object.{Object, boolean_object}
+use Rattle.gl_logic.specs.Object.{Object, boolean_object, nil}
 use Rattle.gl_logic.specs.TermOf.{term_of, terms_of}
 use Rattle.gl_logic.specs.declared.term.Term.{Term}
-use Rattle.hons_arena.specs.Held.{AddsCellsOf}
-use Rattle.hons_arena.specs.Ids.{object_at, IsIdOf}
 use Rattle.lisp_eval.specs.Attempts.{Tells, TellsAll}
 use Rattle.lisp_eval.specs.Directs.{scope_env}
 use Rattle.lisp_eval.specs.Outside.{value_object}
 use Rattle.lisp_eval.specs.Sights.{Sees}
-use Rattle.lisp_eval.specs.Tables.{answered_in, table_value}
+use Rattle.lisp_eval.specs.Tables.{answered_in}
 use Rattle.lisp_eval.specs.declared.attempt.Stop.TheVariants as stop
 use Rattle.lisp_eval.specs.declared.value.Value.{Value}
 use Rattle.lisp_eval.specs.declared.value.Value.TheVariants as value
-use Rattle.lisp_eval.proofs.Attempting.{const_tells, tells_found, test_refused, branch_tells, first_refused, second_refused, third_refused, one_tells, two_tell, three_tell, operand_refused, unary_refused, unary_tells, second_operand_refused, binary_refused, binary_tells, call_refused, call_tells, entering_refused, answering_refused, answered_tells}
-use Rattle.lisp_eval.proofs.DirectFound.{found_var, first_term, second_term, one_term, two_terms, three_terms, one_local, two_locals}
+use Rattle.lisp_eval.proofs.Attempting.{beyond_tells, beyond_tell_all, const_tells, tells_found, test_refused, branch_tells, first_refused, second_refused, third_refused, one_tells, two_tell, three_tell, operand_refused, unary_refused, unary_tells, second_operand_refused, binary_refused, binary_tells, call_refused, call_tells, answered_tells, call_same}
+use Rattle.lisp_eval.proofs.DirectFound.{found_var, first_term, second_term, one_term, two_terms, three_terms, one_bound, two_bound}
 use Rattle.lisp_eval.proofs.Entering.{scope_grown, tables_on}
 use Rattle.gl_logic.proofs.CellCounts.{at_index}
 use Rattle.lisp_eval.proofs.Sights.{adds_none}
@@ -201,285 +200,199 @@ opened-returns-in_err-given-in-Call t c =
     let env = scope_env c.args.arena.now.objects c.args.scope.now in
     let refused : IsErr c.from_residual.result = search rules in
     let full : IsErrOf c.from_residual.result stop.Full → IsErrOf c.arguments.result stop.Full = λ e. search rules in
-    let parts = subst (λ (us : List Term). TellsAll c.args.setting.now.world.now.definitions c.args.setting.now.functions.now env (terms_of us) (c.args.left - 1) c.args.arena.now c.arguments.new.arena c.arguments.new.alists c.arguments.result) c.as_slice-in-Call.ensures.value c.arguments.ensures in
+    let parts = subst (λ (us : List Term). TellsAll c.args.setting.now.world.now.definitions c.args.setting.now.functions.now env (terms_of us) (c.args.left - 1) c.args.arena.now c.arguments.new.arena c.arguments.new.alists c.arguments.result) c.as_slice-terms.ensures.value c.arguments.ensures in
     call_refused c.args.setting.now.world.now.definitions c.args.setting.now.functions.now env (term_of c.args.term.now) c.in-Call.f.number (terms_of c.in-Call.terms.items) c.args.left c.args.arena.now c.arguments.new.arena c.arguments.new.alists c.from_residual.result
     (ap term_of c.in-Call.is ∙ call_term c.in-Call.f c.in-Call.terms) refused parts.adds parts.agree (λ e. parts.lacks (full e))
 
-pub opened-returns-else-len-eq2 : goal.opened-returns-else-len-eq2
-opened-returns-else-len-eq2 t c =
+pub opened-returns-in_err-given-in-Call-2 : goal.opened-returns-in_err-given-in-Call-2
+opened-returns-in_err-given-in-Call-2 t c =
     let env = scope_env c.args.arena.now.objects c.args.scope.now in
-    let g = c.in_ok-given-in-Call.given in
-    let parts = subst (λ (us : List Term). TellsAll c.args.setting.now.world.now.definitions c.args.setting.now.functions.now env (terms_of us) (c.args.left - 1) c.args.arena.now c.arguments.new.arena c.arguments.new.alists (Ok g)) c.as_slice-in-Call.ensures.value c.in_ok-given-in-Call.ensures in
-    call_refused c.args.setting.now.world.now.definitions c.args.setting.now.functions.now env (term_of c.args.term.now) c.in-Call.f.number (terms_of c.in-Call.terms.items) c.args.left c.args.arena.now c.arguments.new.arena c.arguments.new.alists (Err stop.Beyond)
-    (ap term_of c.in-Call.is ∙ call_term c.in-Call.f c.in-Call.terms) refl parts.adds parts.agree (λ e. absurd cc)
+    let answer = c.from_residual-in_err-given-in-Call-2.result in
+    let refused : IsErr answer = search rules in
+    let full : IsErrOf answer stop.Full → IsErrOf c.arguments-in-Call.result stop.Full = λ e. search rules in
+    let parts = subst (λ (us : List Term). TellsAll c.args.setting.now.world.now.definitions c.args.setting.now.functions.now env (terms_of us) (c.args.left - 1) c.args.arena.now c.arguments-in-Call.new.arena c.arguments-in-Call.new.alists c.arguments-in-Call.result) c.as_slice-terms.ensures.value c.arguments-in-Call.ensures in
+    call_refused c.args.setting.now.world.now.definitions c.args.setting.now.functions.now env (term_of c.args.term.now) c.in-Call.f.number (terms_of c.in-Call.terms.items) c.args.left c.args.arena.now c.arguments-in-Call.new.arena c.arguments-in-Call.new.alists answer
+    (ap term_of c.in-Call.is ∙ call_term c.in-Call.f c.in-Call.terms) refused parts.adds parts.agree (λ e. parts.lacks (full e))
 
-pub opened-returns-then-len-eq1 : goal.opened-returns-then-len-eq1
-opened-returns-then-len-eq1 t c =
+pub opened-returns-then-is_answered : goal.opened-returns-then-is_answered
+opened-returns-then-is_answered t c =
     let ds = c.args.setting.now.world.now.definitions in
     let fs = c.args.setting.now.functions.now in
     let old = c.args.arena.now in
     let mid = c.arguments.new.arena in
+    let new = c.answered.new.arena in
     let env = scope_env old.objects c.args.scope.now in
+    let f = c.in-Call.f.number in
+    let ts = terms_of c.in-Call.terms.items in
     let g = c.in_ok-given-in-Call.given in
-    let d = definition_of c.def-def.result.now in
-    let parts = subst (λ (us : List Term). TellsAll ds fs env (terms_of us) (c.args.left - 1) old mid c.arguments.new.alists (Ok g)) c.as_slice-in-Call.ensures.value c.in_ok-given-in-Call.ensures in
-    let inner = (c.local.result.name.number, value_object mid.objects c.local.result.value) ∷ [] in
-    let same : inner ≡ (c.local.result.name.number, value_object mid.objects g.first) ∷ [] = ap (λ v. (c.local.result.name.number, value_object mid.objects v) ∷ []) c.local.ensures.value in
-    let opens = c.opens_at_once.ensures c.if-not-opens_at_once.false in
-    let bound = one_local ds fs mid parts.adds.whole env d.formals c.local.result.name.number g (terms_of c.in-Call.terms.items) (c.args.left - 1) parts.given (sym c.len.ensures ∙ c.if-len-eq1.true) c.local.ensures.name in
-    call_tells ds fs env (term_of c.args.term.now) c.in-Call.f.number (terms_of c.in-Call.terms.items) d c.args.left old mid c.at_once.new.arena c.at_once.new.alists g inner c.at_once.result (λ z. omega (arith, z, c.requires.left))
-    (ap term_of c.in-Call.is ∙ call_term c.in-Call.f c.in-Call.terms) opens c.def-def.ensures.found parts.adds parts.given (same ∙ bound) c.at_once.ensures
+    let table : is_among (answered_in ds) f ≡ true = sym c.is_answered.ensures ∙ c.if-is_answered.true in
+    let parts = subst (λ (us : List Term). TellsAll ds fs env (terms_of us) (c.args.left - 1) old mid c.arguments.new.alists (Ok g)) c.as_slice-terms.ensures.value c.in_ok-given-in-Call.ensures in
+    call_same ds fs env (term_of c.args.term.now) f ts c.args.left old new c.answered.new.alists c.answered.result (ap term_of c.in-Call.is ∙ call_term c.in-Call.f c.in-Call.terms) c.requires.left
+    (answered_tells ds fs env (world_ground ds c.args.setting.now.world.now.cliques c.count-count.ensures.world) f ts (c.args.left - 1) old mid g table parts.adds parts.given new c.answered.new.alists c.answered.result c.answered.ensures)
 
-pub opened-returns-then-len-eq2 : goal.opened-returns-then-len-eq2
-opened-returns-then-len-eq2 t c =
+pub opened-returns-in_ok-given-in-Call-2 : goal.opened-returns-in_ok-given-in-Call-2
+opened-returns-in_ok-given-in-Call-2 t c =
     let ds = c.args.setting.now.world.now.definitions in
     let fs = c.args.setting.now.functions.now in
     let old = c.args.arena.now in
-    let mid = c.arguments.new.arena in
+    let mid = c.arguments-in-Call.new.arena in
     let env = scope_env old.objects c.args.scope.now in
-    let g = c.in_ok-given-in-Call.given in
-    let d = definition_of c.def-def.result.now in
-    let parts = subst (λ (us : List Term). TellsAll ds fs env (terms_of us) (c.args.left - 1) old mid c.arguments.new.alists (Ok g)) c.as_slice-in-Call.ensures.value c.in_ok-given-in-Call.ensures in
-    let a = c.local-then-len-eq2.result in
-    let b = c.local-then-len-eq2-2.result in
-    let inner = (a.name.number, value_object mid.objects a.value) ∷ (b.name.number, value_object mid.objects b.value) ∷ [] in
-    let same : inner ≡ (a.name.number, value_object mid.objects g.first) ∷ (b.name.number, value_object mid.objects g.second) ∷ [] =
-    λ i. (a.name.number, value_object mid.objects (c.local-then-len-eq2.ensures.value i)) ∷ (b.name.number, value_object mid.objects (c.local-then-len-eq2-2.ensures.value i)) ∷ [] in
-    let opens = c.opens_at_once.ensures c.if-not-opens_at_once.false in
-    let bound = two_locals ds fs mid parts.adds.whole env d.formals a.name.number b.name.number g (terms_of c.in-Call.terms.items) (c.args.left - 1) parts.given (sym c.len-else-len-eq1.ensures ∙ c.if-len-eq2.true) c.local-then-len-eq2.ensures.name c.local-then-len-eq2-2.ensures.name in
-    call_tells ds fs env (term_of c.args.term.now) c.in-Call.f.number (terms_of c.in-Call.terms.items) d c.args.left old mid c.at_once-then-len-eq2.new.arena c.at_once-then-len-eq2.new.alists g inner c.at_once-then-len-eq2.result (λ z. omega (arith, z, c.requires.left))
-    (ap term_of c.in-Call.is ∙ call_term c.in-Call.f c.in-Call.terms) opens c.def-def.ensures.found parts.adds parts.given (same ∙ bound) c.at_once-then-len-eq2.ensures
+    let g = c.in_ok-given-in-Call-2.given in
+    let d = definition_of c.def.result.now in
+    let parts = subst (λ (us : List Term). TellsAll ds fs env (terms_of us) (c.args.left - 1) old mid c.arguments-in-Call.new.alists (Ok g)) c.as_slice-terms.ensures.value c.in_ok-given-in-Call-2.ensures in
+    let values = parts.given.values in
+    call_tells ds fs env (term_of c.args.term.now) c.in-Call.f.number (terms_of c.in-Call.terms.items) d c.args.left old mid c.body.new.arena c.body.new.alists g (extended d.formals values []) c.body.result (λ z. omega (arith, z, c.requires.left))
+    (ap term_of c.in-Call.is ∙ call_term c.in-Call.f c.in-Call.terms) (c.opens_at_once.ensures c.if-not-opens_at_once.false) c.def.ensures.found parts.adds parts.given refl (c.body.ensures values parts.given.first parts.given.second)
+
+pub body-returns-then-len-eq1 : goal.body-returns-then-len-eq1
+body-returns-then-len-eq1 t c values first second =
+    let objects = c.args.arena.now.objects in
+    let d = definition_of c.args.def.now in
+    let n = c.local.result.name.number in
+    let same : (n, value_object objects c.local.result.value) ∷ [] ≡ (n, get_or values 0 nil) ∷ [] = ap (λ (x : Object). (n, x) ∷ []) (ap (value_object objects) c.local.ensures.value ∙ sym first) in
+    let bound = one_bound d.formals values n (sym c.len.ensures ∙ c.if-len-eq1.true) c.local.ensures.name in
+    subst (λ (e : List (ℕ × Object)). Tells c.args.setting.now.world.now.definitions c.args.setting.now.functions.now e d.body c.args.given.left c.args.arena.now c.at_once.new.arena c.at_once.new.alists c.at_once.result) (same ∙ sym bound) c.at_once.ensures
+
+pub body-returns-then-len-eq2 : goal.body-returns-then-len-eq2
+body-returns-then-len-eq2 t c values first second =
+    let objects = c.args.arena.now.objects in
+    let d = definition_of c.args.def.now in
+    let a = c.local-then-len-eq2 in
+    let b = c.local-then-len-eq2-2 in
+    let n = a.result.name.number in
+    let k = b.result.name.number in
+    let x : value_object objects a.result.value ≡ get_or values 0 nil = ap (value_object objects) a.ensures.value ∙ sym first in
+    let y : value_object objects b.result.value ≡ get_or values 1 nil = ap (value_object objects) b.ensures.value ∙ sym second in
+    let same : (n, value_object objects a.result.value) ∷ (k, value_object objects b.result.value) ∷ [] ≡ (n, get_or values 0 nil) ∷ (k, get_or values 1 nil) ∷ [] = λ i. (n, x i) ∷ (k, y i) ∷ [] in
+    let bound = two_bound d.formals values n k (sym c.len-else-len-eq1.ensures ∙ c.if-len-eq2.true) a.ensures.name b.ensures.name in
+    subst (λ (e : List (ℕ × Object)). Tells c.args.setting.now.world.now.definitions c.args.setting.now.functions.now e d.body c.args.given.left c.args.arena.now c.at_once-then-len-eq2.new.arena c.at_once-then-len-eq2.new.alists c.at_once-then-len-eq2.result) (same ∙ sym bound) c.at_once-then-len-eq2.ensures
 
 pub arguments-returns-in_err-first : goal.arguments-returns-in_err-first
 arguments-returns-in_err-first t c =
     let env = scope_env c.args.arena.now.objects c.args.scope.now in
-    let first : slice_get c.args.terms.now 0 ≡ Some c.index-terms-0.result = at_index c.args.terms.now 0 c.index-terms-0.result (omega (arith, c.if-terms-eq1.true)) c.index-terms-0.is in
+    let x = c.index-terms-0.result in
+    let first : slice_get c.args.terms.now 0 ≡ Some x = at_index c.args.terms.now 0 x (omega (arith, c.if-count-eq0.false)) c.index-terms-0.is in
+    let more = first_term c.args.terms.now x first in
     let refused : IsErr c.from_residual.result = search rules in
     let full : IsErrOf c.from_residual.result stop.Full → IsErrOf c.at_once.result stop.Full = λ e. search rules in
-    first_refused c.args.setting.now.world.now.definitions c.args.setting.now.functions.now env (terms_of c.args.terms.now) (term_of c.index-terms-0.result) _ c.args.left c.args.arena.now c.at_once.new.arena c.at_once.new.alists c.from_residual.result
-    (one_term c.args.terms.now c.index-terms-0.result c.if-terms-eq1.true first) refused c.at_once.ensures.adds c.at_once.ensures.agree (λ e. c.at_once.ensures.lacks (full e))
+    first_refused c.args.setting.now.world.now.definitions c.args.setting.now.functions.now env (terms_of c.args.terms.now) (term_of x) more.0 c.args.left c.args.arena.now c.at_once.new.arena c.at_once.new.alists c.from_residual.result
+    more.1 refused c.at_once.ensures.adds c.at_once.ensures.agree (λ e. c.at_once.ensures.lacks (full e))
 
-pub arguments-returns-in_err-first-2 : goal.arguments-returns-in_err-first-2
-arguments-returns-in_err-first-2 t c =
+pub arguments-returns-then-count-eq1 : goal.arguments-returns-then-count-eq1
+arguments-returns-then-count-eq1 t c =
     let env = scope_env c.args.arena.now.objects c.args.scope.now in
-    let x = c.index-terms-0-then-terms-eq2.result in
-    let first : slice_get c.args.terms.now 0 ≡ Some x = at_index c.args.terms.now 0 x (omega (arith, c.if-terms-eq2.true)) c.index-terms-0-then-terms-eq2.is in
-    let more = first_term c.args.terms.now x first in
-    let refused : IsErr c.from_residual-in_err-first-2.result = search rules in
-    let full : IsErrOf c.from_residual-in_err-first-2.result stop.Full → IsErrOf c.at_once-then-terms-eq2.result stop.Full = λ e. search rules in
-    first_refused c.args.setting.now.world.now.definitions c.args.setting.now.functions.now env (terms_of c.args.terms.now) (term_of x) more.0 c.args.left c.args.arena.now c.at_once-then-terms-eq2.new.arena c.at_once-then-terms-eq2.new.alists c.from_residual-in_err-first-2.result
-    more.1 refused c.at_once-then-terms-eq2.ensures.adds c.at_once-then-terms-eq2.ensures.agree (λ e. c.at_once-then-terms-eq2.ensures.lacks (full e))
+    let x = c.index-terms-0.result in
+    let first : slice_get c.args.terms.now 0 ≡ Some x = at_index c.args.terms.now 0 x (omega (arith, c.if-count-eq0.false)) c.index-terms-0.is in
+    one_tells c.args.setting.now.world.now.definitions c.args.setting.now.functions.now env (terms_of c.args.terms.now) (term_of x) c.args.left c.args.arena.now c.at_once.new.arena c.at_once.new.alists c.in_ok-first.first nothing
+    (one_term c.args.terms.now x c.if-count-eq1.true first) refl tt c.in_ok-first.ensures.adds c.in_ok-first.ensures.agree c.in_ok-first.ensures.found
 
-pub arguments-at_once-requires-then-terms-eq2-2 : goal.arguments-at_once-requires-then-terms-eq2-2
-arguments-at_once-requires-then-terms-eq2-2 t c =
+pub arguments-at_once-requires-2 : goal.arguments-at_once-requires-2
+arguments-at_once-requires-2 t c =
     let old = c.args.arena.now in
-    let mid = c.at_once-then-terms-eq2.new.arena in
-    (search rules, (c.at_once-then-terms-eq2.ensures.adds.whole, ((scope_grown old.objects mid.objects c.at_once-then-terms-eq2.ensures.adds.grown c.args.scope.now c.requires.scope).0, c.at_once-then-terms-eq2.ensures.agree)))
+    let mid = c.at_once.new.arena in
+    (search rules, (c.at_once.ensures.adds.whole, ((scope_grown old.objects mid.objects c.at_once.ensures.adds.grown c.args.scope.now c.requires.scope).0, c.at_once.ensures.agree)))
 
 pub arguments-returns-in_err-second : goal.arguments-returns-in_err-second
 arguments-returns-in_err-second t c =
     let ds = c.args.setting.now.world.now.definitions in
     let fs = c.args.setting.now.functions.now in
     let old = c.args.arena.now in
-    let mid = c.at_once-then-terms-eq2.new.arena in
-    let new = c.at_once-then-terms-eq2-2.new.arena in
+    let mid = c.at_once.new.arena in
+    let new = c.at_once-2.new.arena in
     let env = scope_env old.objects c.args.scope.now in
-    let x = c.index-terms-0-then-terms-eq2.result in
+    let x = c.index-terms-0.result in
     let y = c.index-terms-1.result in
-    let first : slice_get c.args.terms.now 0 ≡ Some x = at_index c.args.terms.now 0 x (omega (arith, c.if-terms-eq2.true)) c.index-terms-0-then-terms-eq2.is in
-    let second : slice_get c.args.terms.now 1 ≡ Some y = at_index c.args.terms.now 1 y (omega (arith, c.if-terms-eq2.true)) c.index-terms-1.is in
-    let refused : IsErr c.from_residual-in_err-second.result = search rules in
-    let full : IsErrOf c.from_residual-in_err-second.result stop.Full → IsErrOf c.at_once-then-terms-eq2-2.result stop.Full = λ e. search rules in
-    let same = (scope_grown old.objects mid.objects c.at_once-then-terms-eq2.ensures.adds.grown c.args.scope.now c.requires.scope).1 in
-    let rest = subst (λ (e : List (ℕ × _)). Tells ds fs e (term_of y) c.in_ok-first-2.first.left mid new c.at_once-then-terms-eq2-2.new.alists c.at_once-then-terms-eq2-2.result) same c.at_once-then-terms-eq2-2.ensures in
-    second_refused ds fs env (terms_of c.args.terms.now) (term_of x) (term_of y) _ c.args.left old mid new c.at_once-then-terms-eq2-2.new.alists c.from_residual-in_err-second.result
-    (two_terms c.args.terms.now x y c.if-terms-eq2.true first second) refused c.at_once-then-terms-eq2.ensures.adds rest.adds rest.agree (λ e. rest.lacks (full e))
-
-pub arguments-returns-in_ok-first : goal.arguments-returns-in_ok-first
-arguments-returns-in_ok-first t c =
-    let env = scope_env c.args.arena.now.objects c.args.scope.now in
-    let first : slice_get c.args.terms.now 0 ≡ Some c.index-terms-0.result = at_index c.args.terms.now 0 c.index-terms-0.result (omega (arith, c.if-terms-eq1.true)) c.index-terms-0.is in
-    one_tells c.args.setting.now.world.now.definitions c.args.setting.now.functions.now env (terms_of c.args.terms.now) (term_of c.index-terms-0.result) c.args.left c.args.arena.now c.at_once.new.arena c.at_once.new.alists c.in_ok-first.first _
-    (one_term c.args.terms.now c.index-terms-0.result c.if-terms-eq1.true first) refl tt c.in_ok-first.ensures.adds c.in_ok-first.ensures.agree c.in_ok-first.ensures.found
-
-pub arguments-returns-in_ok-second : goal.arguments-returns-in_ok-second
-arguments-returns-in_ok-second t c =
-    let ds = c.args.setting.now.world.now.definitions in
-    let fs = c.args.setting.now.functions.now in
-    let old = c.args.arena.now in
-    let mid = c.at_once-then-terms-eq2.new.arena in
-    let new = c.at_once-then-terms-eq2-2.new.arena in
-    let env = scope_env old.objects c.args.scope.now in
-    let x = c.index-terms-0-then-terms-eq2.result in
-    let y = c.index-terms-1.result in
-    let found = c.in_ok-first-2.first in
-    let first : slice_get c.args.terms.now 0 ≡ Some x = at_index c.args.terms.now 0 x (omega (arith, c.if-terms-eq2.true)) c.index-terms-0-then-terms-eq2.is in
-    let second : slice_get c.args.terms.now 1 ≡ Some y = at_index c.args.terms.now 1 y (omega (arith, c.if-terms-eq2.true)) c.index-terms-1.is in
-    let same = (scope_grown old.objects mid.objects c.in_ok-first-2.ensures.adds.grown c.args.scope.now c.requires.scope).1 in
-    let rest = subst (λ (e : List (ℕ × _)). Tells ds fs e (term_of y) found.left mid new c.at_once-then-terms-eq2-2.new.alists (Ok c.in_ok-second.second)) same c.in_ok-second.ensures in
-    two_tell ds fs env (terms_of c.args.terms.now) (term_of x) (term_of y) c.args.left old mid new c.at_once-then-terms-eq2-2.new.alists found c.in_ok-second.second _
-    (two_terms c.args.terms.now x y c.if-terms-eq2.true first second) refl tt c.in_ok-first-2.ensures.adds c.in_ok-first-2.ensures.found rest.adds rest.agree rest.found
-
-pub answered-returns-in_err-given : goal.answered-returns-in_err-given
-answered-returns-in_err-given t c =
-    let env = scope_env c.args.arena.now.objects c.args.scope.now in
-    let refused : IsErr c.from_residual.result = search rules in
-    let full : IsErrOf c.from_residual.result stop.Full → IsErrOf c.arguments.result stop.Full = λ e. search rules in
-    call_refused c.args.setting.now.world.now.definitions c.args.setting.now.functions.now env (Call c.args.f.number (terms_of c.args.terms.now)) c.args.f.number (terms_of c.args.terms.now) (c.args.left + 1) c.args.arena.now c.arguments.new.arena c.arguments.new.alists c.from_residual.result
-    refl refused c.arguments.ensures.adds c.arguments.ensures.agree (λ e. c.arguments.ensures.lacks (full e))
-
-pub arguments-at_once-requires-then-terms-eq3-2 : goal.arguments-at_once-requires-then-terms-eq3-2
-arguments-at_once-requires-then-terms-eq3-2 t c =
-    let old = c.args.arena.now in
-    let mid = c.at_once-then-terms-eq3.new.arena in
-    (search rules, (c.at_once-then-terms-eq3.ensures.adds.whole, ((scope_grown old.objects mid.objects c.at_once-then-terms-eq3.ensures.adds.grown c.args.scope.now c.requires.scope).0, c.at_once-then-terms-eq3.ensures.agree)))
-
-pub opened-answered-requires : goal.opened-answered-requires
-opened-answered-requires t c =
-    let table : is_among (answered_in c.args.setting.now.world.now.definitions) c.in-Call.f.number ≡ true = sym c.is_answered.ensures ∙ c.if-is_answered.true in
-    (search rules, (c.requires.whole, (c.requires.scope, (c.requires.agree, table))))
-
-pub answered-answer-requires-clause-agree : goal.answered-answer-requires-clause-agree
-answered-answer-requires-clause-agree t c = tables_on c.arguments.new.arena.objects c.ids_of.new.arena.objects c.ids_of.ensures.adds.grown c.arguments.new.alists c.arguments.ensures.agree
-
-pub answered-returns-in-Err : goal.answered-returns-in-Err
-answered-returns-in-Err t c =
-    let parts = c.in_ok-given.ensures in
-    let agree = tables_on c.arguments.new.arena.objects c.ids_of.new.arena.objects c.ids_of.ensures.adds.grown c.arguments.new.alists parts.agree in
-    entering_refused c.args.setting.now.world.now.definitions c.args.setting.now.functions.now (scope_env c.args.arena.now.objects c.args.scope.now) (world_ground c.args.setting.now.world.now.definitions c.args.setting.now.world.now.cliques c.count-count.ensures.world) c.args.f.number (terms_of c.args.terms.now) c.args.left c.args.arena.now c.arguments.new.arena
-    c.in_ok-given.given c.requires.answered parts.adds parts.given c.ids_of.new.arena c.ids_of.ensures.adds c.arguments.new.alists agree
-
-pub answered-returns-in-Err-Full : goal.answered-returns-in-Err-Full
-answered-returns-in-Err-Full t c =
-    let late = c.ids_of.new.arena in
-    let new = c.answer.new.arena in
-    let f = c.args.f.number in
-    let g = c.in_ok-given.given in
-    let parts = c.in_ok-given.ensures in
-    let ids = c.in-Ok.ensures.ids in
-    let made : AddsCellsOf (table_value f (value_object c.arguments.new.arena.objects g.first) (value_object c.arguments.new.arena.objects g.second) (value_object c.arguments.new.arena.objects g.third)) late.objects new.objects =
-    subst (λ (x : Object). AddsCellsOf x late.objects new.objects) (λ i. table_value f (ids.0.1 i) (ids.1.0.1 i) (ids.1.1.1 i)) c.answer.ensures.makes.objects in
-    answering_refused c.args.setting.now.world.now.definitions c.args.setting.now.functions.now (scope_env c.args.arena.now.objects c.args.scope.now) (world_ground c.args.setting.now.world.now.definitions c.args.setting.now.world.now.cliques c.count-count.ensures.world) f (terms_of c.args.terms.now) c.args.left c.args.arena.now c.arguments.new.arena
-    g c.requires.answered parts.adds parts.given late c.ids_of.ensures.adds new made c.answer.ensures.makes.limit c.answer.ensures.whole c.answer.new.alists c.answer.ensures.agree stop.Beyond (λ e. absurd cc)
-
-pub answered-returns-in-Err-Memory : goal.answered-returns-in-Err-Memory
-answered-returns-in-Err-Memory t c =
-    let late = c.ids_of.new.arena in
-    let new = c.answer.new.arena in
-    let f = c.args.f.number in
-    let g = c.in_ok-given.given in
-    let parts = c.in_ok-given.ensures in
-    let ids = c.in-Ok.ensures.ids in
-    let made : AddsCellsOf (table_value f (value_object c.arguments.new.arena.objects g.first) (value_object c.arguments.new.arena.objects g.second) (value_object c.arguments.new.arena.objects g.third)) late.objects new.objects =
-    subst (λ (x : Object). AddsCellsOf x late.objects new.objects) (λ i. table_value f (ids.0.1 i) (ids.1.0.1 i) (ids.1.1.1 i)) c.answer.ensures.makes.objects in
-    answering_refused c.args.setting.now.world.now.definitions c.args.setting.now.functions.now (scope_env c.args.arena.now.objects c.args.scope.now) (world_ground c.args.setting.now.world.now.definitions c.args.setting.now.world.now.cliques c.count-count.ensures.world) f (terms_of c.args.terms.now) c.args.left c.args.arena.now c.arguments.new.arena
-    g c.requires.answered parts.adds parts.given late c.ids_of.ensures.adds new made c.answer.ensures.makes.limit c.answer.ensures.whole c.answer.new.alists c.answer.ensures.agree stop.Memory (λ e. absurd cc)
-
-pub answered-returns-in-Ok-answer : goal.answered-returns-in-Ok-answer
-answered-returns-in-Ok-answer t c =
-    let late = c.ids_of.new.arena in
-    let new = c.answer.new.arena in
-    let f = c.args.f.number in
-    let g = c.in_ok-given.given in
-    let parts = c.in_ok-given.ensures in
-    let ids = c.in-Ok.ensures.ids in
-    let the_answer : Object = table_value f (value_object c.arguments.new.arena.objects g.first) (value_object c.arguments.new.arena.objects g.second) (value_object c.arguments.new.arena.objects g.third) in
-    let same : table_value f (object_at late.objects c.in-Ok.ids.first) (object_at late.objects c.in-Ok.ids.second) (object_at late.objects c.in-Ok.ids.third) ≡ the_answer = λ i. table_value f (ids.0.1 i) (ids.1.0.1 i) (ids.1.1.1 i) in
-    let made = subst (λ (x : Object). AddsCellsOf x late.objects new.objects) same c.answer.ensures.makes.objects in
-    let is = subst (λ (x : Object). IsIdOf new.objects x c.in-Ok-answer.id) same c.in-Ok-answer.ensures.makes.id in
-    answered_tells c.args.setting.now.world.now.definitions c.args.setting.now.functions.now (scope_env c.args.arena.now.objects c.args.scope.now) (world_ground c.args.setting.now.world.now.definitions c.args.setting.now.world.now.cliques c.count-count.ensures.world) f (terms_of c.args.terms.now) c.args.left c.args.arena.now c.arguments.new.arena
-    g c.requires.answered parts.adds parts.given late c.ids_of.ensures.adds new made c.answer.ensures.makes.limit c.answer.ensures.whole c.answer.new.alists c.answer.ensures.agree c.of.result (c.of.ensures.live new.objects is.0) (c.of.ensures.value new.objects ∙ is.1)
-
-pub arguments-at_once-requires-then-terms-eq3-3 : goal.arguments-at_once-requires-then-terms-eq3-3
-arguments-at_once-requires-then-terms-eq3-3 t c =
-    let old = c.args.arena.now in
-    let mid = c.at_once-then-terms-eq3.new.arena in
-    let late = c.at_once-then-terms-eq3-2.new.arena in
-    let first = scope_grown old.objects mid.objects c.at_once-then-terms-eq3.ensures.adds.grown c.args.scope.now c.requires.scope in
-    let second = scope_grown mid.objects late.objects c.at_once-then-terms-eq3-2.ensures.adds.grown c.args.scope.now first.0 in
-    (search rules, (c.at_once-then-terms-eq3-2.ensures.adds.whole, (second.0, c.at_once-then-terms-eq3-2.ensures.agree)))
-
-pub arguments-returns-in_err-first-3 : goal.arguments-returns-in_err-first-3
-arguments-returns-in_err-first-3 t c =
-    let env = scope_env c.args.arena.now.objects c.args.scope.now in
-    let x = c.index-terms-0-then-terms-eq3.result in
-    let first : slice_get c.args.terms.now 0 ≡ Some x = at_index c.args.terms.now 0 x (omega (arith, c.if-terms-eq3.true)) c.index-terms-0-then-terms-eq3.is in
-    let more = first_term c.args.terms.now x first in
-    let refused : IsErr c.from_residual-in_err-first-3.result = search rules in
-    let full : IsErrOf c.from_residual-in_err-first-3.result stop.Full → IsErrOf c.at_once-then-terms-eq3.result stop.Full = λ e. search rules in
-    first_refused c.args.setting.now.world.now.definitions c.args.setting.now.functions.now env (terms_of c.args.terms.now) (term_of x) more.0 c.args.left c.args.arena.now c.at_once-then-terms-eq3.new.arena c.at_once-then-terms-eq3.new.alists c.from_residual-in_err-first-3.result
-    more.1 refused c.at_once-then-terms-eq3.ensures.adds c.at_once-then-terms-eq3.ensures.agree (λ e. c.at_once-then-terms-eq3.ensures.lacks (full e))
-
-pub arguments-returns-in_err-second-2 : goal.arguments-returns-in_err-second-2
-arguments-returns-in_err-second-2 t c =
-    let ds = c.args.setting.now.world.now.definitions in
-    let fs = c.args.setting.now.functions.now in
-    let old = c.args.arena.now in
-    let mid = c.at_once-then-terms-eq3.new.arena in
-    let new = c.at_once-then-terms-eq3-2.new.arena in
-    let env = scope_env old.objects c.args.scope.now in
-    let x = c.index-terms-0-then-terms-eq3.result in
-    let y = c.index-terms-1-then-terms-eq3.result in
-    let first : slice_get c.args.terms.now 0 ≡ Some x = at_index c.args.terms.now 0 x (omega (arith, c.if-terms-eq3.true)) c.index-terms-0-then-terms-eq3.is in
-    let second : slice_get c.args.terms.now 1 ≡ Some y = at_index c.args.terms.now 1 y (omega (arith, c.if-terms-eq3.true)) c.index-terms-1-then-terms-eq3.is in
+    let first : slice_get c.args.terms.now 0 ≡ Some x = at_index c.args.terms.now 0 x (omega (arith, c.if-count-eq0.false)) c.index-terms-0.is in
+    let second : slice_get c.args.terms.now 1 ≡ Some y = at_index c.args.terms.now 1 y (omega (arith, c.if-count-eq0.false, c.if-count-eq1.false)) c.index-terms-1.is in
     let more = second_term c.args.terms.now x y first second in
-    let refused : IsErr c.from_residual-in_err-second-2.result = search rules in
-    let full : IsErrOf c.from_residual-in_err-second-2.result stop.Full → IsErrOf c.at_once-then-terms-eq3-2.result stop.Full = λ e. search rules in
-    let same = (scope_grown old.objects mid.objects c.at_once-then-terms-eq3.ensures.adds.grown c.args.scope.now c.requires.scope).1 in
-    let rest = subst (λ (e : List (ℕ × _)). Tells ds fs e (term_of y) c.in_ok-first-3.first.left mid new c.at_once-then-terms-eq3-2.new.alists c.at_once-then-terms-eq3-2.result) same c.at_once-then-terms-eq3-2.ensures in
-    second_refused ds fs env (terms_of c.args.terms.now) (term_of x) (term_of y) more.0 c.args.left old mid new c.at_once-then-terms-eq3-2.new.alists c.from_residual-in_err-second-2.result
-    more.1 refused c.at_once-then-terms-eq3.ensures.adds rest.adds rest.agree (λ e. rest.lacks (full e))
+    let answer = c.from_residual-in_err-second.result in
+    let refused : IsErr answer = search rules in
+    let full : IsErrOf answer stop.Full → IsErrOf c.at_once-2.result stop.Full = λ e. search rules in
+    let same = (scope_grown old.objects mid.objects c.at_once.ensures.adds.grown c.args.scope.now c.requires.scope).1 in
+    let rest = subst (λ (e : List (ℕ × _)). Tells ds fs e (term_of y) c.in_ok-first.first.left mid new c.at_once-2.new.alists c.at_once-2.result) same c.at_once-2.ensures in
+    second_refused ds fs env (terms_of c.args.terms.now) (term_of x) (term_of y) more.0 c.args.left old mid new c.at_once-2.new.alists answer
+    more.1 refused c.at_once.ensures.adds rest.adds rest.agree (λ e. rest.lacks (full e))
+
+pub arguments-returns-then-count-eq2 : goal.arguments-returns-then-count-eq2
+arguments-returns-then-count-eq2 t c =
+    let ds = c.args.setting.now.world.now.definitions in
+    let fs = c.args.setting.now.functions.now in
+    let old = c.args.arena.now in
+    let mid = c.at_once.new.arena in
+    let new = c.at_once-2.new.arena in
+    let env = scope_env old.objects c.args.scope.now in
+    let x = c.index-terms-0.result in
+    let y = c.index-terms-1.result in
+    let found = c.in_ok-first.first in
+    let first : slice_get c.args.terms.now 0 ≡ Some x = at_index c.args.terms.now 0 x (omega (arith, c.if-count-eq0.false)) c.index-terms-0.is in
+    let second : slice_get c.args.terms.now 1 ≡ Some y = at_index c.args.terms.now 1 y (omega (arith, c.if-count-eq2.true)) c.index-terms-1.is in
+    let same = (scope_grown old.objects mid.objects c.in_ok-first.ensures.adds.grown c.args.scope.now c.requires.scope).1 in
+    let rest = subst (λ (e : List (ℕ × _)). Tells ds fs e (term_of y) found.left mid new c.at_once-2.new.alists (Ok c.in_ok-second.second)) same c.in_ok-second.ensures in
+    two_tell ds fs env (terms_of c.args.terms.now) (term_of x) (term_of y) c.args.left old mid new c.at_once-2.new.alists found c.in_ok-second.second nothing
+    (two_terms c.args.terms.now x y c.if-count-eq2.true first second) refl tt c.in_ok-first.ensures.adds c.in_ok-first.ensures.found rest.adds rest.agree rest.found
+
+pub arguments-at_once-requires-3 : goal.arguments-at_once-requires-3
+arguments-at_once-requires-3 t c =
+    let old = c.args.arena.now in
+    let mid = c.at_once.new.arena in
+    let late = c.at_once-2.new.arena in
+    let first = scope_grown old.objects mid.objects c.at_once.ensures.adds.grown c.args.scope.now c.requires.scope in
+    let second = scope_grown mid.objects late.objects c.at_once-2.ensures.adds.grown c.args.scope.now first.0 in
+    (search rules, (c.at_once-2.ensures.adds.whole, (second.0, c.at_once-2.ensures.agree)))
 
 pub arguments-returns-in_err-third : goal.arguments-returns-in_err-third
 arguments-returns-in_err-third t c =
     let ds = c.args.setting.now.world.now.definitions in
     let fs = c.args.setting.now.functions.now in
     let old = c.args.arena.now in
-    let mid = c.at_once-then-terms-eq3.new.arena in
-    let late = c.at_once-then-terms-eq3-2.new.arena in
-    let new = c.at_once-then-terms-eq3-3.new.arena in
+    let mid = c.at_once.new.arena in
+    let late = c.at_once-2.new.arena in
+    let new = c.at_once-3.new.arena in
     let env = scope_env old.objects c.args.scope.now in
-    let x = c.index-terms-0-then-terms-eq3.result in
-    let y = c.index-terms-1-then-terms-eq3.result in
+    let x = c.index-terms-0.result in
+    let y = c.index-terms-1.result in
     let z = c.index-terms-2.result in
-    let first : slice_get c.args.terms.now 0 ≡ Some x = at_index c.args.terms.now 0 x (omega (arith, c.if-terms-eq3.true)) c.index-terms-0-then-terms-eq3.is in
-    let second : slice_get c.args.terms.now 1 ≡ Some y = at_index c.args.terms.now 1 y (omega (arith, c.if-terms-eq3.true)) c.index-terms-1-then-terms-eq3.is in
-    let third : slice_get c.args.terms.now 2 ≡ Some z = at_index c.args.terms.now 2 z (omega (arith, c.if-terms-eq3.true)) c.index-terms-2.is in
-    let refused : IsErr c.from_residual-in_err-third.result = search rules in
-    let full : IsErrOf c.from_residual-in_err-third.result stop.Full → IsErrOf c.at_once-then-terms-eq3-3.result stop.Full = λ e. search rules in
-    let g = scope_grown old.objects mid.objects c.at_once-then-terms-eq3.ensures.adds.grown c.args.scope.now c.requires.scope in
-    let h = scope_grown mid.objects late.objects c.at_once-then-terms-eq3-2.ensures.adds.grown c.args.scope.now g.0 in
-    let next = subst (λ (e : List (ℕ × _)). Tells ds fs e (term_of y) c.in_ok-first-3.first.left mid late c.at_once-then-terms-eq3-2.new.alists c.at_once-then-terms-eq3-2.result) g.1 c.at_once-then-terms-eq3-2.ensures in
-    let last = subst (λ (e : List (ℕ × _)). Tells ds fs e (term_of z) c.in_ok-second-2.second.left late new c.at_once-then-terms-eq3-3.new.alists c.at_once-then-terms-eq3-3.result) (h.1 ∙ g.1) c.at_once-then-terms-eq3-3.ensures in
-    third_refused ds fs env (terms_of c.args.terms.now) (term_of x) (term_of y) (term_of z) _ c.args.left old mid late new c.at_once-then-terms-eq3-3.new.alists c.from_residual-in_err-third.result
-    (three_terms c.args.terms.now x y z c.if-terms-eq3.true first second third) refused c.at_once-then-terms-eq3.ensures.adds next.adds last.adds last.agree (λ e. last.lacks (full e))
+    let three : length c.args.terms.now ≡ 3 = omega (arith, c.if-count-eq0.false, c.if-count-gt3.false, c.if-count-eq1.false, c.if-count-eq2.false) in
+    let first : slice_get c.args.terms.now 0 ≡ Some x = at_index c.args.terms.now 0 x (omega (arith, three)) c.index-terms-0.is in
+    let second : slice_get c.args.terms.now 1 ≡ Some y = at_index c.args.terms.now 1 y (omega (arith, three)) c.index-terms-1.is in
+    let third : slice_get c.args.terms.now 2 ≡ Some z = at_index c.args.terms.now 2 z (omega (arith, three)) c.index-terms-2.is in
+    let answer = c.from_residual-in_err-third.result in
+    let refused : IsErr answer = search rules in
+    let full : IsErrOf answer stop.Full → IsErrOf c.at_once-3.result stop.Full = λ e. search rules in
+    let g = scope_grown old.objects mid.objects c.at_once.ensures.adds.grown c.args.scope.now c.requires.scope in
+    let h = scope_grown mid.objects late.objects c.at_once-2.ensures.adds.grown c.args.scope.now g.0 in
+    let next = subst (λ (e : List (ℕ × _)). Tells ds fs e (term_of y) c.in_ok-first.first.left mid late c.at_once-2.new.alists c.at_once-2.result) g.1 c.at_once-2.ensures in
+    let last = subst (λ (e : List (ℕ × _)). Tells ds fs e (term_of z) c.in_ok-second.second.left late new c.at_once-3.new.alists c.at_once-3.result) (h.1 ∙ g.1) c.at_once-3.ensures in
+    third_refused ds fs env (terms_of c.args.terms.now) (term_of x) (term_of y) (term_of z) _ c.args.left old mid late new c.at_once-3.new.alists answer
+    (three_terms c.args.terms.now x y z three first second third) refused c.at_once.ensures.adds next.adds last.adds last.agree (λ e. last.lacks (full e))
 
-pub arguments-returns-in_ok-third : goal.arguments-returns-in_ok-third
-arguments-returns-in_ok-third t c =
+pub arguments-returns : goal.arguments-returns
+arguments-returns t c =
     let ds = c.args.setting.now.world.now.definitions in
     let fs = c.args.setting.now.functions.now in
     let old = c.args.arena.now in
-    let mid = c.at_once-then-terms-eq3.new.arena in
-    let late = c.at_once-then-terms-eq3-2.new.arena in
-    let new = c.at_once-then-terms-eq3-3.new.arena in
+    let mid = c.at_once.new.arena in
+    let late = c.at_once-2.new.arena in
+    let new = c.at_once-3.new.arena in
     let env = scope_env old.objects c.args.scope.now in
-    let x = c.index-terms-0-then-terms-eq3.result in
-    let y = c.index-terms-1-then-terms-eq3.result in
+    let x = c.index-terms-0.result in
+    let y = c.index-terms-1.result in
     let z = c.index-terms-2.result in
-    let a = c.in_ok-first-3.first in
-    let b = c.in_ok-second-2.second in
-    let first : slice_get c.args.terms.now 0 ≡ Some x = at_index c.args.terms.now 0 x (omega (arith, c.if-terms-eq3.true)) c.index-terms-0-then-terms-eq3.is in
-    let second : slice_get c.args.terms.now 1 ≡ Some y = at_index c.args.terms.now 1 y (omega (arith, c.if-terms-eq3.true)) c.index-terms-1-then-terms-eq3.is in
-    let third : slice_get c.args.terms.now 2 ≡ Some z = at_index c.args.terms.now 2 z (omega (arith, c.if-terms-eq3.true)) c.index-terms-2.is in
-    let g = scope_grown old.objects mid.objects c.at_once-then-terms-eq3.ensures.adds.grown c.args.scope.now c.requires.scope in
-    let h = scope_grown mid.objects late.objects c.at_once-then-terms-eq3-2.ensures.adds.grown c.args.scope.now g.0 in
-    let next = subst (λ (e : List (ℕ × _)). Tells ds fs e (term_of y) a.left mid late c.at_once-then-terms-eq3-2.new.alists (Ok b)) g.1 c.in_ok-second-2.ensures in
-    let last = subst (λ (e : List (ℕ × _)). Tells ds fs e (term_of z) b.left late new c.at_once-then-terms-eq3-3.new.alists (Ok c.in_ok-third.third)) (h.1 ∙ g.1) c.in_ok-third.ensures in
-    three_tell ds fs env (terms_of c.args.terms.now) (term_of x) (term_of y) (term_of z) c.args.left old mid late new c.at_once-then-terms-eq3-3.new.alists a b c.in_ok-third.third
-    (three_terms c.args.terms.now x y z c.if-terms-eq3.true first second third) c.in_ok-first-3.ensures.adds c.in_ok-first-3.ensures.found next.adds next.found last.adds last.agree last.found
+    let a = c.in_ok-first.first in
+    let b = c.in_ok-second.second in
+    let three : length c.args.terms.now ≡ 3 = omega (arith, c.if-count-eq0.false, c.if-count-gt3.false, c.if-count-eq1.false, c.if-count-eq2.false) in
+    let first : slice_get c.args.terms.now 0 ≡ Some x = at_index c.args.terms.now 0 x (omega (arith, three)) c.index-terms-0.is in
+    let second : slice_get c.args.terms.now 1 ≡ Some y = at_index c.args.terms.now 1 y (omega (arith, three)) c.index-terms-1.is in
+    let third : slice_get c.args.terms.now 2 ≡ Some z = at_index c.args.terms.now 2 z (omega (arith, three)) c.index-terms-2.is in
+    let g = scope_grown old.objects mid.objects c.at_once.ensures.adds.grown c.args.scope.now c.requires.scope in
+    let h = scope_grown mid.objects late.objects c.at_once-2.ensures.adds.grown c.args.scope.now g.0 in
+    let next = subst (λ (e : List (ℕ × _)). Tells ds fs e (term_of y) a.left mid late c.at_once-2.new.alists (Ok b)) g.1 c.in_ok-second.ensures in
+    let last = subst (λ (e : List (ℕ × _)). Tells ds fs e (term_of z) b.left late new c.at_once-3.new.alists (Ok c.in_ok-third.third)) (h.1 ∙ g.1) c.in_ok-third.ensures in
+    three_tell ds fs env (terms_of c.args.terms.now) (term_of x) (term_of y) (term_of z) c.args.left old mid late new c.at_once-3.new.alists a b c.in_ok-third.third
+    (three_terms c.args.terms.now x y z three first second third) c.in_ok-first.ensures.adds c.in_ok-first.ensures.found next.adds next.found last.adds last.agree last.found
 
 pub zero-returns-in_err-x : goal.zero-returns-in_err-x
-zero-returns-in_err-x t c =
+zero-returns-in_err-x t c f zp =
     let env = scope_env c.args.arena.now.objects c.args.scope.now in
     let x = c.index-terms-0.result in
     let one : length c.args.terms.now ≡ 1 = search rules in
@@ -487,24 +400,65 @@ zero-returns-in_err-x t c =
     let parts = one_term c.args.terms.now x one first in
     let refused : IsErr c.from_residual.result = search rules in
     let full : IsErrOf c.from_residual.result stop.Full → IsErrOf c.at_once.result stop.Full = λ e. search rules in
-    argument_refused c.args.setting.now.world.now.definitions c.args.setting.now.functions.now env c.args.f.number (terms_of c.args.terms.now) (term_of x) parts (c.args.left + 1) c.args.arena.now c.at_once.new.arena c.at_once.new.alists c.from_residual.result refused c.at_once.ensures.adds c.at_once.ensures.agree (λ e. c.at_once.ensures.lacks (full e))
+    argument_refused c.args.setting.now.world.now.definitions c.args.setting.now.functions.now env f (terms_of c.args.terms.now) (term_of x) parts (c.args.left + 1) c.args.arena.now c.at_once.new.arena c.at_once.new.alists c.from_residual.result refused c.at_once.ensures.adds c.at_once.ensures.agree (λ e. c.at_once.ensures.lacks (full e))
 
 pub zero-returns-then-x-test : goal.zero-returns-then-x-test
-zero-returns-then-x-test t c =
+zero-returns-then-x-test t c f zp =
     let env = scope_env c.args.arena.now.objects c.args.scope.now in
     let x = c.index-terms-0.result in
     let one : length c.args.terms.now ≡ 1 = search rules in
     let first : slice_get c.args.terms.now 0 ≡ Some x = at_index c.args.terms.now 0 x (omega (arith, one)) c.index-terms-0.is in
-    zero_refused c.args.setting.now.world.now.definitions c.args.setting.now.functions.now c.args.f.number c.requires.zp env (terms_of c.args.terms.now) (term_of x) (one_term c.args.terms.now x one first) c.args.left c.args.arena.now c.at_once.new.arena c.at_once.new.alists c.in_ok-x.x c.in_ok-x.ensures
+    zero_refused c.args.setting.now.world.now.definitions c.args.setting.now.functions.now f zp env (terms_of c.args.terms.now) (term_of x) (one_term c.args.terms.now x one first) c.args.left c.args.arena.now c.at_once.new.arena c.at_once.new.alists c.in_ok-x.x c.in_ok-x.ensures
 
 pub zero-returns : goal.zero-returns
-zero-returns t c =
+zero-returns t c f zp =
     let env = scope_env c.args.arena.now.objects c.args.scope.now in
     let new = c.at_once.new.arena in
     let x = c.index-terms-0.result in
     let one : length c.args.terms.now ≡ 1 = search rules in
     let first : slice_get c.args.terms.now 0 ≡ Some x = at_index c.args.terms.now 0 x (omega (arith, one)) c.index-terms-0.is in
     let test = c.zero_test-test in
-    let told = zero_tells c.args.setting.now.world.now.definitions c.args.setting.now.functions.now c.args.f.number c.requires.zp env (terms_of c.args.terms.now) (term_of x) (one_term c.args.terms.now x one first) c.args.left c.args.arena.now new c.at_once.new.alists c.in_ok-x.x c.in_ok-x.ensures
+    let told = zero_tells c.args.setting.now.world.now.definitions c.args.setting.now.functions.now f zp env (terms_of c.args.terms.now) (term_of x) (one_term c.args.terms.now x one first) c.args.left c.args.arena.now new c.at_once.new.alists c.in_ok-x.x c.in_ok-x.ensures
     c.truth.result (c.truth.ensures.value new.objects ∙ ap boolean_object test.ensures.holds) (c.truth.ensures.live new.objects) (omega (arith, c.if-x-test.false, test.ensures.visits)) in
-    subst (λ (n : ℕ). Tells c.args.setting.now.world.now.definitions c.args.setting.now.functions.now env (Call c.args.f.number (terms_of c.args.terms.now)) (c.args.left + 1) c.args.arena.now new c.at_once.new.alists (Ok (record { value = c.truth.result; left = c.in_ok-x.x.left - n }))) (sym test.ensures.visits) told
+    subst (λ (n : ℕ). Tells c.args.setting.now.world.now.definitions c.args.setting.now.functions.now env (Call f (terms_of c.args.terms.now)) (c.args.left + 1) c.args.arena.now new c.at_once.new.alists (Ok (record { value = c.truth.result; left = c.in_ok-x.x.left - n }))) (sym test.ensures.visits) told
+
+pub at_once-returns-then-levels-eq0 : goal.at_once-returns-then-levels-eq0
+at_once-returns-then-levels-eq0 t c = beyond_tells c.args.setting.now.world.now.definitions c.args.setting.now.functions.now (scope_env c.args.arena.now.objects c.args.scope.now) (term_of c.args.term.now) c.args.left c.args.arena.now c.args.alists.now c.requires.whole c.requires.agree
+
+pub at_once-returns-in-Let : goal.at_once-returns-in-Let
+at_once-returns-in-Let t c = beyond_tells c.args.setting.now.world.now.definitions c.args.setting.now.functions.now (scope_env c.args.arena.now.objects c.args.scope.now) (term_of c.args.term.now) c.args.left c.args.arena.now c.args.alists.now c.requires.whole c.requires.agree
+
+pub branch-returns-in_default : goal.branch-returns-in_default
+branch-returns-in_default t c = beyond_tells c.args.setting.now.world.now.definitions c.args.setting.now.functions.now (scope_env c.args.arena.now.objects c.args.scope.now) (term_of c.args.term.now) c.args.left c.args.arena.now c.args.alists.now c.requires.whole c.requires.agree
+
+pub operation-returns-in_default : goal.operation-returns-in_default
+operation-returns-in_default t c = beyond_tells c.args.setting.now.world.now.definitions c.args.setting.now.functions.now (scope_env c.args.arena.now.objects c.args.scope.now) (term_of c.args.term.now) c.args.left c.args.arena.now c.args.alists.now c.requires.whole c.requires.agree
+
+pub operation-returns-else-terms-eq2 : goal.operation-returns-else-terms-eq2
+operation-returns-else-terms-eq2 t c = beyond_tells c.args.setting.now.world.now.definitions c.args.setting.now.functions.now (scope_env c.args.arena.now.objects c.args.scope.now) (term_of c.args.term.now) c.args.left c.args.arena.now c.args.alists.now c.requires.whole c.requires.agree
+
+pub opened-returns-in_default : goal.opened-returns-in_default
+opened-returns-in_default t c = beyond_tells c.args.setting.now.world.now.definitions c.args.setting.now.functions.now (scope_env c.args.arena.now.objects c.args.scope.now) (term_of c.args.term.now) c.args.left c.args.arena.now c.args.alists.now c.requires.whole c.requires.agree
+
+pub opened-returns-then-not-opens_at_once : goal.opened-returns-then-not-opens_at_once
+opened-returns-then-not-opens_at_once t c = beyond_tells c.args.setting.now.world.now.definitions c.args.setting.now.functions.now (scope_env c.args.arena.now.objects c.args.scope.now) (term_of c.args.term.now) c.args.left c.args.arena.now c.args.alists.now c.requires.whole c.requires.agree
+
+pub arguments-returns-then-count-eq0 : goal.arguments-returns-then-count-eq0
+arguments-returns-then-count-eq0 t c = beyond_tell_all c.args.setting.now.world.now.definitions c.args.setting.now.functions.now (scope_env c.args.arena.now.objects c.args.scope.now) (terms_of c.args.terms.now) c.args.left c.args.arena.now c.args.alists.now c.requires.whole c.requires.agree
+
+pub body-returns-else-len-eq2 : goal.body-returns-else-len-eq2
+body-returns-else-len-eq2 t c values first second = beyond_tells c.args.setting.now.world.now.definitions c.args.setting.now.functions.now (extended (definition_of c.args.def.now).formals values []) (definition_of c.args.def.now).body c.args.given.left c.args.arena.now c.args.alists.now c.requires.whole c.requires.agree
+
+pub zero-returns-then-terms-ne1 : goal.zero-returns-then-terms-ne1
+zero-returns-then-terms-ne1 t c f zp = beyond_tells c.args.setting.now.world.now.definitions c.args.setting.now.functions.now (scope_env c.args.arena.now.objects c.args.scope.now) (Call f (terms_of c.args.terms.now)) (c.args.left + 1) c.args.arena.now c.args.alists.now c.requires.whole c.requires.agree
+
+pub opened-returns-then-is_zp : goal.opened-returns-then-is_zp
+opened-returns-then-is_zp t c =
+    let ds = c.args.setting.now.world.now.definitions in
+    let fs = c.args.setting.now.functions.now in
+    let old = c.args.arena.now in
+    let new = c.zero.new in
+    let env = scope_env old.objects c.args.scope.now in
+    let f = c.in-Call.f.number in
+    let told = subst (λ (us : List Term). Tells ds fs env (Call f (terms_of us)) (c.args.left - 1 + 1) old new.arena new.alists c.zero.result) c.as_slice-terms.ensures.value (c.zero.ensures f (c.is_zp.ensures c.if-is_zp.true)) in
+    call_same ds fs env (term_of c.args.term.now) f (terms_of c.in-Call.terms.items) c.args.left old new.arena new.alists c.zero.result (ap term_of c.in-Call.is ∙ call_term c.in-Call.f c.in-Call.terms) c.requires.left told

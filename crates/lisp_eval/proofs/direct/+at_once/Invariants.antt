@@ -16,8 +16,8 @@ decreases-opened l = 4 * l.levels
 abbrev pub decreases-arguments : goal.decreases-arguments
 decreases-arguments l = 4 * l.levels + 2
 
-abbrev pub decreases-answered : goal.decreases-answered
-decreases-answered l = 4 * l.levels + 3
+abbrev pub decreases-body : goal.decreases-body
+decreases-body l = 4 * l.levels + 2
 
 abbrev pub decreases-unary : goal.decreases-unary
 decreases-unary l = 4 * l.levels - 1

@@ -1,7 +1,7 @@
 use Rattle.std.proofs.Common.{rules, arith, ◌≡◌, subst, refl, length, Some, slice_get, FitsSigned, to_z, of_z, to_z-of_z, ℕ}
 use Rattle.std.specs.Int.{w64}
 use Rattle.gl_logic.proofs.CellCounts.{at_index}
-use Rattle.lisp_eval.specs.Aheads.{BindsUpTo}
+use Rattle.lisp_eval.specs.Frameless.{BindsUpTo}
 use Rattle.lisp_eval.specs.Outside.{on_locals}
 use Rattle.lisp_eval.specs.declared.value.Value.TheVariants as value
 use Rattle.lisp_eval.proofs.FirstBound.{one_more}

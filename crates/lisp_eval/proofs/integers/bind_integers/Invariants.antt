@@ -1,5 +1,5 @@
 use Rattle.std.proofs.Common.{◌≤◌}
-use Rattle.lisp_eval.specs.Aheads.{BindsUpTo}
+use Rattle.lisp_eval.specs.Frameless.{BindsUpTo}
 use Rattle.lisp_eval.specs.Outside.{on_locals}
 use Rattle.lisp_eval.proofs.integers.bind_integers.Given as goal
 

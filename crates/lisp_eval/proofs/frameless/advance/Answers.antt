@@ -2,21 +2,21 @@ use Rattle.std.proofs.Common.{rules, ◌≡◌, ◌∙◌, ap, sym, subst, refl,
 use Rattle.gl_logic.specs.Every.{Every}
 use Rattle.gl_logic.specs.TermOf.{term_of}
 use Rattle.hons_arena.specs.Ids.{IsLive}
-use Rattle.lisp_eval.specs.Aheads.{AreLiveLocals, EntersLocals, GoesInto}
+use Rattle.lisp_eval.specs.Frameless.{AreLiveLocals, EntersLocals, GoesInto}
 use Rattle.lisp_eval.specs.Outside.{locals_of}
 use Rattle.lisp_eval.specs.States.{env_of}
-use Rattle.lisp_eval.specs.declared.ahead.Step.TheVariants as step
+use Rattle.lisp_eval.specs.declared.frameless.Step.TheVariants as step
 use Rattle.lisp_eval.specs.declared.attempt.Stop.TheVariants as stop
 use Rattle.lisp_eval.specs.declared.frame.Binding.{Binding}
 use Rattle.lisp_eval.specs.declared.value.Local.{Local}
 use Rattle.lisp_eval.proofs.Entering.{tables_on}
-use Rattle.lisp_eval.proofs.StepsAhead.{step_of, first_found, first_stays, value_stops, value_reached, into_grown, later_stops, later_found, later_stays, later_opens, later_adds, ahead_unheld, entering_adds, entering_stops, entering_goes}
-use Rattle.lisp_eval.proofs.ahead.advance.Goals as goal
+use Rattle.lisp_eval.proofs.Advancing.{step_of, first_found, first_stays, value_stops, value_reached, into_grown, later_stops, later_found, later_stays, later_opens, later_adds, advance_unheld, entering_adds, entering_stops, entering_goes}
+use Rattle.lisp_eval.proofs.frameless.advance.Goals as goal
 
 pub returns-in_err-enter-in-Value-clause-tells : goal.returns-in_err-enter-in-Value-clause-tells
 returns-in_err-enter-in-Value-clause-tells c =
-    let ds = c.args.world.now.definitions in
-    let fs = c.args.functions.now in
+    let ds = c.args.setting.now.world.now.definitions in
+    let fs = c.args.setting.now.functions.now in
     let old = c.args.arena.now in
     let env = env_of old.objects c.args.env.now.value.items in
     let t = term_of c.args.term.now in
@@ -33,8 +33,8 @@ returns-in_err-enter-in-Value-clause-tells c =
 
 pub returns-in-Value-clause-tells : goal.returns-in-Value-clause-tells
 returns-in-Value-clause-tells c =
-    let ds = c.args.world.now.definitions in
-    let fs = c.args.functions.now in
+    let ds = c.args.setting.now.world.now.definitions in
+    let fs = c.args.setting.now.functions.now in
     let old = c.args.arena.now in
     let env = env_of old.objects c.args.env.now.value.items in
     let t = term_of c.args.term.now in
@@ -49,8 +49,8 @@ returns-in-Value-clause-tells c =
 
 pub returns-in-Stays-clause-tells : goal.returns-in-Stays-clause-tells
 returns-in-Stays-clause-tells c =
-    let ds = c.args.world.now.definitions in
-    let fs = c.args.functions.now in
+    let ds = c.args.setting.now.world.now.definitions in
+    let fs = c.args.setting.now.functions.now in
     let old = c.args.arena.now in
     let env = env_of old.objects c.args.env.now.value.items in
     let t = term_of c.args.term.now in
@@ -65,8 +65,8 @@ returns-in-Stays-clause-tells c =
 
 pub returns-in_err-enter-in-Value-step-clause-tells : goal.returns-in_err-enter-in-Value-step-clause-tells
 returns-in_err-enter-in-Value-step-clause-tells c =
-    let ds = c.args.world.now.definitions in
-    let fs = c.args.functions.now in
+    let ds = c.args.setting.now.world.now.definitions in
+    let fs = c.args.setting.now.functions.now in
     let old = c.args.arena.now in
     let env = env_of old.objects c.args.env.now.value.items in
     let t = term_of c.args.term.now in
@@ -87,8 +87,8 @@ returns-in_err-enter-in-Value-step-clause-tells c =
 
 pub returns-in-Value-step-clause-tells : goal.returns-in-Value-step-clause-tells
 returns-in-Value-step-clause-tells c =
-    let ds = c.args.world.now.definitions in
-    let fs = c.args.functions.now in
+    let ds = c.args.setting.now.world.now.definitions in
+    let fs = c.args.setting.now.functions.now in
     let old = c.args.arena.now in
     let env = env_of old.objects c.args.env.now.value.items in
     let t = term_of c.args.term.now in
@@ -107,8 +107,8 @@ returns-in-Value-step-clause-tells c =
 
 pub loop-step-preserved-in-Stays-step : goal.loop-step-preserved-in-Stays-step
 loop-step-preserved-in-Stays-step c =
-    let ds = c.args.world.now.definitions in
-    let fs = c.args.functions.now in
+    let ds = c.args.setting.now.world.now.definitions in
+    let fs = c.args.setting.now.functions.now in
     let old = c.args.arena.now in
     let env = env_of old.objects c.args.env.now.value.items in
     let t = term_of c.args.term.now in
@@ -127,8 +127,8 @@ loop-step-preserved-in-Stays-step c =
 
 pub loop-step-preserved : goal.loop-step-preserved
 loop-step-preserved c =
-    let ds = c.args.world.now.definitions in
-    let fs = c.args.functions.now in
+    let ds = c.args.setting.now.world.now.definitions in
+    let fs = c.args.setting.now.functions.now in
     let old = c.args.arena.now in
     let env = env_of old.objects c.args.env.now.value.items in
     let t = term_of c.args.term.now in
@@ -153,8 +153,8 @@ loop-step-preserved c =
 
 pub enter_all-requires-clause-live : goal.enter_all-requires-clause-live
 enter_all-requires-clause-live c =
-    let ds = c.args.world.now.definitions in
-    let fs = c.args.functions.now in
+    let ds = c.args.setting.now.world.now.definitions in
+    let fs = c.args.setting.now.functions.now in
     let old = c.args.arena.now in
     let env = env_of old.objects c.args.env.now.value.items in
     let t = term_of c.args.term.now in
@@ -174,8 +174,8 @@ enter_all-requires-clause-live c =
 
 pub returns-in_err-enter_all-in-Err-Beyond-clause-tells : goal.returns-in_err-enter_all-in-Err-Beyond-clause-tells
 returns-in_err-enter_all-in-Err-Beyond-clause-tells c =
-    let ds = c.args.world.now.definitions in
-    let fs = c.args.functions.now in
+    let ds = c.args.setting.now.world.now.definitions in
+    let fs = c.args.setting.now.functions.now in
     let old = c.args.arena.now in
     let env = env_of old.objects c.args.env.now.value.items in
     let t = term_of c.args.term.now in
@@ -202,8 +202,8 @@ returns-in_err-enter_all-in-Err-Beyond-clause-tells c =
 
 pub returns-in_err-new-in-Err-Beyond-clause-tells : goal.returns-in_err-new-in-Err-Beyond-clause-tells
 returns-in_err-new-in-Err-Beyond-clause-tells c =
-    let ds = c.args.world.now.definitions in
-    let fs = c.args.functions.now in
+    let ds = c.args.setting.now.world.now.definitions in
+    let fs = c.args.setting.now.functions.now in
     let old = c.args.arena.now in
     let env = env_of old.objects c.args.env.now.value.items in
     let t = term_of c.args.term.now in
@@ -225,12 +225,12 @@ returns-in_err-new-in-Err-Beyond-clause-tells c =
     let entered = subst (λ (bs : List Binding). EntersLocals here new last bs bindings c.enter_all.result) c.new-bindings.ensures.items all in
     let answer = c.from_residual-in_err-new-in-Err-Beyond.result in
     let full : answer ≡ Err stop.Memory = search rules in
-    ahead_unheld ds fs env t left old last answer full (entering_adds ds fs env t left old new adds here u rest into last bindings c.enter_all.result entered)
+    advance_unheld ds fs env t left old last answer full (entering_adds ds fs env t left old new adds here u rest into last bindings c.enter_all.result entered)
 
 pub returns-in-Err-Beyond-clause-tells : goal.returns-in-Err-Beyond-clause-tells
 returns-in-Err-Beyond-clause-tells c =
-    let ds = c.args.world.now.definitions in
-    let fs = c.args.functions.now in
+    let ds = c.args.setting.now.world.now.definitions in
+    let fs = c.args.setting.now.functions.now in
     let old = c.args.arena.now in
     let env = env_of old.objects c.args.env.now.value.items in
     let t = term_of c.args.term.now in
@@ -255,8 +255,8 @@ returns-in-Err-Beyond-clause-tells c =
 
 pub returns-in-Err-clause-tells : goal.returns-in-Err-clause-tells
 returns-in-Err-clause-tells c =
-    let ds = c.args.world.now.definitions in
-    let fs = c.args.functions.now in
+    let ds = c.args.setting.now.world.now.definitions in
+    let fs = c.args.setting.now.functions.now in
     let old = c.args.arena.now in
     let env = env_of old.objects c.args.env.now.value.items in
     let t = term_of c.args.term.now in

@@ -16,10 +16,10 @@ use Rattle.lisp_eval.specs.Outside.{value_object, IsLiveValue, locals_of}
 use Rattle.lisp_eval.specs.Sights.{Sees, SeeAll, Adds, Lacks}
 use Rattle.lisp_eval.specs.States.{env_of}
 use Rattle.lisp_eval.specs.Within.{IsIn}
-use Rattle.lisp_eval.specs.declared.ahead.Ahead.{Ahead}
-use Rattle.lisp_eval.specs.declared.ahead.Ahead.TheVariants as ahead
-use Rattle.lisp_eval.specs.declared.ahead.Step.{Step}
-use Rattle.lisp_eval.specs.declared.ahead.Step.TheVariants as step
+use Rattle.lisp_eval.specs.declared.frameless.Reached.{Reached}
+use Rattle.lisp_eval.specs.declared.frameless.Reached.TheVariants as reached
+use Rattle.lisp_eval.specs.declared.frameless.Step.{Step}
+use Rattle.lisp_eval.specs.declared.frameless.Step.TheVariants as step
 use Rattle.lisp_eval.specs.declared.attempt.Scope.{Scope}
 use Rattle.lisp_eval.specs.declared.attempt.Setting.{Setting}
 use Rattle.lisp_eval.specs.declared.attempt.Stop.{Stop}
@@ -79,25 +79,29 @@ module _ (definitions : List Definition) (functions : List ℕ) where
     pub lacks : IsErrOf answer stop.Full → Lacks (Sees definitions functions env t) new
 
   -- the value is there
-  pub record IsReached (env : List (ℕ × Object)) (t : Exp) (left : ℕ) (objects : List Object) (id : Id) (rest : ℕ) : Type 0 where
+  pub record ReachesValue (env : List (ℕ × Object)) (t : Exp) (left : ℕ) (objects : List Object) (id : Id) (rest : ℕ) : Type 0 where
     pub value : Object
     pub is : IsIdOf objects value id
     pub fewer : rest < left
     pub gives : GivesAtOnce definitions functions env t value (left - rest)
 
   -- the evaluation goes on in this environment of ids
-  pub record GoesAhead (env : List (ℕ × Object)) (t : Exp) (left : ℕ) (objects : List Object) (u : Exp) (inner : List Binding) (rest : ℕ) : Type 0 where
+  pub record ReachesTerm (env : List (ℕ × Object)) (t : Exp) (left : ℕ) (objects : List Object) (u : Exp) (inner : List Binding) (rest : ℕ) : Type 0 where
     pub way : GoesOn env t left (env_of objects inner) u rest
     pub live : Every (λ b. IsLive objects b.value) inner
 
-  abbrev pub AheadGoes : List (ℕ × Object) → Exp → ℕ → List Object → Ahead → Type 0
-  AheadGoes env t left objects (ahead.Value id rest) = IsReached env t left objects id rest
-  AheadGoes env t left objects (ahead.Term u inner rest) = GoesAhead env t left objects (term_of u.now) inner.value.items rest
+  abbrev pub Reaches : List (ℕ × Object) → Exp → ℕ → List Object → Reached → Type 0
+  Reaches env t left objects (reached.Value id rest) = ReachesValue env t left objects id rest
+  Reaches env t left objects (reached.Term u inner rest) = ReachesTerm env t left objects (term_of u.now) inner.value.items rest
 
-  pub record AheadTells (env : List (ℕ × Object)) (t : Exp) (left : ℕ) (old new : Held) (answer : Result Ahead Stop) : Type 0 where
+  pub record AdvanceTells (env : List (ℕ × Object)) (t : Exp) (left : ℕ) (old new : Held) (answer : Result Reached Stop) : Type 0 where
     pub adds : Adds (Sees definitions functions env t) old new
-    pub goes : IfOk answer (AheadGoes env t left new.objects)
+    pub goes : IfOk answer (Reaches env t left new.objects)
     pub lacks : IsErrOf answer stop.Full → Lacks (Sees definitions functions env t) new
+
+-- the same of a setting
+abbrev pub AdvanceTellsIn : Setting → List Binding → Exp → ℕ → Held → Held → Result Reached Stop → Type 0
+AdvanceTellsIn setting env t left old new answer = AdvanceTells setting.world.now.definitions setting.functions.now (env_of old.objects env) t left old new answer
 
 -- the same of a setting and a scope
 abbrev pub StepTellsIn : Setting → Scope → Exp → ℕ → Held → Held → List Local → Result Step Stop → Type 0

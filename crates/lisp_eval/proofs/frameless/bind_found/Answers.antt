@@ -4,8 +4,8 @@ use Rattle.lisp_eval.proofs.Entering.{scope_grown}
 use Rattle.lisp_eval.proofs.Grown.{grown_on}
 use Rattle.lisp_eval.proofs.NextBound.{refused, all_bound, one_stops, one_unheld, one_bound}
 use Rattle.gl_logic.proofs.CellCounts.{at_index}
-use Rattle.lisp_eval.proofs.StepsAhead.{told}
-use Rattle.lisp_eval.proofs.ahead.bind_found.Goals as goal
+use Rattle.lisp_eval.proofs.Advancing.{told}
+use Rattle.lisp_eval.proofs.frameless.bind_found.Goals as goal
 
 pub returns-in_err-to-clause-tells : goal.returns-in_err-to-clause-tells
 returns-in_err-to-clause-tells c =

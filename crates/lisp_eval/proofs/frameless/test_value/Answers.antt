@@ -1,6 +1,6 @@
 use Rattle.gl_logic.specs.TermOf.{term_of}
 use Rattle.lisp_eval.proofs.IntegerGives.{here_tells, found_on}
-use Rattle.lisp_eval.proofs.ahead.test_value.Goals as goal
+use Rattle.lisp_eval.proofs.frameless.test_value.Goals as goal
 
 pub returns-in-Some : goal.returns-in-Some
 returns-in-Some c =

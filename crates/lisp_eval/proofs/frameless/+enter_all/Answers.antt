@@ -1,6 +1,6 @@
 use Rattle.std.proofs.Common.{rules, arith, ◌≡◌, ◌-◌, Err, drop, take, length}
-use Rattle.lisp_eval.proofs.StepsAhead.{first_of, first_of_apart, later_length, first_there, one_stops, later_live, later_entered}
-use Rattle.lisp_eval.proofs.ahead.+enter_all.Goals as goal
+use Rattle.lisp_eval.proofs.Advancing.{first_of, first_of_apart, later_length, first_there, one_stops, later_live, later_entered}
+use Rattle.lisp_eval.proofs.frameless.+enter_all.Goals as goal
 
 pub returns-in_err-enter-in-len1-up : goal.returns-in_err-enter-in-len1-up
 returns-in_err-enter-in-len1-up t c =

@@ -1,4 +1,4 @@
-//! Evaluations that go ahead without frames.
+//! Evaluations without frames: as far as they go with no need of one.
 
 ghost use Rattle.std.specs.Prelude.{◌≡◌, ◌≤◌, IfOk, IsTrue, [], ◌∷◌, length};
 ghost use Rattle.fast_alists.specs.Tables.{Agree};
@@ -6,7 +6,7 @@ ghost use Rattle.gl_logic.specs.Every.{Every};
 ghost use Rattle.gl_logic.specs.TermOf.{term_of, terms_of};
 ghost use Rattle.hons_arena.specs.Held.{IsWhole};
 ghost use Rattle.hons_arena.specs.Ids.{IsLive};
-ghost use Rattle.lisp_eval.specs.Aheads.{AheadTells, StepTellsIn, MayOpen, BindsFoundIn, BindsUpTo, EntersLocals, AreLiveLocals};
+ghost use Rattle.lisp_eval.specs.Frameless.{AdvanceTellsIn, StepTellsIn, MayOpen, BindsFoundIn, BindsUpTo, EntersLocals, AreLiveLocals};
 ghost use Rattle.lisp_eval.specs.Attempts.{TellsIn};
 ghost use Rattle.lisp_eval.specs.Directs.{in_scope, IsLiveScope};
 ghost use Rattle.lisp_eval.specs.Outside.{IsLiveValue};
@@ -21,7 +21,6 @@ use crate::value::Local;
 use fast_alists::FastAlists;
 use gl_logic::{FnId, Names, NoMemory, Term, World};
 use hons_arena::{HonsArena, Id};
-use std::alloc::Global;
 use std::mem;
 use std::rc::Rc;
 
@@ -30,7 +29,7 @@ const FORMALS: u64 = 16;
 
 /// Where an evaluation is, with the visits that are left.
 #[derive(Drop)]
-pub enum Ahead<'a> {
+pub enum Reached<'a> {
     /// At its value.
     Value(Id, u64),
     /// At a term in an environment.
@@ -52,47 +51,42 @@ pub enum Step<'a> {
 /// whose arguments are, unless its function is memoized or answered by tables. Beyond where there is nothing to go; Full
 /// only where a value lacks a cell. Cells that were made stay, after a refusal too.
 pub fn advance<'a>(
-    world: &'a World,
-    functions: &'a [u64],
-    alloc: Global,
+    setting: &Setting<'a>,
     arena: &mut HonsArena,
     alists: &mut FastAlists,
     term: &'a Term,
     env: &Rc<Vec<Binding>>,
     left: u64,
-) -> Result<Ahead<'a>, Stop>
+) -> Result<Reached<'a>, Stop>
     requires whole { IsWhole arena.old }
     requires env { Every (λ b. IsLive arena.old.objects b.value) env.now.value.items }
     requires agree { Agree arena.old.objects alists.old }
-    ensures tells { AheadTells world.now.definitions functions.now (env_of arena.old.objects env.now.value.items) (term_of term.now) left arena.old arena.new result }
+    ensures tells { AdvanceTellsIn setting.now env.now.value.items (term_of term.now) left arena.old arena.new result }
     ensures agree { Agree arena.new.objects alists.new }
 {
-    let setting = Setting { world, functions };
-    let mut here = Vec::new(alloc);
+    let mut here = Vec::new(setting.alloc);
     let scope = Scope::Outer(env.as_ref().as_slice());
-    match take_step(&setting, arena, alists, term, &scope, &mut here, left)? {
-        Step::Value(found) => Ok(Ahead::Value(found.value.enter(arena)?, found.left)),
-        Step::Stays(inner, rest) => Ok(Ahead::Term(inner, env.clone()?, rest)),
+    match take_step(setting, arena, alists, term, &scope, &mut here, left)? {
+        Step::Value(found) => Ok(Reached::Value(found.value.enter(arena)?, found.left)),
+        Step::Stays(inner, rest) => Ok(Reached::Term(inner, env.clone()?, rest)),
         Step::Opens(body, rest) => {
             let mut inner = body;
             let mut rest = rest;
-            let mut next = Vec::new(alloc);
+            let mut next = Vec::new(setting.alloc);
             loop {
                 let scope = Scope::Inner(here.as_slice());
-                let step = match take_step(
-                    &setting, arena, alists, inner, &scope, &mut next, rest,
-                ) {
+                let step = match take_step(setting, arena, alists, inner, &scope, &mut next, rest) {
                     Ok(step) => step,
                     Err(Stop::Beyond) => {
-                        let mut bindings = Vec::new(alloc);
+                        let mut bindings = Vec::new(setting.alloc);
                         enter_all(arena, here.as_slice(), &mut bindings)?;
-                        return Ok(Ahead::Term(inner, Rc::new(alloc, bindings)?, rest));
+                        return Ok(Reached::Term(inner, Rc::new(setting.alloc, bindings)?, rest));
                     }
                     Err(stop) => return Err(stop),
                 };
                 match step {
                     Step::Value(found) => {
-                        return Ok(Ahead::Value(found.value.enter(arena)?, found.left));
+                        return Ok(Reached::Value(found.value.enter(arena)?, found.left));
                     }
                     Step::Stays(term, left) => {
                         inner = term;

@@ -1,5 +1,5 @@
 use Rattle.std.proofs.Common.{length}
-use Rattle.lisp_eval.proofs.ahead.+enter_all.Given as goal
+use Rattle.lisp_eval.proofs.frameless.+enter_all.Given as goal
 
 abbrev pub decreases-enter_all : goal.decreases-enter_all
 decreases-enter_all l = length l.locals.now

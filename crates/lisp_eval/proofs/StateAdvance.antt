@@ -1,4 +1,4 @@
--- Steps of the evaluator's loop that go ahead: to a value that is found at once, or to where a walk goes on.
+-- Steps of the evaluator's loop without frames: to a value that is found at once, or to where a walk goes on.
 use Rattle.std.proofs.Common.{◌≡◌, ◌∙◌, ap, sym, refl, subst, ℕ, ◌+◌, List, [], ◌∷◌, ◌++◌, length, arith, append_assoc, Some, inl, inr}
 use Rattle.gl_logic.specs.Object.{Object}
 use Rattle.gl_logic.specs.Definition.{Definition}
@@ -109,16 +109,16 @@ module _ (w : WorldSeen) (functions : List ℕ) (env : List (ℕ × Object)) (t 
   abbrev pub Sights : List Object → Type 0
   Sights = Sees w.definitions functions (env_of objects uenv.value.items) (term_of u.now)
 
-  pub ahead_sees : (seen : List Object) × (Sights seen × ((x : Object) → IsIn seen x → IsIn now.walked.seen x))
-  ahead_sees =
+  pub advance_sees : (seen : List Object) × (Sights seen × ((x : Object) → IsIn seen x → IsIn now.walked.seen x))
+  advance_sees =
       let there : Sees w.definitions functions here_env here walked.walk.seen = record { depth = now.depth; kept = s.kept; walk = walked.walk; walks = walked.walks; sight = refl } in
       (walked.walk.seen, (subst (λ (e : List (ℕ × Object)). Sees w.definitions functions e here walked.walk.seen) (sym env_same) there, λ x h. every_at (IsIn now.walked.seen) walked.walk.seen walked.within x h))
 
   -- ---- the arena has grown by cells of it
   module _ (old new : Held) (same : old.objects ≡ objects) (adds : Adds Sights old new) where
-    ahead_within : AreWithin start now.walked.seen new.objects
-    ahead_within =
-        let k = ahead_sees in
+    advance_within : AreWithin start now.walked.seen new.objects
+    advance_within =
+        let k = advance_sees in
         within_on start now.walked.seen old.objects new.objects (subst (λ (zs : List Object). AreWithin start now.walked.seen zs) (sym same) now.within) (within_more old.objects k.0 now.walked.seen new.objects k.1.1 (adds.within k.0 k.1.0))
 
     grows : Grows objects new.objects
@@ -134,12 +134,12 @@ module _ (w : WorldSeen) (functions : List ℕ) (env : List (ℕ × Object)) (t 
     goes_to v venv visits left' b r e f =
         let step = going_step w s.ground functions env t limit start left (Visit here here_env) s.stack s.kept objects now left' visits f.met (Visit v venv) s.stack s.kept b
         (leads_goes (IsIn now.walked.seen) Narrow ds A functions now.depth here here_env v venv s.stack s.kept visits walked.walk r walked.walks e f) in
-        step.goes_on f.narrow new.objects ahead_within
+        step.goes_on f.narrow new.objects advance_within
 
     -- its value is found at once
-    pub ahead_found : (y : Object) (visits left' : ℕ) → GivesAtOnce w.definitions functions (env_of objects uenv.value.items) (term_of u.now) y visits → visits + left' ≡ left → (id : Id) → IsIdOf new.objects y id
+    pub advance_found : (y : Object) (visits left' : ℕ) → GivesAtOnce w.definitions functions (env_of objects uenv.value.items) (term_of u.now) y visits → visits + left' ≡ left → (id : Id) → IsIdOf new.objects y id
         → State w functions env t limit start left' (focus.Give id) frames new.objects entries
-    ahead_found y visits left' g b id is =
+    advance_found y visits left' g b id is =
         let ends : Ends s.kept y visits walked.walk = subst (λ (e : List (ℕ × Object)). GivesAtOnce w.definitions functions e here y visits) env_same g now.depth s.kept walked.walk walked.walks in
         let step = going_step w s.ground functions env t limit start left (Visit here here_env) s.stack s.kept objects now left' (length walked.walk.seen) walked.walk.seen (Give walked.walk.value) s.stack s.kept (omega (arith, b, ends.count))
         (at_once_goes (IsIn now.walked.seen) Narrow ds A functions now.depth here here_env s.stack s.kept walked.walk walked.walks ends.calls) in
@@ -149,7 +149,7 @@ module _ (w : WorldSeen) (functions : List ℕ) (env : List (ℕ × Object)) (t 
           ground = s.ground;
           kept = s.kept;
           calls = s.calls;
-          going = step.goes_on ends.narrow new.objects ahead_within;
+          going = step.goes_on ends.narrow new.objects advance_within;
           focus_is = λ more. ap Give (stays_at new.objects more id is.0 ∙ (is.1 ∙ sym ends.value));
           frames_are = frames_still;
           entries_are = entries_still;
@@ -158,9 +158,9 @@ module _ (w : WorldSeen) (functions : List ℕ) (env : List (ℕ × Object)) (t 
         }
 
     -- its walk goes on as that of another term
-    pub ahead_leads : (v : _) (inner : _) (visits left' : ℕ) → LeadsTo w.definitions functions (env_of objects uenv.value.items) (term_of u.now) (env_in (focus_of new.objects (focus.Visit v inner))) (term_of v.now) visits → visits + left' ≡ left → Every (λ b. IsLive new.objects b.value) inner.value.items
+    pub advance_leads : (v : _) (inner : _) (visits left' : ℕ) → LeadsTo w.definitions functions (env_of objects uenv.value.items) (term_of u.now) (env_in (focus_of new.objects (focus.Visit v inner))) (term_of v.now) visits → visits + left' ≡ left → Every (λ b. IsLive new.objects b.value) inner.value.items
         → State w functions env t limit start left' (focus.Visit v inner) frames new.objects entries
-    ahead_leads v inner visits left' g b live =
+    advance_leads v inner visits left' g b live =
         let inner_env = env_of new.objects inner.value.items in
         let l = subst (λ (e : List (ℕ × Object)). LeadsTo w.definitions functions e here inner_env (term_of v.now) visits) env_same g now.depth s.kept walked.walk walked.walks in
         record {
@@ -178,8 +178,8 @@ module _ (w : WorldSeen) (functions : List ℕ) (env : List (ℕ × Object)) (t 
         }
 
     -- nothing but the arena has changed
-    pub ahead_stuck : State w functions env t limit start left (focus.Visit u uenv) frames new.objects entries
-    ahead_stuck = record {
+    pub advance_stuck : State w functions env t limit start left (focus.Visit u uenv) frames new.objects entries
+    advance_stuck = record {
       focus = Visit here here_env;
       stack = s.stack;
       ground = s.ground;
@@ -194,8 +194,8 @@ module _ (w : WorldSeen) (functions : List ℕ) (env : List (ℕ × Object)) (t 
     }
 
     -- there is no cell left for something that it sees
-    pub ahead_crowded : Lacks Sights new → IsCrowded w env t start new.limit
-    ahead_crowded lacks =
-        let k = ahead_sees in
+    pub advance_crowded : Lacks Sights new → IsCrowded w env t start new.limit
+    advance_crowded lacks =
+        let k = advance_sees in
         let c = lacks k.0 k.1.0 in
-        going_crowded w s.ground functions env t limit start left (Visit here here_env) s.stack s.kept objects now new c.0 (k.1.1 c.0 c.1.0) c.1.1 adds.whole.different ahead_within
+        going_crowded w s.ground functions env t limit start left (Visit here here_env) s.stack s.kept objects now new c.0 (k.1.1 c.0 c.1.0) c.1.1 adds.whole.different advance_within

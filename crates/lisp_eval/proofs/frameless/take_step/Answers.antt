@@ -2,11 +2,11 @@ use Rattle.std.proofs.Common.{rules, arith, ◌≡◌, ◌∙◌, ap, sym, subst
 use Rattle.gl_logic.specs.DefinitionOf.{definition_of}
 use Rattle.gl_logic.specs.TermOf.{term_of, terms_of}
 use Rattle.gl_logic.specs.declared.term.Term.{Term}
-use Rattle.lisp_eval.specs.Aheads.{BindsFound}
+use Rattle.lisp_eval.specs.Frameless.{BindsFound}
 use Rattle.lisp_eval.specs.Directs.{scope_env}
-use Rattle.lisp_eval.proofs.StepsAhead.{Told, told, test_stops, test_goes, arguments_stop, arguments_go}
+use Rattle.lisp_eval.proofs.Advancing.{Told, told, test_stops, test_goes, arguments_stop, arguments_go}
 use Rattle.gl_logic.proofs.TermForms.{if_term, call_term}
-use Rattle.lisp_eval.proofs.ahead.take_step.Goals as goal
+use Rattle.lisp_eval.proofs.frameless.take_step.Goals as goal
 
 pub returns-in_err-found-in-If-clause-tells : goal.returns-in_err-found-in-If-clause-tells
 returns-in_err-found-in-If-clause-tells c =

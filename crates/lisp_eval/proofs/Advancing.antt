@@ -1,4 +1,4 @@
--- Evaluations that go ahead, in arenas that grow.
+-- Evaluations that go on without frames, in arenas that grow.
 use Rattle.std.proofs.Common.{Bool, cond, Bor, pos, ◌≡◌, ◌∙◌, ap, sym, refl, subst, ℕ, zero, suc, ◌+◌, ◌-◌, ◌<◌, ◌≤◌, List, [], ◌∷◌, ◌++◌, length, drop, arith, get_or, take, slice_get, Some, Result, Ok, Err, IfOk, IsErrOf, append_assoc}
 use Rattle.std.proofs.lemmas.List.{take_all}
 use Rattle.gl_logic.specs.Definition.{Definition}
@@ -15,7 +15,7 @@ use Rattle.hons_arena.specs.declared.id.Full.{Full}
 use Rattle.hons_arena.specs.declared.id.Id.{Id}
 use Rattle.hons_arena.specs.Held.{Held, IsWhole, Places}
 use Rattle.hons_arena.specs.Ids.{object_at, IsLive}
-use Rattle.lisp_eval.specs.Aheads.{AreBound, BindsFound, HasLocals, AreLiveLocals, AreEntered, EntersLocals, GoesOn, GoesInto, StepTells, AheadTells}
+use Rattle.lisp_eval.specs.Frameless.{AreBound, BindsFound, HasLocals, AreLiveLocals, AreEntered, EntersLocals, GoesOn, GoesInto, StepTells, AdvanceTells}
 use Rattle.lisp_eval.specs.Answers.{HasGrown}
 use Rattle.lisp_eval.specs.Attempts.{Alists, Tells}
 use Rattle.lisp_eval.specs.Directs.{GivesAtOnce, GiveAtOnce, IsFound, OpensAtOnce}
@@ -24,10 +24,10 @@ use Rattle.lisp_eval.specs.Outside.{value_object, IsLiveValue, locals_of}
 use Rattle.lisp_eval.specs.Sights.{Sees, SeeAll, Adds, Lacks}
 use Rattle.lisp_eval.specs.States.{env_of}
 use Rattle.lisp_eval.specs.Within.{IsIn}
-use Rattle.lisp_eval.specs.declared.ahead.Ahead.{Ahead}
-use Rattle.lisp_eval.specs.declared.ahead.Ahead.TheVariants as ahead
-use Rattle.lisp_eval.specs.declared.ahead.Step.{Step}
-use Rattle.lisp_eval.specs.declared.ahead.Step.TheVariants as step
+use Rattle.lisp_eval.specs.declared.frameless.Reached.{Reached}
+use Rattle.lisp_eval.specs.declared.frameless.Reached.TheVariants as reached
+use Rattle.lisp_eval.specs.declared.frameless.Step.{Step}
+use Rattle.lisp_eval.specs.declared.frameless.Step.TheVariants as step
 use Rattle.lisp_eval.specs.declared.attempt.Found.{Found}
 use Rattle.lisp_eval.specs.declared.attempt.Stop.{Stop}
 use Rattle.lisp_eval.specs.declared.attempt.Stop.TheVariants as stop
@@ -324,36 +324,36 @@ module _ (ds : List Definition) (functions : List ℕ) (env : List (ℕ × Objec
 pub step_of : (ds : List Definition) (functions : List ℕ) (first inner : List (ℕ × Object)) → first ≡ inner → (u : Exp) (rest : ℕ) (old new : Held) (next : List Local) (r s : Result Step Stop) → r ≡ s → StepTells ds functions first u rest old new next r → StepTells ds functions inner u rest old new next s
 step_of ds functions first inner same u rest old new next r s is h = subst (λ env. StepTells ds functions env u rest old new next s) same (subst (StepTells ds functions first u rest old new next) is h)
 
-abbrev bindings_in : Ahead → List Binding
-bindings_in (ahead.Value id rest) = []
-bindings_in (ahead.Term w bindings rest) = bindings.value.items
+abbrev bindings_in : Reached → List Binding
+bindings_in (reached.Value id rest) = []
+bindings_in (reached.Term w bindings rest) = bindings.value.items
 
 module _ (ds : List Definition) (functions : List ℕ) (env : List (ℕ × Object)) (t : Exp) (left : ℕ) where
   abbrev S : List Object → Type 0
   S = Sees ds functions env t
 
-  abbrev Goes : Held → Held → Result Ahead Stop → Type 0
-  Goes = AheadTells ds functions env t left
+  abbrev Goes : Held → Held → Result Reached Stop → Type 0
+  Goes = AdvanceTells ds functions env t left
 
   abbrev Into : List Object → List Local → Exp → ℕ → Type 0
   Into = GoesInto ds functions env t left
 
-  ahead_stops : {A : Type 0} (old new : Held) (e : Stop) (answer : Result Ahead Stop) → answer ≡ Err e → Adds S old new → (IsErrOf {T = A} {E = Stop} (Err e) stop.Full → Lacks S new) → Goes old new answer
-  ahead_stops old new e answer is adds lacks = subst (Goes old new) (sym is) (record { adds = adds; goes = tt; lacks = λ f. lacks (stops_same e f) })
+  advance_stops : {A : Type 0} (old new : Held) (e : Stop) (answer : Result Reached Stop) → answer ≡ Err e → Adds S old new → (IsErrOf {T = A} {E = Stop} (Err e) stop.Full → Lacks S new) → Goes old new answer
+  advance_stops old new e answer is adds lacks = subst (Goes old new) (sym is) (record { adds = adds; goes = tt; lacks = λ f. lacks (stops_same e f) })
 
-  pub ahead_unheld : (old new : Held) (answer : Result Ahead Stop) → answer ≡ Err stop.Memory → Adds S old new → Goes old new answer
-  ahead_unheld old new answer is adds = subst (Goes old new) (sym is) (record { adds = adds; goes = tt; lacks = λ f. absurd cc })
+  pub advance_unheld : (old new : Held) (answer : Result Reached Stop) → answer ≡ Err stop.Memory → Adds S old new → Goes old new answer
+  advance_unheld old new answer is adds = subst (Goes old new) (sym is) (record { adds = adds; goes = tt; lacks = λ f. absurd cc })
 
   -- the first step
-  pub first_refused : (old new : Held) (next : List Local) (e : Stop) (answer : Result Ahead Stop) → answer ≡ Err e → StepTells ds functions env t left old new next (Err e) → Goes old new answer
-  first_refused old new next e answer is h = ahead_stops old new e answer is h.adds h.lacks
+  pub first_refused : (old new : Held) (next : List Local) (e : Stop) (answer : Result Reached Stop) → answer ≡ Err e → StepTells ds functions env t left old new next (Err e) → Goes old new answer
+  first_refused old new next e answer is h = advance_stops old new e answer is h.adds h.lacks
 
   pub first_found : (old new : Held) (next : List Local) (f : Found) → StepTells ds functions env t left old new next (Ok (step.Value f)) → Told ds functions env t left old new (Ok f)
   first_found old new next f h = record { adds = h.adds; found = h.goes; lacks = λ e. absurd cc }
 
-  pub first_stays : (old new : Held) (next : List Local) (w : Bor Term) (rest : ℕ) (bindings : _) → StepTells ds functions env t left old new next (Ok (step.Stays w rest)) → env ≡ env_of old.objects (bindings_in (ahead.Term w bindings rest)) → Every (λ b. IsLive old.objects b.value) (bindings_in (ahead.Term w bindings rest)) → Goes old new (Ok (ahead.Term w bindings rest))
+  pub first_stays : (old new : Held) (next : List Local) (w : Bor Term) (rest : ℕ) (bindings : _) → StepTells ds functions env t left old new next (Ok (step.Stays w rest)) → env ≡ env_of old.objects (bindings_in (reached.Term w bindings rest)) → Every (λ b. IsLive old.objects b.value) (bindings_in (reached.Term w bindings rest)) → Goes old new (Ok (reached.Term w bindings rest))
   first_stays old new next w rest bindings h is live =
-      let grown = env_grown old.objects new.objects h.adds.grown (bindings_in (ahead.Term w bindings rest)) live in
+      let grown = env_grown old.objects new.objects h.adds.grown (bindings_in (reached.Term w bindings rest)) live in
       record {
         adds = h.adds;
         goes = record {
@@ -365,22 +365,22 @@ module _ (ds : List Definition) (functions : List ℕ) (env : List (ℕ × Objec
 
   -- the value enters
   module _ (old mid : Held) (f : Found) (h : Told ds functions env t left old mid (Ok f)) (new : Held) (whole : IsWhole new) where
-    abbrev reached : Object
-    reached = value_object mid.objects f.value
+    abbrev the_value : Object
+    the_value = value_object mid.objects f.value
 
-    reached_seen : (seen : List Object) → S seen → IsIn seen reached
-    reached_seen = found_value_seen ds functions env t reached (left - f.left) h.found.gives
+    the_value_seen : (seen : List Object) → S seen → IsIn seen the_value
+    the_value_seen = found_value_seen ds functions env t the_value (left - f.left) h.found.gives
 
-    value_adds : (r : Result Id Full) → Places mid new reached r → Adds S old new
-    value_adds r p = adds_on S old mid new h.adds (adds_cells S reached mid new reached_seen p.objects p.limit whole)
+    value_adds : (r : Result Id Full) → Places mid new the_value r → Adds S old new
+    value_adds r p = adds_on S old mid new h.adds (adds_cells S the_value mid new the_value_seen p.objects p.limit whole)
 
-    pub value_stops : (e : Full) (answer : Result Ahead Stop) → answer ≡ Err stop.Full → Places mid new reached (Err e) → Goes old new answer
-    value_stops e answer is p = ahead_stops {A = Unit {0}} old new stop.Full answer is (value_adds (Err e) p) (λ g. lacks_cell S reached new reached_seen p.lacks)
+    pub value_stops : (e : Full) (answer : Result Reached Stop) → answer ≡ Err stop.Full → Places mid new the_value (Err e) → Goes old new answer
+    value_stops e answer is p = advance_stops {A = Unit {0}} old new stop.Full answer is (value_adds (Err e) p) (λ g. lacks_cell S the_value new the_value_seen p.lacks)
 
-    pub value_reached : (id : Id) → Places mid new reached (Ok id) → Goes old new (Ok (ahead.Value id f.left))
+    pub value_reached : (id : Id) → Places mid new the_value (Ok id) → Goes old new (Ok (reached.Value id f.left))
     value_reached id p = record {
       adds = value_adds (Ok id) p;
-      goes = record { value = reached; is = p.id; fewer = h.found.fewer; gives = h.found.gives };
+      goes = record { value = the_value; is = p.id; fewer = h.found.fewer; gives = h.found.gives };
       lacks = λ e. absurd cc;
     }
 
@@ -414,8 +414,8 @@ module _ (ds : List Definition) (functions : List ℕ) (env : List (ℕ × Objec
       pub later_adds : (answer : Result Step Stop) → Steps answer → Adds S old new
       later_adds answer h = adds_on S old mid new adds (adds_by S (Sees ds functions inner u) mid new covers h.adds)
 
-      pub later_stops : (e : Stop) (answer : Result Ahead Stop) → answer ≡ Err e → Steps (Err e) → Goes old new answer
-      later_stops e answer is h = ahead_stops old new e answer is (later_adds (Err e) h) (λ f. lacks_by S (Sees ds functions inner u) new covers (h.lacks f))
+      pub later_stops : (e : Stop) (answer : Result Reached Stop) → answer ≡ Err e → Steps (Err e) → Goes old new answer
+      later_stops e answer is h = advance_stops old new e answer is (later_adds (Err e) h) (λ f. lacks_by S (Sees ds functions inner u) new covers (h.lacks f))
 
       pub later_found : (f : Found) → Steps (Ok (step.Value f)) → Told ds functions env t left old new (Ok f)
       later_found f h =
@@ -458,12 +458,12 @@ module _ (ds : List Definition) (functions : List ℕ) (env : List (ℕ × Objec
       pub entering_adds : (answer : Result (Unit {0}) Stop) → EntersLocals here mid new [] bindings answer → Adds S old new
       entering_adds answer h = adds_on S old mid new adds (adds_by S (HasLocals mid.objects here) mid new have_here h.adds)
 
-      pub entering_stops : (e : Stop) (answer : Result Ahead Stop) → answer ≡ Err e → EntersLocals here mid new [] bindings (Err e) → Goes old new answer
-      entering_stops e answer is h = ahead_stops old new e answer is (entering_adds (Err e) h) (λ f. lacks_by S (HasLocals mid.objects here) new have_here (h.lacks f))
+      pub entering_stops : (e : Stop) (answer : Result Reached Stop) → answer ≡ Err e → EntersLocals here mid new [] bindings (Err e) → Goes old new answer
+      entering_stops e answer is h = advance_stops old new e answer is (entering_adds (Err e) h) (λ f. lacks_by S (HasLocals mid.objects here) new have_here (h.lacks f))
 
-      pub entering_goes : (w : Bor Term) (rc : _) → term_of w.now ≡ u → bindings_in (ahead.Term w rc rest) ≡ bindings → EntersLocals here mid new [] bindings (Ok tt) → Goes old new (Ok (ahead.Term w rc rest))
+      pub entering_goes : (w : Bor Term) (rc : _) → term_of w.now ≡ u → bindings_in (reached.Term w rc rest) ≡ bindings → EntersLocals here mid new [] bindings (Ok tt) → Goes old new (Ok (reached.Term w rc rest))
       entering_goes w rc term items h =
-          let is : bindings_in (ahead.Term w rc rest) ≡ h.entered.made = items ∙ h.entered.is in
+          let is : bindings_in (reached.Term w rc rest) ≡ h.entered.made = items ∙ h.entered.is in
           record {
             adds = entering_adds (Ok tt) h;
             goes = record {

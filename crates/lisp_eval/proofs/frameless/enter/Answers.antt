@@ -1,7 +1,7 @@
 use Rattle.std.proofs.Common.{rules, ◌≡◌, Err}
 use Rattle.lisp_eval.specs.declared.attempt.Stop.TheVariants as stop
-use Rattle.lisp_eval.proofs.StepsAhead.{local_stops, local_unheld, local_entered}
-use Rattle.lisp_eval.proofs.ahead.enter.Goals as goal
+use Rattle.lisp_eval.proofs.Advancing.{local_stops, local_unheld, local_entered}
+use Rattle.lisp_eval.proofs.frameless.enter.Goals as goal
 
 pub returns-in_err-value : goal.returns-in_err-value
 returns-in_err-value c =

@@ -4,7 +4,7 @@ use Rattle.hons_arena.specs.Held.{IsWhole}
 use Rattle.lisp_eval.specs.Answers.{HasGrown}
 use Rattle.lisp_eval.specs.Directs.{scope_env}
 use Rattle.lisp_eval.proofs.NextBound.{BindsBehind}
-use Rattle.lisp_eval.proofs.ahead.bind_found.Given as goal
+use Rattle.lisp_eval.proofs.frameless.bind_found.Given as goal
 
 abbrev pub invariant-loop-to : goal.invariant-loop-to
 invariant-loop-to l = record {
