@@ -9,7 +9,7 @@ use Rattle.book_shelf.specs.declared.item.Mark.{Mark}
 use Rattle.event_world.specs.EventSeen.{EventSeen}
 use Rattle.gl_book.specs.Entry.{Entry, Answered, Marked, Refused}
 use Rattle.gl_book.specs.Lines.{entry_lines, done_line, is_answer, is_proved, is_vacuous, is_refuted, is_undecided, is_failed, counts_of, is_refusal, status_by, status_of}
-use Rattle.gl_book.specs.Stops.{one_more, counts_with, closing_lines, closing_status}
+use Rattle.gl_book.specs.Stops.{one_more, counts_with, closing, closing_lines, closing_status}
 use Rattle.gl_book.specs.declared.answer.Answer.{Answer}
 use Rattle.gl_book.specs.declared.refusal.Refusal.{Refusal}
 
@@ -34,10 +34,6 @@ module _ (done : List Entry) where
   counts_refused r = rw (count_more (is_answer is_proved) done (Refused r), count_more (is_answer is_vacuous) done (Refused r), count_more (is_answer is_refuted) done (Refused r), count_more (is_answer is_undecided) done (Refused r), count_more (is_answer is_failed) done (Refused r)) refl
 
 -- ---- the end
-abbrev pub closing : Option Refusal → List Entry
-closing None = []
-closing (Some r) = Refused r ∷ []
-
 module _ (names : List (List ℕ)) (done : List Entry) where
   pub lines_that_close : (r : Option Refusal) → flat_map (entry_lines names) (closing r) ++ done_line (counts_of (done ++ closing r)) ∷ [] ≡ closing_lines (counts_of done) r
   lines_that_close None = ap (λ xs. done_line (counts_of xs) ∷ []) (append-nil done)

@@ -29,13 +29,13 @@ use Rattle.book_state.specs.States.{IsFirstState}
 use Rattle.event_world.specs.OpeningNames.{opening_names}
 use Rattle.sexp_reader.specs.Gathers.{IsTableOf}
 use Rattle.sexp_reader.proofs.Tabled.{table as gathered, table_gathers, table_numbers}
-use Rattle.gl_logic.proofs.GrownTables.{extends_then}
+use Rattle.gl_logic.proofs.GrownTables.{extends_same, extends_then}
 use Rattle.book_state.proofs.FirstStates.{opening, first_reading}
 use Rattle.gl_book.specs.Entry.{Entry, Refused, stalls_in}
 use Rattle.gl_book.specs.Lines.{transcript_lines, status_of, counts_of, is_refusal}
 use Rattle.gl_book.specs.Transcript.{long_refusal, long, short, Telling, IsTranscript, IsListTranscript, IsBookTranscript, WritesAll, WritesSome, Ends, EndsOrNothing, WritesFront, EndsWith, EndsWithList, WritesBook}
 use Rattle.book_state.specs.Reading.{IsReadBy}
-use Rattle.gl_book.specs.Stops.{IsCounted, IsReported, EndsBy, status_from, closing_lines, WritesLines, WritesLinesFront, WritesWalk, WritesWalkFront}
+use Rattle.gl_book.specs.Stops.{IsCounted, IsReported, EndsBy, EndsReported, status_from, closing_lines, WritesLines, WritesLinesFront, WritesWalk, WritesWalkFront}
 use Rattle.gl_book.specs.declared.counts.Counts.{Counts}
 use Rattle.gl_book.specs.declared.stop.Stop.{Stop}
 use Rattle.gl_book.specs.declared.stop.Stop.TheVariants.{Write, Memory}
@@ -60,8 +60,8 @@ module _ (tells : Telling) (last : Bool) (old new : Option (List ℕ)) (before a
   ends_by (Err Memory) h r = h
 
 module _ (bounds : Bounds) (text : List ℕ) (last : Bool) (old new : Option (List ℕ)) (before after : List StallSeen) where
-  pub ends_with : (run : Result Status Stop) → EndsBy (IsTranscript bounds text) last old new before after run → IfOk run IsReported → EndsWith bounds text last old new before after (status_from run)
-  ends_with run h r = ends_by (IsTranscript bounds text) last old new before after run h r
+  pub ends_with : (run : Result Status Stop) → EndsReported (IsTranscript bounds text) last old new before after run → EndsWith bounds text last old new before after (status_from run)
+  ends_with run h = ends_by (IsTranscript bounds text) last old new before after run h.ends h.reported
 
 -- where memory may be refused before there is anything to tell
 module _ (tells : Telling) (old new : Option (List ℕ)) (before after : List StallSeen) where
@@ -75,8 +75,8 @@ module _ (tells : Telling) (old new : Option (List ℕ)) (before after : List St
   or_nothing status.NoMemory h = inr h
   or_nothing status.Usage h = h
 
-  pub ends_or_nothing : (run : Result Status Stop) → EndsBy tells false old new before after run → IfOk run IsReported → EndsOrNothing tells old new before after (status_from run)
-  ends_or_nothing run h r = or_nothing (status_from run) (ends_by tells false old new before after run h r)
+  pub ends_or_nothing : (run : Result Status Stop) → EndsReported tells false old new before after run → EndsOrNothing tells old new before after (status_from run)
+  ends_or_nothing run h = or_nothing (status_from run) (ends_by tells false old new before after run h.ends h.reported)
 
   -- what is told by one is told by another
   module _ (others : Telling) (also : (lines : List (List ℕ)) (stalls : List StallSeen) (s : Status) → tells lines stalls s → others lines stalls s) where
@@ -131,13 +131,16 @@ reported entries = reported_by (list_any is_refusal entries) (nat_lt 0 (counts_o
 -- ---- a list that is walked, and whose walks tell
 module _ (tells : Telling) (last : Bool) (old new : Option (List ℕ)) (before after : List StallSeen) (names : List (List ℕ)) (bounds : Bounds) (book : Library) (first : BookState)
     (told_by : (entries : List Entry) (s : Status) → Walk names bounds first book.items book.finish entries → s ≡ status_of entries → tells (transcript_lines names entries) (stalls_in entries) s) where
-  pub walk_reported : (run : Result Status Stop) → IfOk run (WritesWalk names bounds first book last old new before after) → IfOk run IsReported
+  walk_reported : (run : Result Status Stop) → IfOk run (WritesWalk names bounds first book last old new before after) → IfOk run IsReported
   walk_reported (Ok s) w = subst IsReported (sym w.4) (reported w.0)
   walk_reported (Err stop) w = tt
 
-  pub walked : (run : Result Status Stop) → IfOk run (WritesWalk names bounds first book last old new before after) → OnErr run (WritesWalkFront names bounds first book last old new before after) → EndsBy tells last old new before after run
-  walked (Ok s) w f = (transcript_lines names w.0, stalls_in w.0, told_by w.0 s w.1 w.4, w.2, w.3)
-  walked (Err stop) h w = (transcript_lines names w.0, stalls_in w.0, status_of w.0, w.2.0, w.3.0, told_by w.0 (status_of w.0) w.1 refl, w.2.1, w.3.1)
+  walk_ends : (run : Result Status Stop) → IfOk run (WritesWalk names bounds first book last old new before after) → OnErr run (WritesWalkFront names bounds first book last old new before after) → EndsBy tells last old new before after run
+  walk_ends (Ok s) w f = (transcript_lines names w.0, stalls_in w.0, told_by w.0 s w.1 w.4, w.2, w.3)
+  walk_ends (Err stop) h w = (transcript_lines names w.0, stalls_in w.0, status_of w.0, w.2.0, w.3.0, told_by w.0 (status_of w.0) w.1 refl, w.2.1, w.3.1)
+
+  pub walked : (run : Result Status Stop) → IfOk run (WritesWalk names bounds first book last old new before after) → OnErr run (WritesWalkFront names bounds first book last old new before after) → EndsReported tells last old new before after run
+  walked run ok front = record { ends = walk_ends run ok front; reported = walk_reported run ok }
 
 -- the forms of a text
 pub text_told : (bounds : Bounds) (text : List ℕ) (names : List (List ℕ)) (forms : List Form) (end : End) (book : Library) → book.items ≡ map item.Form forms → book.finish ≡ finish_of end → length text ≤ most_bytes → IsReadBy names text forms end
@@ -147,18 +150,14 @@ text_told bounds text names forms end book items finish within read first begins
     (names, entries, short forms end first entries within read begins same, refl, refl, is)
 
 -- ---- a list of books
-module _ (bounds : Bounds) (table names : List (List ℕ)) (book : Library) (first : BookState) (grown : Extends table names) (is_table : IsTable names) (empty : with_name names [] ≡ names) (numbered : Every (IsNumberedItem (length names)) book.items) (begins : IsFirstState names first) where
-  list_told : (entries : List Entry) (s : Status) → Walk names bounds first book.items book.finish entries → s ≡ status_of entries → IsListTranscript bounds table book.items book.finish (transcript_lines names entries) (stalls_in entries) s
-  list_told entries s w is = (names, entries, (grown, record { table = is_table; empty = empty; numbered = numbered; first = first; begins = begins; walk = w }), refl, refl, is)
+module _ (bounds : Bounds) (names : List (List ℕ)) (book : Library) (first : BookState) (is_table : IsTable names) (empty : with_name names [] ≡ names) (numbered : Every (IsNumberedItem (length names)) book.items) (begins : IsFirstState names first) where
+  pub list_told : (entries : List Entry) (s : Status) → Walk names bounds first book.items book.finish entries → s ≡ status_of entries → IsListTranscript bounds names book.items book.finish (transcript_lines names entries) (stalls_in entries) s
+  list_told entries s w is = (names, entries, (extends_same names, record { table = is_table; empty = empty; numbered = numbered; first = first; begins = begins; walk = w }), refl, refl, is)
 
-  module _ (old new : Option (List ℕ)) (before after : List StallSeen) (run : Result Status Stop) (ok : IfOk run (WritesWalk names bounds first book false old new before after)) where
-    pub list_reported : IfOk run IsReported
-    list_reported = walk_reported (IsListTranscript bounds table book.items book.finish) false old new before after names bounds book first list_told run ok
-
-    pub list_written : OnErr run (WritesWalkFront names bounds first book false old new before after) → EndsWithList bounds table book.items book.finish old new before after (status_from run)
-    list_written front =
-        let tells : Telling = IsListTranscript bounds table book.items book.finish in
-        ends_or_nothing tells old new before after run (walked tells false old new before after names bounds book first list_told run ok front) list_reported
+-- by a table with which that of the list begins
+pub list_later : (bounds : Bounds) (table names : List (List ℕ)) (items : List Item) (end : Finish) (old new : Option (List ℕ)) (before after : List StallSeen) (s : Status) → Extends table names → EndsWithList bounds names items end old new before after s → EndsWithList bounds table items end old new before after s
+list_later bounds table names items end old new before after s grown h =
+    ends_also (IsListTranscript bounds names items end) old new before after (IsListTranscript bounds table items end) (λ lines stalls s t. (t.0, t.1, (extends_then table names t.0 grown t.2.0, t.2.1), t.3, t.4, t.5)) s h
 
 -- each item has its texts in each later table
 item_later : (n m : ℕ) → n ≤ m → (x : Item) → IsNumberedItem n x → IsNumberedItem m x

@@ -1,6 +1,6 @@
 -- What comes of forms by a table comes of them by the front of it that numbers them.
-use Rattle.std.proofs.Common.{◌≡◌, ◌∙◌, ap, sym, refl, subst, ℕ, ◌≤◌, ◌<◌, Bool, true, false, cond, List, [], ◌∷◌, ◌++◌, length, length-append, map, All, Option, Some, None, arith}
-use Rattle.std.specs.Prelude.{bytes_eq, nat_lt}
+use Rattle.std.proofs.Common.{◌≡◌, ◌∙◌, ap, sym, refl, ℕ, true, false, cond, List, [], ◌∷◌, ◌++◌, length, length-append, map, All, Some, None, arith}
+use Rattle.std.specs.Prelude.{bytes_eq}
 use Rattle.std.specs.List.{list_any, AllByRecursion}
 use Rattle.std.proofs.lemmas.Bool.{lt-ltb}
 use Rattle.std.proofs.lemmas.List.Elements.{recursion_from_All}

@@ -12,11 +12,10 @@ use Rattle.event_world.specs.EventSeen.{EventSeen, Nothing, Redundant, Defun, De
 use Rattle.shape_spec.specs.TheoremSeen.{TheoremSeen}
 use Rattle.gl_cases.specs.Parts.{ParamSeen}
 use Rattle.gl_decide.specs.Bounds.{Bounds}
-use Rattle.gl_decide.specs.Verdicts.{IsProperVerdict}
 use Rattle.gl_decide.specs.declared.verdict.Verdict.{Verdict}
 use Rattle.book_state.specs.Answerable.{IsAnswerable, IsReadyTheorem}
 use Rattle.gl_book.specs.Cases.{AreProperVerdicts, IsDecidedByCases, settled_of, verdict_from}
-use Rattle.gl_book.specs.Phases.{JobSeen, new_job, CanBeAnswered, IsAnsweredBy, AreAnswered}
+use Rattle.gl_book.specs.Phases.{JobSeen, new_job, CanBeAnswered, AreAnswered}
 use Rattle.book_state.specs.States.{is_job}
 use Rattle.gl_book.specs.Tasks.{parts_of, tasks_of, theorem_tasks, HasFewParts, TakesAnswer, TakesVerdict, TakesVerdicts}
 use Rattle.gl_book.specs.declared.answer.Answer.{Answer}

@@ -1,11 +1,10 @@
 -- The walk to the last theorem of a book, one form after another.
-use Rattle.std.proofs.Common.{◌≡◌, ◌∙◌, ap, sym, refl, subst, ℕ, suc, ◌+◌, ◌≤◌, inl, inr, List, [], ◌∷◌, ◌++◌, length, length-append, map, take, drop, append_assoc, append-nil, Bool, true, false, Option, Some, None, slice_get, option_map, arith}
+use Rattle.std.proofs.Common.{◌≡◌, ◌∙◌, ap, sym, refl, subst, ℕ, ◌+◌, ◌≤◌, inl, inr, List, [], ◌∷◌, ◌++◌, length, length-append, map, take, drop, append_assoc, append-nil, Bool, true, false, Option, Some, None, slice_get, option_map, arith}
 use Rattle.std.specs.Prelude.{◌||◌}
 use Rattle.std.specs.List.{list_any}
-use Rattle.std.proofs.Math.Seq.{drop-cons}
 use Rattle.std.proofs.lemmas.List.{drop_all, length-map}
 use Rattle.std.proofs.lemmas.List.Folds.{list_any-append}
-use Rattle.std.proofs.lemmas.Option.{get_or_from_slice_get, slice_get-map, slice_get_within}
+use Rattle.std.proofs.lemmas.Option.{slice_get-map}
 use Rattle.gl_logic.specs.Extents.{world_cut}
 use Rattle.gl_logic.specs.WorldSeen.{WorldSeen, IsWorld}
 use Rattle.gl_logic.specs.declared.world.Extent.{Extent}
@@ -38,16 +37,13 @@ use Rattle.book_state.specs.States.{CanGoOn, IsFirstState}
 use Rattle.gl_book.specs.declared.answer.Answer.{Answer}
 use Rattle.gl_book.specs.declared.last_step.Kept.{Kept}
 use Rattle.gl_book.specs.declared.last_step.Step.TheVariants as step
+use Rattle.gl_book.proofs.Crosses.{next_item}
 use Rattle.gl_book.proofs.GoOn.{after_event}
 use Rattle.gl_book.proofs.Onward.{some_walk}
 
 -- ---- lists
-next_item : (forms : List Form) (i : ℕ) (form : Form) → slice_get forms i ≡ Some form → drop i (map item.Form forms) ≡ item.Form form ∷ drop (i + 1) (map item.Form forms)
-next_item forms i form at =
-    let items = map item.Form forms in
-    let there : slice_get items i ≡ Some (item.Form form) = slice_get-map item.Form forms i ∙ ap (option_map item.Form) at in
-    let e : suc i ≡ i + 1 = omega arith in
-    drop-cons items i (item.Form form) (slice_get_within items i (item.Form form) there) ∙ (ap (λ y. y ∷ drop (suc i) items) (get_or_from_slice_get items i (item.Form form) (item.Form form) there) ∙ ap (λ n. item.Form form ∷ drop n items) e)
+next_form : (forms : List Form) (i : ℕ) (form : Form) → slice_get forms i ≡ Some form → drop i (map item.Form forms) ≡ item.Form form ∷ drop (i + 1) (map item.Form forms)
+next_form forms i form at = next_item (map item.Form forms) i (item.Form form) (slice_get-map item.Form forms i ∙ ap (option_map item.Form) at)
 
 -- a list that ends with an element, behind a split of those before it
 split_more : {A : Type 0} (before behind : List A) (x y : A) → (before ++ x ∷ behind) ++ y ∷ [] ≡ before ++ x ∷ (behind ++ y ∷ [])
@@ -126,7 +122,7 @@ module _ (names : List (List ℕ)) (bounds : Bounds) (first : BookState) (forms 
           let rest = drop (i + 1) (map item.Form forms) in
           let there = subst (λ (st : BookState). Walk names bounds st rest end entries) k.state w in
           let next = event s form rest end entries e a k.meant k.proper k.valued there in
-          let whole = h.onward (Answered e a ∷ entries) (subst (λ (xs : List Item). Walk names bounds s xs end (Answered e a ∷ entries)) (sym (next_item forms i form at)) next) in
+          let whole = h.onward (Answered e a ∷ entries) (subst (λ (xs : List Item). Walk names bounds s xs end (Answered e a ∷ entries)) (sym (next_form forms i form at)) next) in
           subst (Walk names bounds first (map item.Form forms) end) (sym (append_assoc h.done (Answered e a ∷ []) entries)) whole
 
       state_now : state_behind first forms longer ≡ t
@@ -186,7 +182,7 @@ module _ (names : List (List ℕ)) (bounds : Bounds) (first : BookState) (forms 
     pub refuses : IsRefusedForm names bounds form s → (now : WorldSeen) → IsWalkedTo names bounds first forms end now None
     refuses r now =
         let rest = drop (i + 1) (map item.Form forms) in
-        let next = subst (λ (xs : List Item). Walk names bounds s xs end (Refused r.0 ∷ [])) (sym (next_item forms i form at)) (r.1 rest end) in
+        let next = subst (λ (xs : List Item). Walk names bounds s xs end (Refused r.0 ∷ [])) (sym (next_form forms i form at)) (r.1 rest end) in
         (h.done ++ Refused r.0 ∷ [], h.onward (Refused r.0 ∷ []) next, inl (list_any-append is_refusal h.done (Refused r.0 ∷ []) ∙ ap (λ b. b || true) h.answered))
 
 -- all forms are taken in
@@ -225,53 +221,47 @@ ends_refused _ _ _ _ _ _ _ _ (refused s form items _ code is) = refl
 ends_refused _ _ _ _ _ _ _ _ (without_value s form items _ e a why is proper cause other) = refl
 ends_refused names bounds _ _ line column fault _ (event s form items _ entries e a is proper valued w) = ends_refused names bounds (state_after s form.tree e a) items line column fault entries w
 
+pub bad_there : (names : List (List ℕ)) (bounds : Bounds) (first : BookState) (forms : List Form) (end : End) (line column : ℕ) (fault : ReadCode) → end ≡ ends.Bad line column fault → (now : WorldSeen) → CanGoOn first → IsWalkedTo names bounds first forms (finish_of end) now None
+bad_there names bounds first forms end line column fault is now can =
+    let items = map item.Form forms in
+    let walk = some_walk names bounds (finish_of end) first items can in
+    (walk.0, walk.1, inl (ends_refused names bounds first items line column _ walk.0 (subst (λ (x : End). Walk names bounds first items (finish_of x) walk.0) is walk.1)))
+
 module _ (names : List (List ℕ)) (bounds : Bounds) (bytes : List ℕ) where
   pub none_long : (line column : ℕ) → IsBeyond most_bytes bytes line column → HasNone names bounds bytes
   none_long line column beyond = record { entries = Refused (long_refusal line column) ∷ []; comes = long line column beyond; none = inl refl }
 
-  module _ (forms : List Form) (end : End) (first : BookState) (few : length bytes ≤ most_bytes) (read : IsReadBy names bytes forms end) (begins : IsFirstState names first) where
-    pub none_bad : (line column : ℕ) (fault : ReadCode) → end ≡ ends.Bad line column fault → CanGoOn first → HasNone names bounds bytes
-    none_bad line column fault is can =
-        let walk = some_walk names bounds (finish_of end) first (map item.Form forms) can in
+  module _ (forms : List Form) (end : End) (first : BookState) (few : length bytes ≤ most_bytes) (read : IsReadBy names bytes forms end) (begins : IsFirstState names first) (now : WorldSeen) where
+    pub none_there : IsWalkedTo names bounds first forms (finish_of end) now None → HasNone names bounds bytes
+    none_there w = record { entries = w.0; comes = short forms end first w.0 few read begins w.1; none = w.2 }
+
+    pub last_there : (o : Option Kept) (k : Kept) → o ≡ Some k → IsWalkedTo names bounds first forms (finish_of end) now o → (v : WorldSeen) → v ≡ world_cut k.extent now → IsLastOf names bounds bytes v (theorem_seen k.thm)
+    last_there o k some walked v is =
+        let w = subst (λ (p : Option Kept). IsWalkedTo names bounds first forms (finish_of end) now p) some walked in
+        let l = w.3 in
         record {
-          entries = walk.0;
-          comes = short forms end first walk.0 few read begins walk.1;
-          none = inl (ends_refused names bounds first (map item.Form forms) line column _ walk.0 (subst (λ (x : End). Walk names bounds first (map item.Form forms) (finish_of x) walk.0) is walk.1));
+          forms = forms;
+          end = end;
+          first = first;
+          before = l.before;
+          answer = l.answer;
+          behind = l.behind;
+          few = few;
+          read = read;
+          begins = begins;
+          walk = subst (Walk names bounds first (map item.Form forms) (finish_of end)) l.are w.1;
+          whole = ap is_refused (sym l.are) ∙ w.2;
+          last = l.last;
+          world = l.at ∙ (sym l.cut ∙ sym is);
         }
 
-    module _ (clean : end ≡ ends.Clean) (now : WorldSeen) where
-      abbrev Whole : List Entry → Type 0
-      Whole entries = Walk names bounds first (map item.Form forms) (finish_of end) entries
+-- what is kept can be decided in the world that is cut back, which is one
+module _ (names : List (List ℕ)) (bounds : Bounds) (first : BookState) (forms : List Form) (end : Finish) (now : WorldSeen) (o : Option Kept) (k : Kept) (some : o ≡ Some k) (walked : IsWalkedTo names bounds first forms end now o) where
+  kept_in : IsWalkedTo names bounds first forms end now (Some k)
+  kept_in = subst (λ (p : Option Kept). IsWalkedTo names bounds first forms end now p) some walked
 
-      at_end : (entries : List Entry) → Walk names bounds first (map item.Form forms) finish.Clean entries → Whole entries
-      at_end entries w = subst (λ (x : End). Walk names bounds first (map item.Form forms) (finish_of x) entries) (sym clean) w
+  pub ready_there : (v : WorldSeen) → v ≡ world_cut k.extent now → IsReadyTheorem v.definitions (theorem_seen k.thm)
+  ready_there v is = subst (λ (x : WorldSeen). IsReadyTheorem x.definitions (theorem_seen k.thm)) (sym (is ∙ kept_in.3.cut)) kept_in.3.ready
 
-      pub none_there : IsWalkedTo names bounds first forms finish.Clean now None → HasNone names bounds bytes
-      none_there w = record { entries = w.0; comes = short forms end first w.0 few read begins (at_end w.0 w.1); none = w.2 }
-
-      pub last_there : (k : Kept) (v : WorldSeen) → v ≡ world_cut k.extent now → IsWalkedTo names bounds first forms finish.Clean now (Some k) → IsLastOf names bounds bytes v (theorem_seen k.thm)
-      last_there k v is w =
-          let l = w.3 in
-          record {
-            forms = forms;
-            end = end;
-            first = first;
-            before = l.before;
-            answer = l.answer;
-            behind = l.behind;
-            few = few;
-            read = read;
-            begins = begins;
-            walk = subst Whole l.are (at_end w.0 w.1);
-            whole = ap is_refused (sym l.are) ∙ w.2;
-            last = l.last;
-            world = l.at ∙ (sym l.cut ∙ sym is);
-          }
-
-      pub ready_there : (k : Kept) (v : WorldSeen) → v ≡ world_cut k.extent now → IsWalkedTo names bounds first forms finish.Clean now (Some k) → IsReadyTheorem v.definitions (theorem_seen k.thm)
-      ready_there k v is w = subst (λ (x : WorldSeen). IsReadyTheorem x.definitions (theorem_seen k.thm)) (sym (is ∙ w.3.cut)) w.3.ready
-
--- the world to which it is cut back is one
-pub total_there : (names : List (List ℕ)) (bounds : Bounds) (first : BookState) (forms : List Form) (end : Finish) (now : WorldSeen) (k : Kept) → IsWalkedTo names bounds first forms end now (Some k)
-    → IsWorld (take k.extent.definitions now.definitions) (take k.extent.cliques now.cliques)
-total_there names bounds first forms end now k w = subst (λ (x : WorldSeen). IsWorld x.definitions x.cliques) (sym w.3.cut) w.3.total
+  pub total_there : IsWorld (take k.extent.definitions now.definitions) (take k.extent.cliques now.cliques)
+  total_there = subst (λ (x : WorldSeen). IsWorld x.definitions x.cliques) (sym kept_in.3.cut) kept_in.3.total

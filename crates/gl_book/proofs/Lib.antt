@@ -22,6 +22,7 @@ pub mod Gathered
 pub mod Shared
 pub mod Waited
 pub mod Puts
+pub mod Staying
 pub mod Crosses
 pub mod Ways
 pub mod Alone

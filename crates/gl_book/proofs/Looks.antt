@@ -13,7 +13,7 @@ use Rattle.gl_decide.specs.declared.stall.StallCause.{StallCause}
 use Rattle.gl_decide.specs.declared.verdict.Verdict.{Verdict}
 use Rattle.gl_decide.specs.declared.verdict.Verdict.TheVariants as verdict
 use Rattle.gl_cases.specs.Parts.{ParamSeen}
-use Rattle.gl_book.specs.Cases.{AreProperVerdicts, IsDecidedByCases}
+use Rattle.gl_book.specs.Cases.{AreProperVerdicts}
 use Rattle.gl_book.specs.Answers.{IsValue, HasCause, IsProperValue, IsProperTruth, IsDecided, IsSettled, IsFunctionNamed, IsProperAnswer}
 use Rattle.gl_book.specs.Phases.{JobSeen, AreAnswered}
 use Rattle.gl_book.specs.declared.answer.Cause.{Cause}

@@ -13,12 +13,11 @@ use Rattle.event_world.specs.Outcomes.{Outcome}
 use Rattle.event_world.proofs.SuitedEvents.{event_suits}
 use Rattle.gl_decide.specs.Bounds.{Bounds}
 use Rattle.gl_book.specs.Entry.{Entry, Answered, Marked, Refused}
-use Rattle.gl_book.specs.Stops.{refusal_of}
+use Rattle.gl_book.specs.Stops.{closing, refusal_of}
 use Rattle.gl_book.specs.Walk.{state_after, refusal_at, Walk, ended, bad, marked, refused, without_value, event}
 use Rattle.book_state.specs.States.{CanGoOn, event_in}
 use Rattle.gl_book.specs.declared.refusal.RefusalCode.TheVariants as code
 use Rattle.gl_book.specs.declared.stop.Stop.{Stop}
-use Rattle.gl_book.proofs.Closing.{closing}
 use Rattle.gl_book.proofs.GoOn.{some_answer, after_event}
 
 -- ---- each walk can be gone on with

@@ -2,7 +2,7 @@
 use Rattle.std.proofs.Common.{◌≡◌, ◌∙◌, sym, ap, refl, subst, ℕ, ◌+◌, ◌-◌, ◌^◌, ◌<◌, ◌≤◌, List, [], ◌∷◌, ◌++◌, length, take, map, Bool, true, false, cond, Option, Some, None, slice_get, arith}
 use Rattle.std.specs.List.{position_from}
 use Rattle.std.proofs.Math.ListN.{get_or-map}
-use Rattle.std.proofs.lemmas.List.{length-map, length-take-le, take_all}
+use Rattle.std.proofs.lemmas.List.{length-map, take_all}
 use Rattle.gl_logic.specs.WorldSeen.{WorldSeen}
 use Rattle.shape_spec.specs.TheoremSeen.{TheoremSeen}
 use Rattle.gl_cases.specs.Parts.{ParamSeen, IsByCases}
@@ -134,11 +134,13 @@ module _ (bounds : Bounds) (w : WorldSeen) where
   as_many_verdicts [] (v ∷ vs) h = absurd h
   as_many_verdicts (thm ∷ thms) [] h = absurd h
 
-  pub few_verdicts : (thms : List TheoremSeen) (i : ℕ) (vs : List Verdict) → i ≤ length thms → length thms ≤ 64 → AreProperVerdicts bounds w (take i thms) vs → length vs + 1 < 2 ^ 32
-  few_verdicts thms i vs within few h = let n = as_many_verdicts (take i thms) vs h in let m = length-take-le i thms within in omega (arith, n, m, within, few)
+  pub few_verdicts : (thms : List TheoremSeen) (vs : List Verdict) → length thms ≤ 64 → AreProperVerdicts bounds w thms vs → length vs + 1 < 2 ^ 32
+  few_verdicts thms vs few h = let n = as_many_verdicts thms vs h in omega (arith, n, few)
 
   -- the last one
-  pub all_decide : (thm : ParamSeen) (cover : Verdict) (cases : List Verdict) (i : ℕ) (v : CasesVerdict) → IsByCases thm → IsProperVerdict w bounds thm.cover cover → length thm.cases ≤ i → AreProperVerdicts bounds w (take i thm.cases) cases
-      → v ≡ verdict_from (settled_of cover cases) cover cases → IsDecidedByCases bounds w thm v
-  all_decide thm cover cases i v parts covered past each comes =
-      subst (IsDecidedByCases bounds w thm) (sym comes) (parts_decide thm cover cases parts covered (subst (λ (ts : List TheoremSeen). AreProperVerdicts bounds w ts cases) (take_all i thm.cases past) each))
+  pub verdicts_all : (thms : List TheoremSeen) (i : ℕ) (vs : List Verdict) → length thms ≤ i → AreProperVerdicts bounds w (take i thms) vs → AreProperVerdicts bounds w thms vs
+  verdicts_all thms i vs past each = subst (λ (ts : List TheoremSeen). AreProperVerdicts bounds w ts vs) (take_all i thms past) each
+
+  pub all_decide : (thm : ParamSeen) (cover : Verdict) (cases : List Verdict) (v : CasesVerdict) → IsByCases thm → IsProperVerdict w bounds thm.cover cover → AreProperVerdicts bounds w thm.cases cases → v ≡ verdict_from (settled_of cover cases) cover cases
+      → IsDecidedByCases bounds w thm v
+  all_decide thm cover cases v parts covered each comes = subst (IsDecidedByCases bounds w thm) (sym comes) (parts_decide thm cover cases parts covered each)

@@ -3,7 +3,6 @@ use Rattle.std.proofs.Common.{◌≡◌, ◌∙◌, ap, sym, refl, subst, ℕ, z
 use Rattle.std.specs.List.{All}
 use Rattle.std.proofs.lemmas.List.Elements.{All-get_or, All-cons, All-nil}
 use Rattle.std.proofs.lemmas.Option.{get_or_from_slice_get, slice_get_within}
-use Rattle.gl_logic.specs.Every.{Every}
 use Rattle.gl_logic.specs.WorldSeen.{WorldSeen}
 use Rattle.gl_logic.specs.declared.ids.NoMemory.{NoMemory}
 use Rattle.gl_decide.specs.Bounds.{Bounds}

@@ -1,5 +1,5 @@
 -- How a run reads a text: by the table that every book begins with, and what the text puts behind it.
-use Rattle.std.proofs.Common.{◌≡◌, ◌∙◌, ap, sym, subst, ℕ, List, [], All, length, append-nil}
+use Rattle.std.proofs.Common.{◌≡◌, ◌∙◌, ap, subst, ℕ, List, [], All, length}
 use Rattle.gl_logic.specs.Names.{Extends, IsTable, first_names, with_name}
 use Rattle.gl_logic.specs.Numbered.{IsNumbered}
 use Rattle.gl_logic.proofs.GrownTables.{extends_same}

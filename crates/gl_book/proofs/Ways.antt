@@ -1,26 +1,27 @@
 -- From one place of a walk to the next, by what the walk's functions did.
 use Rattle.std.proofs.Common.{◌≡◌, ◌≢◌, sym, refl, subst, ℕ, zero, suc, ◌+◌, ◌<◌, ◌≤◌, List, [], ◌∷◌, ◌++◌, length, take, Bool, true, false, Option, Some, None, Ok, Err, arith}
-use Rattle.gl_logic.specs.Object.{Object, nil}
+use Rattle.gl_logic.specs.Object.{nil}
 use Rattle.gl_base.specs.Outside.{Grows}
 use Rattle.sexp_reader.specs.declared.list.Form.{Form}
 use Rattle.book_shelf.specs.declared.item.Item.{Item}
 use Rattle.book_shelf.specs.declared.item.Item.TheVariants as item
 use Rattle.book_shelf.specs.declared.item.Mark.{Mark}
+use Rattle.book_shelf.specs.declared.library.Library.{Library}
 use Rattle.event_world.specs.declared.fault.EventFault.{EventFault}
-use Rattle.event_world.specs.EventSeen.{EventSeen, Nothing, Redundant, Defun, Defconst, Value, Assert, Memoize, Unmemoize, SetMode, Theorem, Cases, Clique, RedundantClique}
+use Rattle.event_world.specs.EventSeen.{EventSeen}
 use Rattle.event_world.specs.NextState.{BookState, next_state}
 use Rattle.gl_decide.specs.Bounds.{Bounds}
 use Rattle.gl_decide.specs.Stalls.{StallSeen}
 use Rattle.gl_book.specs.Answers.{IsProperAnswer}
 use Rattle.book_state.specs.Answerable.{IsAnswerable}
-use Rattle.gl_book.specs.Courses.{EndsPhase, EndsPhaseByFront, Follows, HasRoomFor, Leads, LeadsPast, LeadsPastToFront, LeadsToFront, Place, Stands, place_at, counts_after}
-use Rattle.gl_book.specs.Lines.{event_lines, mark_line}
+use Rattle.gl_book.specs.Courses.{EndsPhase, EndsPhaseByFront, Follows, HasRoomFor, Leads, LeadsPast, LeadsPastToFront, LeadsToFront, Place, Stands, Waits, course_from, place_at, counts_after}
+use Rattle.gl_book.specs.Lines.{counts_of, event_lines, mark_line}
 use Rattle.gl_book.specs.Entry.{stalls_of}
 use Rattle.gl_book.specs.Phases.{JobSeen, IsFollowed, ends_phase, jobs_of, new_job}
 use Rattle.book_state.specs.States.{is_job, state_noted}
 use Rattle.gl_book.specs.Stops.{counts_with, told_before}
 use Rattle.gl_book.specs.Walk.{refusal_at, refused_cause, state_after}
-use Rattle.book_state.specs.States.{event_in}
+use Rattle.book_state.specs.States.{CanGoOn, event_in}
 use Rattle.gl_book.specs.declared.answer.Answer.{Answer}
 use Rattle.gl_book.specs.declared.answer.Cause.{Cause}
 use Rattle.gl_book.specs.declared.answer.Cause.TheVariants as cause
@@ -28,9 +29,10 @@ use Rattle.gl_book.specs.declared.counts.Counts.{Counts}
 use Rattle.gl_book.specs.declared.progress.Progress.{Progress}
 use Rattle.gl_book.specs.declared.refusal.Refusal.{Refusal}
 use Rattle.gl_book.specs.declared.refusal.RefusalCode.TheVariants as code
-use Rattle.gl_book.proofs.Crosses.{ends_refused, ends_without, follows, front_here, front_next, goes_on, job_ends_none, mark_follows, mark_front, mark_passes, phase_front, phase_stands, waits}
+use Rattle.gl_book.proofs.Crosses.{begins, ends_refused, ends_without, follows, front_here, front_next, goes_on, mark_follows, mark_front, mark_passes, phase_front, phase_stands, waits}
 use Rattle.gl_book.proofs.Puts.{room_for_next}
 use Rattle.gl_book.proofs.Waited.{as_many}
+use Rattle.gl_book.proofs.Staying.{job_ends_none}
 
 -- ---- room
 pub room_after_all : (n k : ℕ) (counts : Counts) (given : List Answer) → length given ≡ n → HasRoomFor (n + k) counts → HasRoomFor k (counts_after counts given)
@@ -51,22 +53,14 @@ pub none_waits : (js : List JobSeen) → length js ≡ 0 → js ≡ []
 none_waits [] e = refl
 none_waits (j ∷ js) e = absurd (omega (arith, e))
 
-pub job_keeps_functions : (s : BookState) (form : Object) (e : EventSeen) → is_job e ≡ true → (next_state s form e nil).memoized ≡ s.memoized
-job_keeps_functions s form (Value t) h = refl
-job_keeps_functions s form (Assert t) h = refl
-job_keeps_functions s form (Theorem thm) h = refl
-job_keeps_functions s form (Cases thm) h = refl
-job_keeps_functions s form Nothing h = absurd cc
-job_keeps_functions s form (Redundant n) h = absurd cc
-job_keeps_functions s form (Defun d) h = absurd cc
-job_keeps_functions s form (Defconst n t) h = absurd cc
-job_keeps_functions s form (Memoize f) h = absurd cc
-job_keeps_functions s form (Unmemoize f) h = absurd cc
-job_keeps_functions s form (SetMode m) h = absurd cc
-job_keeps_functions s form (Clique ds) h = absurd cc
-job_keeps_functions s form (RedundantClique ns) h = absurd cc
-
 module _ (names : List (List ℕ)) (bounds : Bounds) (last : Bool) where
+  -- ---- the first place
+  pub begins_at : (book : Library) (p : Place) → CanGoOn p.state → p.counts ≡ counts_of [] → p.waiting ≡ [] → Stands names bounds last (course_from book p) 0 p
+  begins_at book p can uncounted none =
+      let course = course_from book p in
+      subst (λ (n : Counts). Stands names bounds last course 0 (record { state = p.state; counts = n; waiting = p.waiting; written = p.written; stalls = p.stalls })) (sym uncounted)
+      (subst (λ (js : List JobSeen). Stands names bounds last course 0 (record { state = p.state; counts = counts_of []; waiting = js; written = p.written; stalls = p.stalls })) (sym none) (begins names bounds last course can))
+
   -- ---- one after the other
   pub then_past : (x : Item) (p q : Place) (r : Option Refusal) (t : Place) → Leads names bounds last p q → LeadsPast names bounds last x q r t → LeadsPast names bounds last x p r t
   then_past x p q None t h k = λ c i at s. k c i at (h c i s)
@@ -79,8 +73,8 @@ module _ (names : List (List ℕ)) (bounds : Bounds) (last : Bool) where
   front_past x p now after h = λ c i at s. h c i s
 
   -- nothing is written and no stall is kept
-  pub stays_front : (p : Place) (now : Option (List ℕ)) (after : List StallSeen) → now ≡ p.written → after ≡ p.stalls → LeadsToFront names bounds last p now after
-  stays_front p now after e f = λ c i s. front_here names bounds last c i p s now after e f
+  pub nothing_past : (x : Item) (p : Place) → LeadsPastToFront names bounds last x p p.written p.stalls
+  nothing_past x p = λ c i at s. front_here names bounds last c i p s p.written p.stalls refl refl
 
   -- ---- the end of a phase
   module _ (old : Progress) (written now : Option (List ℕ)) (stalls after : List StallSeen) where
@@ -101,20 +95,18 @@ module _ (names : List (List ℕ)) (bounds : Bounds) (last : Bool) where
     abbrev state : BookState
     state = old.state
 
-    pub waits_past : (new : Progress) → is_job e ≡ true → IsAnswerable state.world.definitions state.memoized e → new.state ≡ state_noted state form.tree e → jobs_of new.waiting ≡ jobs_of old.waiting ++ new_job e state.memoized ∷ [] → new.counts ≡ old.counts
-        → LeadsPast names bounds last (item.Form form) here None (place_at new written stalls)
-    waits_past new job can is more same = λ c i at s.
+    pub waits_past : (new : Progress) → is_job e ≡ true → IsAnswerable state.world.definitions state.memoized e → Waits form.tree e old new → LeadsPast names bounds last (item.Form form) here None (place_at new written stalls)
+    waits_past new job can w = λ c i at s.
         let k = waits names bounds last c i here s form at e means (job_ends_none e job) job can in
-        subst (λ (st : BookState). Stands names bounds last c (i + 1) (record { state = st; counts = new.counts; waiting = jobs_of new.waiting; written = written; stalls = stalls })) (sym is)
-        (subst (λ (js : List JobSeen). Stands names bounds last c (i + 1) (record { state = state_noted state form.tree e; counts = new.counts; waiting = js; written = written; stalls = stalls })) (sym more)
-        (subst (λ (n : Counts). Stands names bounds last c (i + 1) (record { state = state_noted state form.tree e; counts = n; waiting = jobs_of old.waiting ++ new_job e state.memoized ∷ []; written = written; stalls = stalls })) (sym same) k))
+        subst (λ (st : BookState). Stands names bounds last c (i + 1) (record { state = st; counts = new.counts; waiting = jobs_of new.waiting; written = written; stalls = stalls })) (sym w.state)
+        (subst (λ (js : List JobSeen). Stands names bounds last c (i + 1) (record { state = state_noted state form.tree e; counts = new.counts; waiting = js; written = written; stalls = stalls })) (sym w.waiting)
+        (subst (λ (n : Counts). Stands names bounds last c (i + 1) (record { state = state_noted state form.tree e; counts = n; waiting = jobs_of old.waiting ++ new_job e state.memoized ∷ []; written = written; stalls = stalls })) (sym w.counts) k))
 
-    pub follows_past : (new : Progress) → ends_phase e ≡ false → is_job e ≡ false → 0 < length (jobs_of old.waiting) → Follows names bounds form.tree e state (jobs_of old.waiting) new.state (jobs_of new.waiting) → new.counts ≡ old.counts
-        → LeadsPast names bounds last (item.Form form) here None (place_at new written stalls)
-    follows_past new stays other some f same = λ c i at s.
-        let k = follows names bounds last c i here s form at e means stays other some f.answer f.proper (jobs_of new.waiting) f.behind in
+    pub follows_past : (new : Progress) → ends_phase e ≡ false → is_job e ≡ false → 0 < length (jobs_of old.waiting) → Follows names bounds form.tree e old new → LeadsPast names bounds last (item.Form form) here None (place_at new written stalls)
+    follows_past new stays other some f = λ c i at s.
+        let k = follows names bounds last c i here s form at e means stays other some f.put.answer f.put.proper (jobs_of new.waiting) f.put.behind in
         subst (λ (st : BookState). Stands names bounds last c (i + 1) (record { state = st; counts = new.counts; waiting = jobs_of new.waiting; written = written; stalls = stalls })) (sym f.state)
-        (subst (λ (n : Counts). Stands names bounds last c (i + 1) (record { state = next_state state form.tree e nil; counts = n; waiting = jobs_of new.waiting; written = written; stalls = stalls })) (sym same) k)
+        (subst (λ (n : Counts). Stands names bounds last c (i + 1) (record { state = next_state state form.tree e nil; counts = n; waiting = jobs_of new.waiting; written = written; stalls = stalls })) (sym f.counts) k)
 
     -- ---- answered at once
     module _ (none : jobs_of old.waiting ≡ []) (a : Answer) (proper : IsProperAnswer bounds state.world state.memoized e a) where
@@ -145,7 +137,7 @@ module _ (names : List (List ℕ)) (bounds : Bounds) (last : Bool) where
         (subst (λ (n : Counts). Stands names bounds last c (i + 1) (record { state = old.state; counts = n; waiting = jobs_of new.waiting; written = written; stalls = stalls })) (sym same) k)
 
   -- ---- a form that means none
-  pub fault_past : (form : Form) (fault : EventFault) (state : BookState) → event_in names state form.tree ≡ Err fault → (p q : Place) → q.state ≡ state → q.waiting ≡ [] → Leads names bounds last p q → LeadsPast names bounds last (item.Form form) p (Some (refusal_at form (code.Event fault))) q
-  fault_past form fault state means p q is none h = λ c i at s.
+  pub fault_past : (form : Form) (fault : EventFault) (old : BookState) → event_in names old form.tree ≡ Err fault → (p q : Place) → q.state ≡ old → q.waiting ≡ [] → Leads names bounds last p q → LeadsPast names bounds last (item.Form form) p (Some (refusal_at form (code.Event fault))) q
+  fault_past form fault old means p q is none h = λ c i at s.
       let t = h c i s in
       record { stands = t; none = none; ends = ends_refused names bounds last c i q t form at fault (subst (λ (st : BookState). event_in names st form.tree ≡ Err fault) (sym is) means) }

@@ -1,18 +1,14 @@
 -- When the answer to an event is proper.
-use Rattle.std.specs.Prelude.{◌≡◌, ◌≢◌, ◌<◌, ◌≤◌, ℕ, Bool, not, List, [], length, All, Some, slice_get}
+use Rattle.std.specs.Prelude.{◌≡◌, ◌≢◌, ℕ, Bool, not, List, [], Some, slice_get}
 use Rattle.gl_logic.specs.Object.{Object}
 use Rattle.gl_logic.specs.ObjectEq.{is_nil}
 use Rattle.gl_logic.specs.Parts.{IsLarge}
 use Rattle.gl_logic.specs.Exp.{Exp}
-use Rattle.gl_logic.specs.Definition.{Definition}
-use Rattle.gl_logic.specs.Every.{Every}
-use Rattle.gl_logic.specs.IsTermOf.{IsTermOf}
 use Rattle.gl_logic.specs.Evaluate.{HasValue}
 use Rattle.gl_logic.specs.Wide.{IsWide}
 use Rattle.gl_logic.specs.WorldSeen.{WorldSeen, definition_names}
-use Rattle.coverage.specs.Sound.{AllAreBound}
 use Rattle.event_world.specs.EventSeen.{TheoremSeen, EventSeen, Defconst, Value, Assert, Memoize, Unmemoize, Theorem, Cases}
-use Rattle.gl_cases.specs.Parts.{ParamSeen, IsByCases}
+use Rattle.gl_cases.specs.Parts.{ParamSeen}
 use Rattle.gl_decide.specs.Bounds.{Bounds}
 use Rattle.gl_decide.specs.Causes.{IsOutOfWidth, IsOutOfSteps, IsOutOfCells}
 use Rattle.gl_decide.specs.Verdicts.{IsProperVerdict}

@@ -1,5 +1,5 @@
 -- How far a walk has come, where some of its answers are still to come.
-use Rattle.std.specs.Prelude.{◌≡◌, ℕ, suc, ◌+◌, ◌<◌, ◌^◌, Bool, false, List, [], ◌∷◌, ◌++◌, All, length, drop, Option, None, Some, take, slice_get}
+use Rattle.std.specs.Prelude.{◌≡◌, ℕ, suc, ◌+◌, ◌<◌, ◌^◌, Bool, false, List, [], ◌∷◌, ◌++◌, All, length, drop, Option, None, Some, Ok, slice_get}
 use Rattle.std.specs.List.{flat_map, list_any}
 use Rattle.gl_logic.specs.Every.{Every}
 use Rattle.gl_logic.specs.Object.{Object, nil}
@@ -8,15 +8,17 @@ use Rattle.book_shelf.specs.declared.item.Item.{Item}
 use Rattle.book_shelf.specs.declared.library.Library.{Library}
 use Rattle.event_world.specs.EventSeen.{EventSeen}
 use Rattle.event_world.specs.NextState.{BookState, next_state}
+use Rattle.event_world.specs.Suits.{Suits}
 use Rattle.gl_decide.specs.Bounds.{Bounds}
 use Rattle.gl_decide.specs.Stalls.{StallSeen}
 use Rattle.gl_book.specs.Answers.{IsProperAnswer}
-use Rattle.gl_book.specs.Entry.{Entry, Answered, Marked, Refused, stalls_of, stalls_in}
+use Rattle.gl_book.specs.Entry.{Entry, Answered, Marked, stalls_of, stalls_in}
 use Rattle.gl_book.specs.Lines.{entry_lines, event_lines, counts_of, is_refusal}
-use Rattle.gl_book.specs.Phases.{JobSeen, IsFollowed, CanBeAnswered, AreAnswered, jobs_of}
-use Rattle.gl_book.specs.Stops.{Keeps, KeepsFront, told_before, counts_with, WritesWalkFront}
+use Rattle.gl_book.specs.Phases.{JobSeen, IsFollowed, CanBeAnswered, AreAnswered, jobs_of, new_job}
+use Rattle.gl_book.specs.Stops.{closing, Keeps, KeepsFront, told_before, counts_with, WritesBefore, WritesBeforeFront, WritesWalkFront}
 use Rattle.gl_book.specs.Walk.{Walk}
-use Rattle.book_state.specs.States.{CanGoOn}
+use Rattle.book_state.specs.Answerable.{IsAnswerable}
+use Rattle.book_state.specs.States.{CanGoOn, event_in, state_noted}
 use Rattle.gl_book.specs.declared.answer.Answer.{Answer}
 use Rattle.gl_book.specs.declared.answer.Answer.TheVariants as answer
 use Rattle.gl_book.specs.declared.counts.Counts.{Counts}
@@ -38,11 +40,11 @@ counts_after counts (a ∷ given) = counts_after (counts_with counts a) given
 
 -- what the jobs that wait tell was written, with these answers
 abbrev pub WritesPhase : List (List ℕ) → Bool → List JobSeen → List Answer → Option (List ℕ) → Option (List ℕ) → Type 0
-WritesPhase names last_only jobs given old new = Grows old new (told_before last_only (phase_lines names jobs given))
+WritesPhase names last_only jobs given old new = WritesBefore last_only (phase_lines names jobs given) old new
 
 -- or the front of it
 abbrev pub WritesPhaseFront : List (List ℕ) → Bool → List JobSeen → List Answer → Option (List ℕ) → Option (List ℕ) → Type 0
-WritesPhaseFront names last_only jobs given old new = (n : ℕ) × Grows old new (take n (told_before last_only (phase_lines names jobs given)))
+WritesPhaseFront names last_only jobs given old new = WritesBeforeFront last_only (phase_lines names jobs given) old new
 
 -- the stalls of the answers were added to those before
 abbrev pub KeepsPhase : List Answer → List StallSeen → List StallSeen → Type 0
@@ -71,13 +73,11 @@ abbrev pub waited : List JobSeen → List (List Entry) → List Answer → List 
 waited (j ∷ js) (es ∷ ess) (a ∷ given) = Answered j.event a ∷ (es ++ waited js ess given)
 waited _ _ _ = []
 
--- an event that is answered while jobs wait: its lines come behind the last of them, and its answer changes the state no more
--- than the event does
-pub record Follows (names : List (List ℕ)) (bounds : Bounds) (form : Object) (e : EventSeen) (old : BookState) (jobs : List JobSeen) (new : BookState) (later : List JobSeen) : Type 0 where
+-- an event that is answered in a state while jobs wait: its lines come behind those of the last job
+pub record IsPutBehind (names : List (List ℕ)) (bounds : Bounds) (s : BookState) (e : EventSeen) (jobs later : List JobSeen) : Type 0 where
   pub answer : Answer
-  pub proper : IsProperAnswer bounds old.world old.memoized e answer
+  pub proper : IsProperAnswer bounds s.world s.memoized e answer
   pub behind : IsFollowed jobs (event_lines names e answer) later
-  pub state : new ≡ next_state old form e nil
 
 -- how many they are
 abbrev pub count_waited : List (List Entry) → ℕ
@@ -99,6 +99,10 @@ pub record Place : Type 0 where
   pub waiting : List JobSeen
   pub written : Option (List ℕ)
   pub stalls : List StallSeen
+
+-- a walk over a book from a place on
+abbrev pub course_from : Library → Place → Course
+course_from book p = record { first = p.state; book = book; written = p.written; stalls = p.stalls }
 
 abbrev pub place_at : Progress → Option (List ℕ) → List StallSeen → Place
 place_at p written stalls = record { state = p.state; counts = p.counts; waiting = jobs_of p.waiting; written = written; stalls = stalls }
@@ -133,17 +137,45 @@ abbrev pub LeadsPastToFront : List (List ℕ) → Bounds → Bool → Item → P
 LeadsPastToFront names bounds last_only next p new after =
     (c : Course) (i : ℕ) → slice_get c.book.items i ≡ Some next → Stands names bounds last_only c i p → WritesWalkFront names bounds c.first c.book last_only c.written new c.stalls after
 
--- no job waits, and what comes of the items left is a refusal
-pub record IsRefused (names : List (List ℕ)) (bounds : Bounds) (last_only : Bool) (c : Course) (i : ℕ) (p : Place) (r : Refusal) : Type 0 where
+-- no job waits, and what comes of the items left is this refusal, or nothing
+pub record IsAtEnd (names : List (List ℕ)) (bounds : Bounds) (last_only : Bool) (c : Course) (i : ℕ) (p : Place) (r : Option Refusal) : Type 0 where
   pub stands : Stands names bounds last_only c i p
   pub none : p.waiting ≡ []
-  pub ends : Walk names bounds p.state (drop i c.book.items) c.book.finish (Refused r ∷ [])
+  pub ends : Walk names bounds p.state (drop i c.book.items) c.book.finish (closing r)
+
+-- the same, behind some item
+abbrev pub ComesToEnd : List (List ℕ) → Bounds → Bool → Course → Place → Option Refusal → Type 0
+ComesToEnd names bounds last_only c p r = (i : ℕ) × IsAtEnd names bounds last_only c i p r
 
 -- wherever a walk has come to the one place and this item is the next, it comes past the item to the other, or the item is
 -- refused there
 abbrev pub LeadsPast : List (List ℕ) → Bounds → Bool → Item → Place → Option Refusal → Place → Type 0
 LeadsPast names bounds last_only next p None q = (c : Course) (i : ℕ) → slice_get c.book.items i ≡ Some next → Stands names bounds last_only c i p → Stands names bounds last_only c (i + 1) q
-LeadsPast names bounds last_only next p (Some r) q = (c : Course) (i : ℕ) → slice_get c.book.items i ≡ Some next → Stands names bounds last_only c i p → IsRefused names bounds last_only c i q r
+LeadsPast names bounds last_only next p (Some r) q = (c : Course) (i : ℕ) → slice_get c.book.items i ≡ Some next → Stands names bounds last_only c i p → IsAtEnd names bounds last_only c i q (Some r)
+
+-- the same, where nothing is written and no stall is kept, whatever there was of both
+abbrev pub LeadsAlong : List (List ℕ) → Bounds → Bool → Item → Progress → Progress → Type 0
+LeadsAlong names bounds last_only next old new =
+    (written : Option (List ℕ)) (stalls : List StallSeen) → LeadsPast names bounds last_only next (place_at old written stalls) None (place_at new written stalls)
+
+-- ---- forms
+-- an event that a form means in a state: it suits the world, and it can be answered there
+pub record IsNext (names : List (List ℕ)) (s : BookState) (form : Object) (e : EventSeen) : Type 0 where
+  pub meant : event_in names s form ≡ Ok e
+  pub suits : Suits s.world e
+  pub answerable : IsAnswerable s.world.definitions s.memoized e
+
+-- a job waits, as the last
+pub record Waits (form : Object) (e : EventSeen) (old new : Progress) : Type 0 where
+  pub state : new.state ≡ state_noted old.state form e
+  pub waiting : jobs_of new.waiting ≡ jobs_of old.waiting ++ new_job e old.state.memoized ∷ []
+  pub counts : new.counts ≡ old.counts
+
+-- an event is answered while jobs wait. Its answer changes the state no more than the event does
+pub record Follows (names : List (List ℕ)) (bounds : Bounds) (form : Object) (e : EventSeen) (old new : Progress) : Type 0 where
+  pub put : IsPutBehind names bounds old.state e (jobs_of old.waiting) (jobs_of new.waiting)
+  pub state : new.state ≡ next_state old.state form e nil
+  pub counts : new.counts ≡ old.counts
 
 -- ---- the end of a phase, as a whole
 -- an answer for each job, proper at its place; their lines were written and their stalls kept, in the order of the book

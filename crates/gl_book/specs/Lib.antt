@@ -6,6 +6,7 @@ pub mod Lines
 pub mod Walk
 pub mod Transcript
 pub mod Stops
+pub mod Openings
 pub mod Generated
 pub mod Completeness
 pub mod Pieces

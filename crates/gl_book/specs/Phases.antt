@@ -1,11 +1,9 @@
 -- The jobs of a phase, and when their answers are proper.
-use Rattle.std.specs.Prelude.{◌≡◌, ℕ, ◌≤◌, Bool, true, false, List, [], ◌∷◌, ◌++◌, map, Result, Ok, Err, IfOk, Vec}
+use Rattle.std.specs.Prelude.{◌≡◌, ◌⊎◌, ℕ, ◌≤◌, ◌<◌, Bool, true, false, List, [], ◌∷◌, ◌++◌, length, map, Result, Ok, Err, IfOk, Vec}
 use Rattle.std.proofs.Common.{Global}
-use Rattle.gl_logic.specs.Object.{Object, nil}
 use Rattle.gl_logic.specs.Definition.{Definition}
 use Rattle.gl_logic.specs.WorldSeen.{WorldSeen}
-use Rattle.event_world.specs.EventSeen.{EventSeen, Defun, Defconst, Value, Assert, Theorem, Cases, Clique}
-use Rattle.event_world.specs.NextState.{BookState, next_state}
+use Rattle.event_world.specs.EventSeen.{EventSeen, Defun, Defconst, Clique}
 use Rattle.event_world.specs.Seen.{event_seen}
 use Rattle.gl_decide.specs.Bounds.{Bounds}
 use Rattle.book_state.specs.States.{is_job}
@@ -41,6 +39,10 @@ jobs_of waiting = map job_seen waiting.jobs.items
 
 abbrev pub new_job : EventSeen → List ℕ → JobSeen
 new_job e memoized = record { event = e; memoized = memoized; behind = [] }
+
+-- an event that is taken in before its phase ends: a job, or another behind a job
+abbrev pub StaysIn : List JobSeen → EventSeen → Type 0
+StaysIn jobs e = (is_job e ≡ true) ⊎ ((ends_phase e ≡ false) × (0 < length jobs))
 
 -- lines more behind the last job
 pub record IsFollowed (old : List JobSeen) (lines : List (List ℕ)) (new : List JobSeen) : Type 0 where

@@ -1,6 +1,6 @@
 -- What is written of a walk, and what a run that stops has done to the sink.
 use Rattle.gl_decide.specs.Bounds.{Bounds}
-use Rattle.std.specs.Prelude.{◌≡◌, ℕ, ◌+◌, ◌-◌, ◌^◌, ◌<◌, Bool, cond, List, [], ◌∷◌, ◌++◌, take, Option, Some, None, Result, Ok, Err, MatchResult}
+use Rattle.std.specs.Prelude.{◌≡◌, ℕ, ◌+◌, ◌-◌, ◌^◌, ◌<◌, Bool, cond, List, [], ◌∷◌, ◌++◌, take, Option, Some, None, Result, Ok, Err, IfOk, MatchResult}
 use Rattle.std.specs.List.{concat}
 use Rattle.gl_base.specs.Outside.{Grows, Rose}
 use Rattle.gl_base.specs.declared.status.Status.{Status}
@@ -10,7 +10,7 @@ use Rattle.book_shelf.specs.declared.finish.Finish.TheVariants as finish
 use Rattle.book_shelf.specs.declared.library.Library.{Library}
 use Rattle.gl_decide.specs.Stalls.{StallSeen}
 use Rattle.event_world.specs.NextState.{BookState}
-use Rattle.gl_book.specs.Entry.{Entry, stalls_in}
+use Rattle.gl_book.specs.Entry.{Entry, Refused, stalls_in}
 use Rattle.gl_book.specs.Lines.{refused_line, is_proved, is_vacuous, is_refuted, is_undecided, is_failed, done_line, status_by, transcript_lines, status_of}
 use Rattle.gl_book.specs.Walk.{Walk, end_refusal}
 use Rattle.gl_book.specs.Transcript.{Telling, told, WritesAll, WritesSome}
@@ -52,6 +52,11 @@ abbrev pub closing_status : Counts → Option Refusal → Status
 closing_status counts None = status_by counts
 closing_status counts (Some r) = status.BookRefused
 
+-- the entries that end a book
+abbrev pub closing : Option Refusal → List Entry
+closing None = []
+closing (Some r) = Refused r ∷ []
+
 -- ---- a walk
 -- what these lines tell was written, or the front of it
 abbrev pub WritesLines : Bool → List (List ℕ) → Option (List ℕ) → Option (List ℕ) → Type 0
@@ -85,6 +90,13 @@ WritesWalkFront names bounds first book last_only old new before after =
 abbrev pub told_before : Bool → List (List ℕ) → List ℕ
 told_before last_only lines = cond last_only [] (concat lines)
 
+-- they were written, or the front of them
+abbrev pub WritesBefore : Bool → List (List ℕ) → Option (List ℕ) → Option (List ℕ) → Type 0
+WritesBefore last_only lines old new = Grows old new (told_before last_only lines)
+
+abbrev pub WritesBeforeFront : Bool → List (List ℕ) → Option (List ℕ) → Option (List ℕ) → Type 0
+WritesBeforeFront last_only lines old new = (n : ℕ) × Grows old new (take n (told_before last_only lines))
+
 -- ---- a run
 abbrev pub status_from : Result Status Stop → Status
 status_from (Ok s) = s
@@ -103,3 +115,8 @@ IsReported s = Unit {0}
 abbrev pub EndsBy : Telling → Bool → Option (List ℕ) → Option (List ℕ) → List StallSeen → List StallSeen → Result Status Stop → Type 0
 EndsBy tells last_only old new before after (Ok s) = WritesAll tells last_only old new before after s
 EndsBy tells last_only old new before after (Err stop) = WritesSome tells last_only old new before after
+
+-- the same, where that status is one that a transcript gives
+pub record EndsReported (tells : Telling) (last_only : Bool) (old new : Option (List ℕ)) (before after : List StallSeen) (run : Result Status Stop) : Type 0 where
+  pub ends : EndsBy tells last_only old new before after run
+  pub reported : IfOk run IsReported

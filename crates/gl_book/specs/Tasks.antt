@@ -2,7 +2,6 @@
 use Rattle.std.specs.Prelude.{◌≡◌, ℕ, ◌≤◌, List, [], ◌∷◌, ◌++◌, length, map, All}
 use Rattle.std.specs.List.{flat_map}
 use Rattle.gl_logic.specs.WorldSeen.{WorldSeen}
-use Rattle.shape_spec.specs.declared.fn_set.FnSet.{FnSet}
 use Rattle.event_world.specs.EventSeen.{EventSeen, Theorem, Cases}
 use Rattle.event_world.specs.Seen.{event_seen}
 use Rattle.shape_spec.specs.TheoremSeen.{TheoremSeen, theorem_seen}

@@ -1,10 +1,9 @@
 -- The transcript of a text, and of a book with the books that it includes.
 use Rattle.gl_decide.specs.Bounds.{Bounds}
 use Rattle.gl_decide.specs.Stalls.{StallSeen}
-use Rattle.std.specs.Prelude.{◌≡◌, ◌⊎◌, ℕ, ◌-◌, ◌≤◌, Bool, false, cond, List, [], ◌∷◌, ◌++◌, length, take, get_or, map, All, Option, IfSome}
+use Rattle.std.specs.Prelude.{◌≡◌, ◌⊎◌, ℕ, ◌-◌, ◌≤◌, Bool, false, cond, List, [], ◌∷◌, ◌++◌, length, take, get_or, map, Option, IfSome}
 use Rattle.std.specs.List.{concat}
 use Rattle.gl_logic.specs.Every.{Every}
-use Rattle.gl_logic.specs.Numbered.{IsNumbered}
 use Rattle.gl_logic.specs.Names.{IsTable, Extends, with_name}
 use Rattle.gl_base.specs.Outside.{Grows}
 use Rattle.gl_base.specs.declared.status.Status.{Status}

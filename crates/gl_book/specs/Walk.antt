@@ -1,10 +1,6 @@
 -- What comes of a book's forms and of the books that it includes, one after the other.
-use Rattle.std.specs.Prelude.{◌≡◌, ◌≢◌, ℕ, zero, suc, List, [], ◌∷◌, Option, Some, None, Ok, Err, refl}
-use Rattle.std.specs.Coded.{Coded, code_by, coded×, coded_ℕ, coded_list}
+use Rattle.std.specs.Prelude.{◌≡◌, ◌≢◌, ℕ, List, [], ◌∷◌, Option, Some, None, Ok, Err}
 use Rattle.gl_logic.specs.Object.{Object, nil}
-use Rattle.gl_logic.specs.WorldSeen.{WorldSeen, IsWorld, coded_world}
-use Rattle.shape_spec.specs.declared.theorem.Mode.{Mode}
-use Rattle.shape_spec.specs.declared.theorem.Mode.TheVariants as mode
 use Rattle.sexp_reader.specs.declared.list.Form.{Form}
 use Rattle.book_shelf.specs.declared.finish.Finish.{Finish}
 use Rattle.book_shelf.specs.declared.finish.Finish.TheVariants as finish
@@ -16,11 +12,7 @@ use Rattle.book_shelf.specs.declared.item.Item.TheVariants as item
 use Rattle.book_shelf.specs.declared.item.Mark.{Mark}
 use Rattle.event_world.specs.declared.fault.EventFault.{EventFault}
 use Rattle.event_world.specs.EventSeen.{EventSeen, Defconst}
-use Rattle.event_world.specs.EventMeant.{event_meant}
 use Rattle.event_world.specs.NextState.{BookState, next_state}
-use Rattle.event_world.specs.Outcomes.{Outcome}
-use Rattle.event_world.specs.Prelude.{IsPrelude}
-use Rattle.event_world.specs.Suits.{HasAllGround}
 use Rattle.gl_decide.specs.Bounds.{Bounds}
 use Rattle.book_state.specs.States.{event_in}
 use Rattle.gl_book.specs.Answers.{IsProperAnswer}

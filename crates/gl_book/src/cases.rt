@@ -55,7 +55,10 @@ fn input_of(alloc: Global, verdict: Verdict) -> Inputs
 {
     match verdict {
         Verdict::Refuted(input) => input,
-        _ => Inputs::new(alloc),
+        other => {
+            drop(other);
+            Inputs::new(alloc)
+        }
     }
 }
 
@@ -78,13 +81,28 @@ pub(crate) fn whole_of(
     requires { length cases.items + 1 < 2 ^ 32 }
     ensures { IfOk result (λ v. v ≡ verdict_from (settled_of cover cases.items) cover cases.items) }
 {
-    let outcomes = outcomes(alloc, &cases)?;
+    let Ok(outcomes) = outcomes(alloc, &cases) else {
+        drop(cover);
+        return Err(NoMemory);
+    };
     Ok(match settle(outcome(&cover), &outcomes) {
-        Settled::Proved => CasesVerdict::Proved,
-        Settled::Vacuous => CasesVerdict::Vacuous,
-        Settled::Refuted(number) => CasesVerdict::Refuted(input_of(alloc, case_at(cases, number))),
+        Settled::Proved => {
+            drop(cover);
+            CasesVerdict::Proved
+        }
+        Settled::Vacuous => {
+            drop(cover);
+            CasesVerdict::Vacuous
+        }
+        Settled::Refuted(number) => {
+            drop(cover);
+            CasesVerdict::Refuted(input_of(alloc, case_at(cases, number)))
+        }
         Settled::Uncased => CasesVerdict::Uncased(input_of(alloc, cover)),
         Settled::Cover => CasesVerdict::Cover(cover),
-        Settled::Case(number) => CasesVerdict::Case(number, case_at(cases, number)),
+        Settled::Case(number) => {
+            drop(cover);
+            CasesVerdict::Case(number, case_at(cases, number))
+        }
     })
 }

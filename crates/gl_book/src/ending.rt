@@ -32,8 +32,10 @@ pub(crate) fn end_phase<R: Threads + Sync, K: Sink, G: Gate>(
 ) -> Result<(), Stop>
     requires ready { All (CanBeAnswered progress.old.state.world.definitions) (jobs_of progress.old.waiting) }
     requires room { HasRoomFor (length (jobs_of progress.old.waiting)) progress.old.counts }
-    ensures ok { OnOk result (EndsPhase texts.now (bounds_of run.now.limits.now) run.now.last_only progress.old (K.written out.old) stalls.old progress.new (K.written out.new) stalls.new) }
-    ensures front { OnErr result (EndsPhaseByFront texts.now (bounds_of run.now.limits.now) run.now.last_only progress.old (K.written out.old) stalls.old (K.written out.new) stalls.new) }
+    ensures ok { OnOk result (EndsPhase texts.now (bounds_of run.now.limits.now) run.now.last_only
+        progress.old (K.written out.old) stalls.old progress.new (K.written out.new) stalls.new) }
+    ensures front { OnErr result (EndsPhaseByFront texts.now (bounds_of run.now.limits.now) run.now.last_only
+        progress.old (K.written out.old) stalls.old (K.written out.new) stalls.new) }
     ensures cause { IsCounted (K.faults out.old) (K.faults out.new) result }
 {
     let Ok(answers) = answers_at(run, &progress.state, &progress.waiting) else {

@@ -34,10 +34,14 @@ pub fn value_of(
     ensures cause { IfErr result (HasCause (bounds_of limits.now) world.now memoized.now (term_of term.now)) }
 {
     let (machine, id) = evaluated(alloc, world, memoized, term, limits)?;
-    match machine.arena().tree_of(alloc, id) {
+    let value = machine.arena().tree_of(alloc, id);
+    drop(machine);
+    match value {
         Ok(value) => Ok(value),
-        Err(TreeFault::Large) => Err(Cause::Size),
-        Err(TreeFault::Memory) => Err(Cause::Memory),
+        Err(fault) => match fault {
+            TreeFault::Large => Err(Cause::Size),
+            TreeFault::Memory => Err(Cause::Memory),
+        },
     }
 }
 
@@ -55,7 +59,9 @@ pub fn truth_of(
     ensures cause { IfErr result (LacksValue (bounds_of limits.now) world.now memoized.now (term_of term.now)) }
 {
     let (machine, id) = evaluated(alloc, world, memoized, term, limits)?;
-    Ok(!is_nil(machine.arena(), id))
+    let truth = !is_nil(machine.arena(), id);
+    drop(machine);
+    Ok(truth)
 }
 
 /// A machine in which a term has been evaluated, and the id of its value.
@@ -74,7 +80,10 @@ fn evaluated(
     let mut machine = begun(alloc, world, memoized, term, limits)?;
     match machine.eval(world, term, &Env::new(alloc)) {
         Ok(id) => Ok((machine, id)),
-        Err(fault) => Err(cause_of(fault)),
+        Err(fault) => {
+            drop(machine);
+            Err(cause_of(fault))
+        }
     }
 }
 
@@ -98,7 +107,10 @@ fn begun(
     };
     match machine.begin(world, memoized) {
         Ok(()) => Ok(machine),
-        Err(fault) => Err(cause_of(fault)),
+        Err(fault) => {
+            drop(machine);
+            Err(cause_of(fault))
+        }
     }
 }
 

@@ -40,8 +40,13 @@ fn next_answer(alloc: Global, job: &Job, given: &mut VecDeque<Answer>) -> Result
 {
     if let Event::Cases(thm) = &job.event {
         let cover = next_verdict(given);
-        let cases = next_verdicts(alloc, thm.cases.len(), given)?;
-        return Ok(Answer::ByCases(whole_of(alloc, cover, cases)?));
+        return match next_verdicts(alloc, thm.cases.len(), given) {
+            Ok(cases) => Ok(Answer::ByCases(whole_of(alloc, cover, cases)?)),
+            Err(fault) => {
+                drop(cover);
+                Err(fault)
+            }
+        };
     }
     // each task has an answer
     given.pop_front().ok_or(NoMemory)
@@ -69,6 +74,9 @@ fn next_verdict(given: &mut VecDeque<Answer>) -> Verdict
 {
     match given.pop_front() {
         Some(Answer::Decided(verdict)) => verdict,
-        _ => Verdict::Memory,
+        other => {
+            drop(other);
+            Verdict::Memory
+        }
     }
 }

@@ -5,6 +5,7 @@ ghost use Rattle.gl_logic.specs.Extents.{world_cut};
 ghost use Rattle.gl_logic.specs.Names.{with_name};
 ghost use Rattle.gl_logic.specs.WorldSeen.{IsWorld};
 ghost use Rattle.book_shelf.specs.Flat.{most_bytes};
+ghost use Rattle.book_shelf.specs.Listed.{finish_of};
 ghost use Rattle.book_shelf.specs.declared.finish.Finish.TheVariants.{Clean};
 ghost use Rattle.event_world.specs.Seen.{event_seen};
 ghost use Rattle.event_world.specs.Suits.{Suits};
@@ -17,13 +18,14 @@ ghost use Rattle.book_state.specs.States.{CanGoOn, event_in};
 
 use super::answer::{Answer, Cause};
 use super::last_step::{Kept, Step};
+use super::opening::{Opened, open};
 use super::untried::{untried, value_given};
 use super::walk::refused_cause;
 use book_state::State;
 use event_world::{Event, EventFault};
 use gl_base::limits::Limits;
 use gl_logic::{Extent, NoMemory, Texts, World};
-use sexp_reader::{End, Form, FormList, forms, too_long};
+use sexp_reader::{End, Form, FormList, Forms, too_long};
 use shape_spec::Thm;
 use std::alloc::Global;
 
@@ -59,19 +61,47 @@ fn last_of(alloc: Global, text: &[u8], limits: &Limits) -> Result<Last, NoMemory
     ensures last { IfOk result (IsLast (bounds_of limits.now) text.now) }
     ensures ready { IfOk result IsReadyLast }
 {
-    let mut texts = Texts::new(alloc)?;
-    let mut state = State::new(alloc, &mut texts)?;
-    let forms = forms(alloc, text, &mut texts)?;
-    match forms.end {
-        End::Clean => {}
-        End::Bad(_, _, _) => return Ok(Last::None),
-    }
-    match last_kept(alloc, &forms.list, limits, &mut state, &mut texts)? {
-        Some(kept) => {
+    let Opened {
+        mut texts,
+        mut state,
+        forms,
+    } = open(alloc, text)?;
+    let kept = last_in(alloc, &forms, limits, &mut state, &mut texts);
+    drop(forms);
+    match kept {
+        Ok(Some(kept)) => {
             let world = world_at(state, kept.extent);
             Ok(Last::Found(world, kept.thm, texts))
         }
-        None => Ok(Last::None),
+        Ok(None) => {
+            drop(state);
+            drop(texts);
+            Ok(Last::None)
+        }
+        Err(fault) => {
+            drop(state);
+            drop(texts);
+            Err(fault)
+        }
+    }
+}
+
+/// Takes the forms of a text in. The last theorem among them, where they have one and neither they nor their end is refused.
+fn last_in(
+    alloc: Global,
+    forms: &Forms,
+    limits: &Limits,
+    state: &mut State,
+    texts: &mut Texts,
+) -> Result<Option<Kept>, NoMemory>
+    requires empty { with_name texts.old [] ≡ texts.old }
+    requires can_go_on { CanGoOn state.old }
+    ensures walked { IfOk result (IsWalkedTo texts.old (bounds_of limits.now) state.old forms.now.list (finish_of forms.now.end) state.new.world) }
+    ensures texts { texts.new ≡ texts.old }
+{
+    match forms.end {
+        End::Clean => last_kept(alloc, &forms.list, limits, state, texts),
+        End::Bad(_, _, _) => Ok(None),
     }
 }
 
@@ -100,10 +130,19 @@ fn last_kept(
 {
     let mut last = None;
     for i in 0..forms.len() {
-        match take_form(alloc, forms.at(i), limits, state, texts)? {
-            Step::Refused => return Ok(None),
-            Step::Theorem(kept) => last = Some(kept),
-            Step::Other => {}
+        match take_form(alloc, forms.at(i), limits, state, texts) {
+            Ok(step) => match step {
+                Step::Refused => {
+                    drop(last);
+                    return Ok(None);
+                }
+                Step::Theorem(kept) => drop(last.replace(kept)),
+                Step::Other => {}
+            },
+            Err(fault) => {
+                drop(last);
+                return Err(fault);
+            }
         }
     }
     Ok(last)
@@ -140,7 +179,8 @@ fn take_event(
 ) -> Result<Step, NoMemory>
     requires suits { Suits state.old.world (event_seen event) }
     requires answerable { IsAnswerable state.old.world.definitions state.old.memoized (event_seen event) }
-    ensures { (names : List (List ℕ)) → event_in names state.old form.now.tree ≡ Ok (event_seen event) → IfOk result (StepsTo names (bounds_of limits.now) form.now state.old state.new) }
+    ensures { (names : List (List ℕ)) → event_in names state.old form.now.tree ≡ Ok (event_seen event)
+        → IfOk result (StepsTo names (bounds_of limits.now) form.now state.old state.new) }
 {
     let answer = untried(alloc, state.world(), state.memoized(), &event, limits);
     match refused_cause(&event, &answer) {
@@ -172,13 +212,18 @@ fn take_answered(
     let extent = state.world().extent();
     match event {
         Event::Theorem(thm) => {
-            state.note_theorem(alloc, &form.tree, &thm)?;
             drop(answer);
-            Ok(Step::Theorem(Kept { thm, extent }))
+            match state.note_theorem(alloc, &form.tree, &thm) {
+                Ok(()) => Ok(Step::Theorem(Kept { thm, extent })),
+                Err(fault) => {
+                    drop(thm);
+                    Err(fault)
+                }
+            }
         }
-        event => {
-            state.take(alloc, &form.tree, event, value_given(answer))?;
-            Ok(Step::Other)
-        }
+        event => match state.take(alloc, &form.tree, event, value_given(answer)) {
+            Ok(()) => Ok(Step::Other),
+            Err(fault) => Err(fault),
+        },
     }
 }

@@ -39,7 +39,8 @@ pub fn one_refusal()
 /// A transcript of a book whose text includes no other is one of the text, whatever else the shelf has.
 pub fn alone_has_its_text()
     ensures { (bounds : Bounds) (shelf : List ℕ → List ℕ) (name : List ℕ) (lines : List (List ℕ)) (stalls : List StallSeen) (s : StatusSeen)
-        → ((names : List (List ℕ)) (forms : List FormSeen) (end : EndSeen) → IsReadBy names (shelf name) forms end → Every (λ form. included names form.tree ≡ None) forms)
+        → ((names : List (List ℕ)) (forms : List FormSeen) (end : EndSeen)
+        → IsReadBy names (shelf name) forms end → Every (λ form. included names form.tree ≡ None) forms)
         → IsBookTranscript bounds shelf name lines stalls s → IsTranscript bounds (shelf name) lines stalls s }
 {}
 

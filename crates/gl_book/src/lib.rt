@@ -5,8 +5,8 @@
 //! - jobs, whose answers may come later: `waiting`, a list of `job`; their answers by any number of workers, `phase`, by
 //!   `task`, `piece` and `pieces`, and `gather`, from tasks back to jobs;
 //! - answers to what is written: `walk` over all forms and the marks of included books, by `one_run`, `progress`,
-//!   `put_event`, `marks`, and `ending`, where a phase ends; `lines`, `measure_words`, `refusal`, `counts`, `line_list`, `put_lines`, `stop`,
-//!   `run`;
+//!   `put_event`, `marks`, and `ending`, where a phase ends; `lines`, `measure_words`, `refusal`, `counts`, `line_list`,
+//!   `put_lines`, `stop`; `run`, by `opening`, what each run begins with;
 //! - what is left of an answer then: `settle`;
 //! - the last theorem of a text, without deciding one: `last`, by `last_step` and `untried`, and the lines of a verdict on it,
 //!   `verdict_text`.
@@ -31,6 +31,7 @@ mod lines;
 mod marks;
 mod measure_words;
 mod one_run;
+mod opening;
 mod phase;
 mod piece;
 mod pieces;

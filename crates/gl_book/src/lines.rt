@@ -5,7 +5,10 @@ ghost use Rattle.std.specs.Fmt.{decimal};
 ghost use Rattle.gl_logic.specs.DefinitionOf.{definition_of};
 ghost use Rattle.sexp_print.specs.Printed.{printed};
 ghost use Rattle.event_world.specs.Seen.{event_seen};
-ghost use Rattle.gl_book.specs.Lines.{named_line, input_lines, part_word, open_words, open_input, open_lines, refuted_lines, verdict_lines, cases_lines, redundant_line, defun_line, constant_lines, value_lines, assert_lines, undecided_line, function_lines, mode_line, theorem_lines, by_cases_lines, event_lines};
+ghost use Rattle.gl_book.specs.Lines.{named_line, input_lines, part_word, open_words, open_input, open_lines};
+ghost use Rattle.gl_book.specs.Lines.{refuted_lines, verdict_lines, cases_lines, redundant_line, defun_line, constant_lines};
+ghost use Rattle.gl_book.specs.Lines.{value_lines, assert_lines, undecided_line, function_lines, mode_line};
+ghost use Rattle.gl_book.specs.Lines.{theorem_lines, by_cases_lines, event_lines};
 
 use super::answer::{Answer, Cause};
 use super::cases::CasesVerdict;

@@ -1,9 +1,8 @@
 //! The marks of included books.
 
-ghost use Rattle.std.specs.Prelude.{◌≡◌, ℕ, [], ◌∷◌, ◌++◌, take, OnOk, OnErr};
-ghost use Rattle.gl_base.specs.Outside.{Grows};
+ghost use Rattle.std.specs.Prelude.{◌≡◌, [], ◌∷◌, ◌++◌, OnOk, OnErr};
 ghost use Rattle.gl_book.specs.Lines.{mark_line};
-ghost use Rattle.gl_book.specs.Stops.{IsCounted, told_before};
+ghost use Rattle.gl_book.specs.Stops.{IsCounted, WritesBefore, WritesBeforeFront};
 
 use super::line_list::Lines;
 use super::lines::add_named;
@@ -38,8 +37,8 @@ pub(crate) fn put_mark<K: Sink>(
     last_only: bool,
     out: &mut K,
 ) -> Result<(), Stop>
-    ensures ok { OnOk result (Grows (K.written out.old) (K.written out.new) (told_before last_only (mark_line texts.now mark ∷ []))) }
-    ensures front { OnErr result ((n : ℕ) × Grows (K.written out.old) (K.written out.new) (take n (told_before last_only (mark_line texts.now mark ∷ [])))) }
+    ensures ok { OnOk result (WritesBefore last_only (mark_line texts.now mark ∷ []) (K.written out.old) (K.written out.new)) }
+    ensures front { OnErr result (WritesBeforeFront last_only (mark_line texts.now mark ∷ []) (K.written out.old) (K.written out.new)) }
     ensures cause { IsCounted (K.faults out.old) (K.faults out.new) result }
 {
     let mut lines = Lines::new(alloc);

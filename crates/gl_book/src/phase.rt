@@ -142,7 +142,8 @@ fn answers_by_piece<R: Threads + Sync, G: Gate>(
     requires answerable { All (CanBeAnswered world.now.definitions) (tasks_in tasks.now) }
     requires within { All (IsWithin (length (tasks_in tasks.now))) pieces.items }
     ensures count { IfOk result (λ v. vec_len v ≡ vec_len pieces) }
-    ensures each { IfOk result (λ v. (i : ℕ) (p : PieceSeen) (a : _) → i < length pieces.items → IsPieceAnswered (bounds_of limits.now) world.now (tasks_in tasks.now) (slice_index_or pieces.items i p) (slice_index_or v.items i a)) }
+    ensures each { IfOk result (λ v. (i : ℕ) (p : PieceSeen) (a : _) → i < length pieces.items
+        → IsPieceAnswered (bounds_of limits.now) world.now (tasks_in tasks.now) (slice_index_or pieces.items i p) (slice_index_or v.items i a)) }
 {
     let each = |piece: Piece| -> Result<Vec<Answer>, NoMemory>
         requires { All (CanBeAnswered world.now.definitions) (tasks_in tasks.now) × IsWithin (length (tasks_in tasks.now)) piece }

@@ -1,15 +1,14 @@
 //! The lines of one event to a sink, and its stall.
 
-ghost use Rattle.std.specs.Prelude.{◌≡◌, ℕ, take, IfOk, OnOk, OnErr};
+ghost use Rattle.std.specs.Prelude.{◌≡◌, IfOk, OnOk, OnErr};
 ghost use Rattle.std.specs.List.{concat};
-ghost use Rattle.gl_base.specs.Outside.{Grows};
 ghost use Rattle.event_world.specs.Seen.{event_seen};
 ghost use Rattle.gl_book.specs.Courses.{job_lines};
 ghost use Rattle.gl_book.specs.Entry.{stalls_of};
 ghost use Rattle.gl_book.specs.Lines.{event_lines};
 ghost use Rattle.gl_book.specs.Phases.{job_seen};
 ghost use Rattle.gl_book.specs.Walk.{value_in};
-ghost use Rattle.gl_book.specs.Stops.{IsCounted, Keeps, KeepsFront, told_before};
+ghost use Rattle.gl_book.specs.Stops.{IsCounted, Keeps, KeepsFront, WritesBefore, WritesBeforeFront, told_before};
 
 use super::answer::Answer;
 use super::job::Job;
@@ -35,14 +34,15 @@ pub(crate) fn put_event<K: Sink>(
     stalls: &mut Stalls,
     out: &mut K,
 ) -> Result<Tree, Stop>
-    ensures ok { OnOk result (Grows (K.written out.old) (K.written out.new) (told_before last_only (event_lines texts.now (event_seen event.now) answer))) }
+    ensures ok { OnOk result (WritesBefore last_only (event_lines texts.now (event_seen event.now) answer) (K.written out.old) (K.written out.new)) }
     ensures kept { OnOk result (Keeps (stalls_of answer) stalls.old stalls.new) }
     ensures value { IfOk result (λ x. x ≡ value_in answer) }
-    ensures front { OnErr result ((n : ℕ) × Grows (K.written out.old) (K.written out.new) (take n (told_before last_only (event_lines texts.now (event_seen event.now) answer)))) }
+    ensures front { OnErr result (WritesBeforeFront last_only (event_lines texts.now (event_seen event.now) answer) (K.written out.old) (K.written out.new)) }
     ensures kept_front { OnErr result (KeepsFront (stalls_of answer) stalls.old stalls.new) }
     ensures cause { IsCounted (K.faults out.old) (K.faults out.new) result }
 {
     let Ok(lines) = lines_told(alloc, event, &answer, texts, last_only) else {
+        drop(answer);
         return Err(Stop::Memory);
     };
     let Ok(value) = settle(answer, stalls) else {
@@ -81,9 +81,9 @@ pub(crate) fn put_job<K: Sink>(
     stalls: &mut Stalls,
     out: &mut K,
 ) -> Result<(), Stop>
-    ensures ok { OnOk result (Grows (K.written out.old) (K.written out.new) (told_before last_only (job_lines texts.now (job_seen job.now) answer))) }
+    ensures ok { OnOk result (WritesBefore last_only (job_lines texts.now (job_seen job.now) answer) (K.written out.old) (K.written out.new)) }
     ensures kept { OnOk result (Keeps (stalls_of answer) stalls.old stalls.new) }
-    ensures front { OnErr result ((n : ℕ) × Grows (K.written out.old) (K.written out.new) (take n (told_before last_only (job_lines texts.now (job_seen job.now) answer)))) }
+    ensures front { OnErr result (WritesBeforeFront last_only (job_lines texts.now (job_seen job.now) answer) (K.written out.old) (K.written out.new)) }
     ensures kept_front { OnErr result (KeepsFront (stalls_of answer) stalls.old stalls.new) }
     ensures cause { IsCounted (K.faults out.old) (K.faults out.new) result }
 {
@@ -93,8 +93,8 @@ pub(crate) fn put_job<K: Sink>(
 
 /// Writes lines, where not the last line alone is written.
 pub(crate) fn put_behind<K: Sink>(lines: &Lines, last_only: bool, out: &mut K) -> Result<(), Stop>
-    ensures ok { OnOk result (Grows (K.written out.old) (K.written out.new) (told_before last_only lines.now)) }
-    ensures front { OnErr result ((n : ℕ) × Grows (K.written out.old) (K.written out.new) (take n (told_before last_only lines.now))) }
+    ensures ok { OnOk result (WritesBefore last_only lines.now (K.written out.old) (K.written out.new)) }
+    ensures front { OnErr result (WritesBeforeFront last_only lines.now (K.written out.old) (K.written out.new)) }
     ensures cause { IsCounted (K.faults out.old) (K.faults out.new) result }
 {
     if last_only {

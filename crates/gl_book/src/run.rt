@@ -9,12 +9,14 @@ ghost use Rattle.gl_decide.specs.Stalls.{StallSeen};
 ghost use Rattle.gl_logic.specs.Every.{Every};
 ghost use Rattle.gl_logic.specs.Names.{Extends};
 ghost use Rattle.book_shelf.specs.NumberedItems.{IsNumberedItem};
-ghost use Rattle.gl_book.specs.Transcript.{IsTranscript, EndsWith, EndsWithList, WritesBook};
+ghost use Rattle.gl_book.specs.Openings.{HasBegun};
+ghost use Rattle.gl_book.specs.Transcript.{IsTranscript, IsListTranscript, EndsWith, EndsWithList, WritesBook};
 ghost use Rattle.book_shelf.specs.Flat.{most_bytes};
-ghost use Rattle.gl_book.specs.Stops.{EndsBy, status_from, IsCounted, IsReported};
+ghost use Rattle.gl_book.specs.Stops.{EndsReported, status_from, IsCounted, IsReported};
 
 use super::counts::Counts;
 use super::one_run::Run;
+use super::opening::{Begun, Opened, begin, open};
 use super::refusal::{Refusal, RefusalCode};
 use super::stop::Stop;
 use super::walk::{close, walk};
@@ -26,7 +28,7 @@ use gl_base::sink::Sink;
 use gl_base::status::Status;
 use gl_decide::{Gate, OpenGate, Stalls};
 use gl_logic::Texts;
-use sexp_reader::{forms, too_long};
+use sexp_reader::too_long;
 use std::alloc::Global;
 use std::thread::Threads;
 
@@ -101,7 +103,8 @@ pub fn run_library<R: Threads + Sync, K: Sink>(
     out: &mut K,
 ) -> Status
     requires numbered { Every (IsNumberedItem (length texts.old)) library.now.items }
-    ensures written { EndsWithList (bounds_of limits.now) texts.old library.now.items library.now.finish (K.written out.old) (K.written out.new) stalls.old stalls.new result }
+    ensures written { EndsWithList (bounds_of limits.now) texts.old library.now.items library.now.finish
+        (K.written out.old) (K.written out.new) stalls.old stalls.new result }
     ensures texts { Extends texts.old texts.new }
     ensures write_fault { result ≡ Status.WriteFault → Rose (K.faults out.old) (K.faults out.new) }
     ensures no_write_fault { result ≢ Status.WriteFault → K.faults out.new ≡ K.faults out.old }
@@ -111,8 +114,6 @@ pub fn run_library<R: Threads + Sync, K: Sink>(
     let Ok(state) = State::new(alloc, texts) else {
         return Status::NoMemory;
     };
-    // the texts of a table are different, so one text has one number
-    texts.is_table();
     let run = Run {
         rt,
         alloc,
@@ -120,7 +121,7 @@ pub fn run_library<R: Threads + Sync, K: Sink>(
         last_only: false,
         gate: &OpenGate,
     };
-    status_of_run(walk(&run, library, state, texts, stalls, out))
+    status_of_run(write_list(&run, library, state, texts, stalls, out))
 }
 
 /// Reads the book of a name and the books that it includes, and then writes the transcript.
@@ -136,7 +137,8 @@ pub fn run_book<R: Threads + Sync, S: Shelf, K: Sink>(
     stalls: &mut Stalls,
     out: &mut K,
 ) -> Status
-    ensures written { result ≢ Status.ReadFault → WritesBook (bounds_of limits.now) (S.holds shelf.old) name.now (K.written out.old) (K.written out.new) stalls.old stalls.new result }
+    ensures written { result ≢ Status.ReadFault → WritesBook (bounds_of limits.now) (S.holds shelf.old) name.now
+        (K.written out.old) (K.written out.new) stalls.old stalls.new result }
     ensures read_fault { result ≡ Status.ReadFault → Rose (S.faults shelf.old) (S.faults shelf.new) }
     ensures no_read_fault { result ≢ Status.ReadFault → S.faults shelf.new ≡ S.faults shelf.old }
     ensures unwritten { result ≡ Status.ReadFault → K.written out.new ≡ K.written out.old }
@@ -145,27 +147,32 @@ pub fn run_book<R: Threads + Sync, S: Shelf, K: Sink>(
     ensures no_write_fault { result ≢ Status.WriteFault → K.faults out.new ≡ K.faults out.old }
     ensures no_usage { result ≢ Status.Usage }
 {
-    let Ok(mut texts) = Texts::new(alloc) else {
+    let Ok(Begun { mut texts, state }) = begin(alloc) else {
         return Status::NoMemory;
     };
-    let Ok(state) = State::new(alloc, &mut texts) else {
-        return Status::NoMemory;
-    };
-    let library = match load(alloc, shelf, name, &mut texts) {
-        Ok(library) => library,
-        Err(LoadEnd::Failed) => return Status::ReadFault,
-        Err(LoadEnd::Memory) => return Status::NoMemory,
-    };
-    // the texts of a table are different, so one text has one number
-    texts.is_table();
-    let run = Run {
-        rt,
-        alloc,
-        limits,
-        last_only: false,
-        gate: &OpenGate,
-    };
-    status_of_run(walk(&run, &library, state, &mut texts, stalls, out))
+    match load(alloc, shelf, name, &mut texts) {
+        Ok(library) => {
+            let run = Run {
+                rt,
+                alloc,
+                limits,
+                last_only: false,
+                gate: &OpenGate,
+            };
+            let written = write_list(&run, &library, state, &mut texts, stalls, out);
+            drop(library);
+            drop(texts);
+            status_of_run(written)
+        }
+        Err(fault) => {
+            drop(state);
+            drop(texts);
+            match fault {
+                LoadEnd::Failed => Status::ReadFault,
+                LoadEnd::Memory => Status::NoMemory,
+            }
+        }
+    }
 }
 
 /// The status of a run.
@@ -184,7 +191,7 @@ fn status_of_run(run: Result<Status, Stop>) -> Status
     }
 }
 
-/// Makes the first state, reads a text's forms, and walks over them.
+/// Reads a text's forms and walks over them.
 fn write_text<R: Threads + Sync, K: Sink, G: Gate>(
     run: &Run<'_, R, G>,
     text: &[u8],
@@ -192,23 +199,50 @@ fn write_text<R: Threads + Sync, K: Sink, G: Gate>(
     out: &mut K,
 ) -> Result<Status, Stop>
     requires { length text.now ≤ most_bytes }
-    ensures written { EndsBy (IsTranscript (bounds_of run.now.limits.now) text.now) run.now.last_only (K.written out.old) (K.written out.new) stalls.old stalls.new result }
-    ensures reported { IfOk result IsReported }
+    ensures written { EndsReported (IsTranscript (bounds_of run.now.limits.now) text.now) run.now.last_only
+        (K.written out.old) (K.written out.new) stalls.old stalls.new result }
     ensures cause { IsCounted (K.faults out.old) (K.faults out.new) result }
 {
-    let Ok(mut texts) = Texts::new(run.alloc) else {
-        return Err(Stop::Memory);
-    };
-    let Ok(state) = State::new(run.alloc, &mut texts) else {
-        return Err(Stop::Memory);
-    };
-    let Ok(forms) = forms(run.alloc, text, &mut texts) else {
+    let Ok(
+        Opened {
+            mut texts,
+            state,
+            forms,
+        },
+    ) = open(run.alloc, text)
+    else {
         return Err(Stop::Memory);
     };
     let Ok(book) = Library::alone(run.alloc, forms) else {
+        drop(texts);
+        drop(state);
         return Err(Stop::Memory);
     };
-    walk(run, &book, state, &mut texts, stalls, out)
+    let written = walk(run, &book, state, &mut texts, stalls, out);
+    drop(book);
+    drop(texts);
+    written
+}
+
+/// Walks over a list from the first state of a book on.
+fn write_list<R: Threads + Sync, K: Sink, G: Gate>(
+    run: &Run<'_, R, G>,
+    library: &Library,
+    state: State,
+    texts: &mut Texts,
+    stalls: &mut Stalls,
+    out: &mut K,
+) -> Result<Status, Stop>
+    requires numbered { Every (IsNumberedItem (length texts.old)) library.now.items }
+    requires begun { HasBegun texts.old state }
+    ensures written { EndsReported (IsListTranscript (bounds_of run.now.limits.now) texts.old library.now.items library.now.finish)
+        run.now.last_only (K.written out.old) (K.written out.new) stalls.old stalls.new result }
+    ensures texts { texts.new ≡ texts.old }
+    ensures cause { IsCounted (K.faults out.old) (K.faults out.new) result }
+{
+    // the texts of a table are different, so one text has one number
+    texts.is_table();
+    walk(run, library, state, texts, stalls, out)
 }
 
 /// Writes the transcript of a text that is too long at a place.
@@ -219,7 +253,8 @@ fn refuse_long<K: Sink>(
     last_only: bool,
     out: &mut K,
 ) -> Status
-    ensures written { (bounds : Bounds) (text : List ℕ) (stalls : List StallSeen) → IsBeyond most_bytes text line column → EndsWith bounds text last_only (K.written out.old) (K.written out.new) stalls stalls result }
+    ensures written { (bounds : Bounds) (text : List ℕ) (stalls : List StallSeen) → IsBeyond most_bytes text line column
+        → EndsWith bounds text last_only (K.written out.old) (K.written out.new) stalls stalls result }
     ensures write_fault { result ≡ Status.WriteFault → Rose (K.faults out.old) (K.faults out.new) }
     ensures no_write_fault { result ≢ Status.WriteFault → K.faults out.new ≡ K.faults out.old }
     ensures no_read_fault { result ≢ Status.ReadFault }
@@ -235,5 +270,6 @@ fn refuse_long<K: Sink>(
 
 /// A law: each text has a transcript.
 pub fn every_text_has_a_transcript()
-    ensures { (bounds : Bounds) (text : List ℕ) → (lines : List (List ℕ)) × (stalls : List StallSeen) × (s : StatusSeen) × IsTranscript bounds text lines stalls s }
+    ensures { (bounds : Bounds) (text : List ℕ)
+        → (lines : List (List ℕ)) × (stalls : List StallSeen) × (s : StatusSeen) × IsTranscript bounds text lines stalls s }
 {}

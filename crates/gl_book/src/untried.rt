@@ -51,6 +51,9 @@ pub(crate) fn value_given(answer: Answer) -> Tree
 {
     match answer {
         Answer::Value(value) => value,
-        _ => Tree::nil(),
+        other => {
+            drop(other);
+            Tree::nil()
+        }
     }
 }

@@ -53,12 +53,15 @@ impl Waiting {
         ensures ok { OnOk result (jobs_of self.new ≡ jobs_of self.old ++ new_job (event_seen event) memoized.now ∷ []) }
         ensures err { OnErr result (jobs_of self.new ≡ jobs_of self.old) }
     {
-        self.jobs.push(Job {
+        let Ok(memoized) = copy_of(alloc, memoized) else {
+            drop(event);
+            return Err(NoMemory);
+        };
+        self.put_last(Job {
             event,
-            memoized: copy_of(alloc, memoized)?,
+            memoized,
             behind: Lines::new(alloc),
-        })?;
-        Ok(())
+        })
     }
 
     /// Puts the lines of an event with its answer behind the last job. The job is lost where memory runs out.
@@ -71,21 +74,40 @@ impl Waiting {
     ) -> Result<(), NoMemory>
         ensures { OnOk result (IsFollowed (jobs_of self.old) (event_lines texts.now (event_seen event.now) answer.now) (jobs_of self.new)) }
     {
-        if let Some(mut job) = self.jobs.pop() {
-            add_event_lines(alloc, event, answer, texts, &mut job.behind)?;
-            self.jobs.push(job)?;
+        let Some(mut job) = self.jobs.pop() else {
+            return Ok(());
+        };
+        match add_event_lines(alloc, event, answer, texts, &mut job.behind) {
+            Ok(()) => self.put_last(job),
+            Err(fault) => {
+                drop(job);
+                Err(fault)
+            }
         }
-        Ok(())
     }
 
     /// Puts the line of a mark behind the last job. The job is lost where memory runs out.
     pub fn follow_mark(&mut self, alloc: Global, mark: Mark, texts: &Texts) -> Result<(), NoMemory>
         ensures { OnOk result (IsFollowed (jobs_of self.old) (mark_line texts.now mark ∷ []) (jobs_of self.new)) }
     {
-        if let Some(mut job) = self.jobs.pop() {
-            add_mark(alloc, mark, texts, &mut job.behind)?;
-            self.jobs.push(job)?;
+        let Some(mut job) = self.jobs.pop() else {
+            return Ok(());
+        };
+        match add_mark(alloc, mark, texts, &mut job.behind) {
+            Ok(()) => self.put_last(job),
+            Err(fault) => {
+                drop(job);
+                Err(fault)
+            }
         }
+    }
+
+    /// Puts a job last. It is lost where memory runs out.
+    fn put_last(&mut self, job: Job) -> Result<(), NoMemory>
+        ensures ok { OnOk result (jobs_of self.new ≡ jobs_of self.old ++ job_seen job ∷ []) }
+        ensures err { OnErr result (jobs_of self.new ≡ jobs_of self.old) }
+    {
+        self.jobs.push(job)?;
         Ok(())
     }
 }

@@ -12,13 +12,16 @@ ghost use Rattle.gl_decide.specs.Bounds.{Bounds, bounds_of};
 ghost use Rattle.gl_decide.specs.Stalls.{StallSeen};
 ghost use Rattle.book_state.specs.Answerable.{IsAnswerable};
 ghost use Rattle.gl_book.specs.Answers.{IsProperAnswer};
-ghost use Rattle.gl_book.specs.Courses.{Follows, HasRoomFor, LeadsPast, LeadsPastToFront, place_at};
+ghost use Rattle.gl_book.specs.Courses.{ComesToEnd, HasRoomFor, LeadsAlong, LeadsPast, LeadsPastToFront, course_from, place_at};
+ghost use Rattle.gl_book.specs.Courses.{Follows, IsNext, IsPutBehind, Waits};
 ghost use Rattle.gl_book.specs.Entry.{Entry};
-ghost use Rattle.gl_book.specs.Phases.{CanBeAnswered, ends_phase as ends_phase_seen, jobs_of, new_job};
-ghost use Rattle.book_state.specs.States.{is_job as is_job_seen, state_noted};
+ghost use Rattle.gl_book.specs.Lines.{counts_of};
+ghost use Rattle.gl_book.specs.Phases.{CanBeAnswered, StaysIn, ends_phase as ends_phase_seen, jobs_of};
+ghost use Rattle.book_state.specs.States.{is_job as is_job_seen};
 ghost use Rattle.gl_book.specs.Walk.{Walk, end_code as end_code_meant, refused_cause as cause_of, refusal_at as refusal_there};
-ghost use Rattle.book_state.specs.States.{CanGoOn, event_in};
-ghost use Rattle.gl_book.specs.Stops.{IsCounted, refusal_of as refusal_meant, closing_lines, closing_status, WritesLines, WritesLinesFront, WritesWalk, WritesWalkFront};
+ghost use Rattle.book_state.specs.States.{CanGoOn};
+ghost use Rattle.gl_book.specs.Stops.{IsCounted, refusal_of as refusal_meant, closing_lines, closing_status};
+ghost use Rattle.gl_book.specs.Stops.{WritesLines, WritesLinesFront, WritesWalk, WritesWalkFront};
 
 use super::answer::{Answer, Cause, answer_of};
 use super::counts::Counts;
@@ -35,6 +38,7 @@ use super::waiting::Waiting;
 use book_shelf::{Finish, Item, Library, Mark, ShelfCode};
 use book_state::State;
 use event_world::{Event, EventFault};
+use gl_base::limits::Limits;
 use gl_base::sink::Sink;
 use gl_base::status::Status;
 use gl_decide::{Gate, Stalls};
@@ -60,8 +64,10 @@ pub fn walk<R: Threads + Sync, K: Sink, G: Gate>(
 ) -> Result<Status, Stop>
     requires empty { with_name texts.old [] ≡ texts.old }
     requires can_go_on { CanGoOn state }
-    ensures ok { IfOk result (WritesWalk texts.old (bounds_of run.now.limits.now) state book.now run.now.last_only (K.written out.old) (K.written out.new) stalls.old stalls.new) }
-    ensures front { OnErr result (WritesWalkFront texts.old (bounds_of run.now.limits.now) state book.now run.now.last_only (K.written out.old) (K.written out.new) stalls.old stalls.new) }
+    ensures ok { IfOk result (WritesWalk texts.old (bounds_of run.now.limits.now) state book.now run.now.last_only
+        (K.written out.old) (K.written out.new) stalls.old stalls.new) }
+    ensures front { OnErr result (WritesWalkFront texts.old (bounds_of run.now.limits.now) state book.now run.now.last_only
+        (K.written out.old) (K.written out.new) stalls.old stalls.new) }
     ensures texts { texts.new ≡ texts.old }
     ensures cause { IsCounted (K.faults out.old) (K.faults out.new) result }
 {
@@ -70,27 +76,45 @@ pub fn walk<R: Threads + Sync, K: Sink, G: Gate>(
         counts: Counts::none(),
         waiting: Waiting::new(run.alloc),
     };
+    let ended = take_items(run, book, &mut progress, texts, stalls, out);
+    let counts = progress.counts;
+    drop(progress);
+    match ended {
+        Ok(refusal) => close(run.alloc, refusal, counts, run.last_only, out),
+        Err(stop) => Err(stop),
+    }
+}
+
+/// Takes the items of a book in, up to the first that is refused, and ends the last phase. The refusal, which the end of the
+/// list may be.
+fn take_items<R: Threads + Sync, K: Sink, G: Gate>(
+    run: &Run<'_, R, G>,
+    book: &Library,
+    progress: &mut Progress,
+    texts: &mut Texts,
+    stalls: &mut Stalls,
+    out: &mut K,
+) -> Result<Option<Refusal>, Stop>
+    requires empty { with_name texts.old [] ≡ texts.old }
+    requires can_go_on { CanGoOn progress.old.state }
+    requires uncounted { progress.old.counts ≡ counts_of [] }
+    requires none { jobs_of progress.old.waiting ≡ [] }
+    ensures ok { IfOk result (ComesToEnd texts.old (bounds_of run.now.limits.now) run.now.last_only
+        (course_from book.now (place_at progress.old (K.written out.old) stalls.old)) (place_at progress.new (K.written out.new) stalls.new)) }
+    ensures front { OnErr result (WritesWalkFront texts.old (bounds_of run.now.limits.now) progress.old.state book.now run.now.last_only
+        (K.written out.old) (K.written out.new) stalls.old stalls.new) }
+    ensures texts { texts.new ≡ texts.old }
+    ensures cause { IsCounted (K.faults out.old) (K.faults out.new) result }
+{
     for i in 0..book.items.len() {
         let next = book.items.at(i);
-        let refusal = take_item(run, next, &mut progress, texts, stalls, out)?;
+        let refusal = take_item(run, next, progress, texts, stalls, out)?;
         if let Some(refusal) = refusal {
-            return close(
-                run.alloc,
-                Some(refusal),
-                progress.counts,
-                run.last_only,
-                out,
-            );
+            return Ok(Some(refusal));
         }
     }
-    end_phase(run, &mut progress, texts, stalls, out)?;
-    close(
-        run.alloc,
-        refusal_of(book.finish),
-        progress.counts,
-        run.last_only,
-        out,
-    )
+    end_phase(run, progress, texts, stalls, out)?;
+    Ok(refusal_of(book.finish))
 }
 
 /// Takes the next item in. Its refusal, where it is refused; no job waits then.
@@ -105,8 +129,10 @@ fn take_item<R: Threads + Sync, K: Sink, G: Gate>(
     requires empty { with_name texts.old [] ≡ texts.old }
     requires ready { All (CanBeAnswered progress.old.state.world.definitions) (jobs_of progress.old.waiting) }
     requires room { HasRoomFor (length (jobs_of progress.old.waiting) + 1) progress.old.counts }
-    ensures ok { IfOk result (λ r. LeadsPast texts.old (bounds_of run.now.limits.now) run.now.last_only next.now (place_at progress.old (K.written out.old) stalls.old) r (place_at progress.new (K.written out.new) stalls.new)) }
-    ensures front { OnErr result (LeadsPastToFront texts.old (bounds_of run.now.limits.now) run.now.last_only next.now (place_at progress.old (K.written out.old) stalls.old) (K.written out.new) stalls.new) }
+    ensures ok { IfOk result (λ r. LeadsPast texts.old (bounds_of run.now.limits.now) run.now.last_only next.now
+        (place_at progress.old (K.written out.old) stalls.old) r (place_at progress.new (K.written out.new) stalls.new)) }
+    ensures front { OnErr result (LeadsPastToFront texts.old (bounds_of run.now.limits.now) run.now.last_only next.now
+        (place_at progress.old (K.written out.old) stalls.old) (K.written out.new) stalls.new) }
     ensures texts { texts.new ≡ texts.old }
     ensures cause { IsCounted (K.faults out.old) (K.faults out.new) result }
 {
@@ -127,8 +153,10 @@ fn take_mark<R: Threads + Sync, K: Sink, G: Gate>(
     texts: &Texts,
     out: &mut K,
 ) -> Result<(), Stop>
-    ensures ok { OnOk result ((stalls : List StallSeen) → LeadsPast texts.now (bounds_of run.now.limits.now) run.now.last_only (item.Mark mark) (place_at progress.old (K.written out.old) stalls) None (place_at progress.new (K.written out.new) stalls)) }
-    ensures front { OnErr result ((stalls : List StallSeen) → LeadsPastToFront texts.now (bounds_of run.now.limits.now) run.now.last_only (item.Mark mark) (place_at progress.old (K.written out.old) stalls) (K.written out.new) stalls) }
+    ensures ok { OnOk result ((stalls : List StallSeen) → LeadsPast texts.now (bounds_of run.now.limits.now) run.now.last_only (item.Mark mark)
+        (place_at progress.old (K.written out.old) stalls) None (place_at progress.new (K.written out.new) stalls)) }
+    ensures front { OnErr result ((stalls : List StallSeen) → LeadsPastToFront texts.now (bounds_of run.now.limits.now) run.now.last_only (item.Mark mark)
+        (place_at progress.old (K.written out.old) stalls) (K.written out.new) stalls) }
     ensures cause { IsCounted (K.faults out.old) (K.faults out.new) result }
 {
     if progress.waiting.len() > 0 {
@@ -152,8 +180,10 @@ fn take_form<R: Threads + Sync, K: Sink, G: Gate>(
     requires empty { with_name texts.old [] ≡ texts.old }
     requires ready { All (CanBeAnswered progress.old.state.world.definitions) (jobs_of progress.old.waiting) }
     requires room { HasRoomFor (length (jobs_of progress.old.waiting) + 1) progress.old.counts }
-    ensures ok { IfOk result (λ r. LeadsPast texts.old (bounds_of run.now.limits.now) run.now.last_only (item.Form form.now) (place_at progress.old (K.written out.old) stalls.old) r (place_at progress.new (K.written out.new) stalls.new)) }
-    ensures front { OnErr result (LeadsPastToFront texts.old (bounds_of run.now.limits.now) run.now.last_only (item.Form form.now) (place_at progress.old (K.written out.old) stalls.old) (K.written out.new) stalls.new) }
+    ensures ok { IfOk result (λ r. LeadsPast texts.old (bounds_of run.now.limits.now) run.now.last_only (item.Form form.now)
+        (place_at progress.old (K.written out.old) stalls.old) r (place_at progress.new (K.written out.new) stalls.new)) }
+    ensures front { OnErr result (LeadsPastToFront texts.old (bounds_of run.now.limits.now) run.now.last_only (item.Form form.now)
+        (place_at progress.old (K.written out.old) stalls.old) (K.written out.new) stalls.new) }
     ensures texts { texts.new ≡ texts.old }
     ensures cause { IsCounted (K.faults out.old) (K.faults out.new) result }
 {
@@ -179,31 +209,58 @@ fn take_event<R: Threads + Sync, K: Sink, G: Gate>(
     stalls: &mut Stalls,
     out: &mut K,
 ) -> Result<Option<Refusal>, Stop>
-    requires meant { event_in texts.now progress.old.state form.now.tree ≡ Ok (event_seen event) }
-    requires suits { Suits progress.old.state.world (event_seen event) }
-    requires answerable { IsAnswerable progress.old.state.world.definitions progress.old.state.memoized (event_seen event) }
+    requires next { IsNext texts.now progress.old.state form.now.tree (event_seen event) }
     requires ready { All (CanBeAnswered progress.old.state.world.definitions) (jobs_of progress.old.waiting) }
     requires room { HasRoomFor (length (jobs_of progress.old.waiting) + 1) progress.old.counts }
-    ensures ok { IfOk result (λ r. LeadsPast texts.now (bounds_of run.now.limits.now) run.now.last_only (item.Form form.now) (place_at progress.old (K.written out.old) stalls.old) r (place_at progress.new (K.written out.new) stalls.new)) }
-    ensures front { OnErr result (LeadsPastToFront texts.now (bounds_of run.now.limits.now) run.now.last_only (item.Form form.now) (place_at progress.old (K.written out.old) stalls.old) (K.written out.new) stalls.new) }
+    ensures ok { IfOk result (λ r. LeadsPast texts.now (bounds_of run.now.limits.now) run.now.last_only (item.Form form.now)
+        (place_at progress.old (K.written out.old) stalls.old) r (place_at progress.new (K.written out.new) stalls.new)) }
+    ensures front { OnErr result (LeadsPastToFront texts.now (bounds_of run.now.limits.now) run.now.last_only (item.Form form.now)
+        (place_at progress.old (K.written out.old) stalls.old) (K.written out.new) stalls.new) }
     ensures cause { IsCounted (K.faults out.old) (K.faults out.new) result }
 {
-    if ends_phase(&event) || is_job(&event) && run.limits.workers == 1 {
-        end_phase(run, progress, texts, stalls, out)?;
-        return answer_now(run, form, event, progress, texts, stalls, out);
-    }
-    if is_job(&event) {
-        return match wait(run.alloc, form, event, progress) {
+    if stays(run.limits, &progress.waiting, &event) {
+        return match take_along(run, form, event, progress, texts) {
             Ok(()) => Ok(None),
             Err(_) => Err(Stop::Memory),
         };
     }
-    if progress.waiting.len() == 0 {
-        return answer_now(run, form, event, progress, texts, stalls, out);
+    match end_phase(run, progress, texts, stalls, out) {
+        Ok(()) => answer_now(run, form, event, progress, texts, stalls, out),
+        Err(stop) => {
+            drop(event);
+            Err(stop)
+        }
     }
-    match follow(run, form, event, progress, texts) {
-        Ok(()) => Ok(None),
-        Err(_) => Err(Stop::Memory),
+}
+
+/// Whether an event is taken in before its phase ends: a job, where more than one worker is there to answer it, and another
+/// event behind a job, unless it ends the phase.
+fn stays(limits: &Limits, waiting: &Waiting, event: &Event) -> bool
+    ensures { result ≡ true → StaysIn (jobs_of waiting.now) (event_seen event.now) }
+{
+    if is_job(event) {
+        limits.workers != 1
+    } else {
+        waiting.len() > 0 && !ends_phase(event)
+    }
+}
+
+/// Takes an event in before its phase ends: a job waits, and another event is answered.
+fn take_along<R: Threads + Sync, G: Gate>(
+    run: &Run<'_, R, G>,
+    form: &Form,
+    event: Event,
+    progress: &mut Progress,
+    texts: &Texts,
+) -> Result<(), NoMemory>
+    requires next { IsNext texts.now progress.old.state form.now.tree (event_seen event) }
+    requires stays { StaysIn (jobs_of progress.old.waiting) (event_seen event) }
+    ensures { OnOk result (LeadsAlong texts.now (bounds_of run.now.limits.now) run.now.last_only (item.Form form.now) progress.old progress.new) }
+{
+    if is_job(&event) {
+        wait(run.alloc, form, event, progress)
+    } else {
+        follow(run, form, event, progress, texts)
     }
 }
 
@@ -211,17 +268,20 @@ fn take_event<R: Threads + Sync, K: Sink, G: Gate>(
 fn wait(alloc: Global, form: &Form, event: Event, progress: &mut Progress) -> Result<(), NoMemory>
     requires job { is_job_seen (event_seen event) ≡ true }
     requires suits { Suits progress.old.state.world (event_seen event) }
-    ensures state { OnOk result (progress.new.state ≡ state_noted progress.old.state form.now.tree (event_seen event)) }
-    ensures waiting { OnOk result (jobs_of progress.new.waiting ≡ jobs_of progress.old.waiting ++ new_job (event_seen event) progress.old.state.memoized ∷ []) }
-    ensures counts { progress.new.counts ≡ progress.old.counts }
+    ensures { OnOk result (Waits form.now.tree (event_seen event) progress.old progress.new) }
 {
-    progress.state.note(alloc, &form.tree, &event)?;
-    progress
-        .waiting
-        .push(alloc, event, progress.state.memoized())
+    match progress.state.note(alloc, &form.tree, &event) {
+        Ok(()) => progress
+            .waiting
+            .push(alloc, event, progress.state.memoized()),
+        Err(fault) => {
+            drop(event);
+            Err(fault)
+        }
+    }
 }
 
-/// Answers an event that is no job and ends no phase, while jobs wait: its lines come behind those of the last job.
+/// Answers an event that is no job and ends no phase, while jobs wait, and takes it in.
 fn follow<R: Threads + Sync, G: Gate>(
     run: &Run<'_, R, G>,
     form: &Form,
@@ -231,14 +291,34 @@ fn follow<R: Threads + Sync, G: Gate>(
 ) -> Result<(), NoMemory>
     requires suits { Suits progress.old.state.world (event_seen event) }
     requires answerable { IsAnswerable progress.old.state.world.definitions progress.old.state.memoized (event_seen event) }
-    ensures ok { OnOk result (Follows texts.now (bounds_of run.now.limits.now) form.now.tree (event_seen event) progress.old.state (jobs_of progress.old.waiting) progress.new.state (jobs_of progress.new.waiting)) }
-    ensures counts { progress.new.counts ≡ progress.old.counts }
+    ensures { OnOk result (Follows texts.now (bounds_of run.now.limits.now) form.now.tree (event_seen event) progress.old progress.new) }
 {
-    let answer = answer_to(run, &progress.state, &event);
-    progress.waiting.follow(run.alloc, &event, &answer, texts)?;
-    progress
-        .state
-        .take(run.alloc, &form.tree, event, Tree::nil())
+    match answer_behind(run, &event, &progress.state, &mut progress.waiting, texts) {
+        Ok(()) => progress
+            .state
+            .take(run.alloc, &form.tree, event, Tree::nil()),
+        Err(fault) => {
+            drop(event);
+            Err(fault)
+        }
+    }
+}
+
+/// Answers an event of a state, and puts its lines behind those of the last job.
+fn answer_behind<R: Threads + Sync, G: Gate>(
+    run: &Run<'_, R, G>,
+    event: &Event,
+    state: &State,
+    waiting: &mut Waiting,
+    texts: &Texts,
+) -> Result<(), NoMemory>
+    requires { IsAnswerable state.now.world.definitions state.now.memoized (event_seen event.now) }
+    ensures { OnOk result (IsPutBehind texts.now (bounds_of run.now.limits.now) state.now (event_seen event.now) (jobs_of waiting.old) (jobs_of waiting.new)) }
+{
+    let answer = answer_to(run, state, event);
+    let put = waiting.follow(run.alloc, event, &answer, texts);
+    drop(answer);
+    put
 }
 
 /// The answer to an event of a state.
@@ -270,13 +350,13 @@ fn answer_now<R: Threads + Sync, K: Sink, G: Gate>(
     stalls: &mut Stalls,
     out: &mut K,
 ) -> Result<Option<Refusal>, Stop>
-    requires meant { event_in texts.now progress.old.state form.now.tree ≡ Ok (event_seen event) }
-    requires suits { Suits progress.old.state.world (event_seen event) }
-    requires answerable { IsAnswerable progress.old.state.world.definitions progress.old.state.memoized (event_seen event) }
+    requires next { IsNext texts.now progress.old.state form.now.tree (event_seen event) }
     requires none { jobs_of progress.old.waiting ≡ [] }
     requires room { HasRoomFor 1 progress.old.counts }
-    ensures ok { IfOk result (λ r. LeadsPast texts.now (bounds_of run.now.limits.now) run.now.last_only (item.Form form.now) (place_at progress.old (K.written out.old) stalls.old) r (place_at progress.new (K.written out.new) stalls.new)) }
-    ensures front { OnErr result (LeadsPastToFront texts.now (bounds_of run.now.limits.now) run.now.last_only (item.Form form.now) (place_at progress.old (K.written out.old) stalls.old) (K.written out.new) stalls.new) }
+    ensures ok { IfOk result (λ r. LeadsPast texts.now (bounds_of run.now.limits.now) run.now.last_only (item.Form form.now)
+        (place_at progress.old (K.written out.old) stalls.old) r (place_at progress.new (K.written out.new) stalls.new)) }
+    ensures front { OnErr result (LeadsPastToFront texts.now (bounds_of run.now.limits.now) run.now.last_only (item.Form form.now)
+        (place_at progress.old (K.written out.old) stalls.old) (K.written out.new) stalls.new) }
     ensures cause { IsCounted (K.faults out.old) (K.faults out.new) result }
 {
     let answer = answer_to(run, &progress.state, &event);
@@ -394,6 +474,7 @@ pub fn close<K: Sink>(
     })
 }
 
+/// The lines that end a transcript.
 fn lines_that_close(
     alloc: Global,
     refusal: Option<Refusal>,

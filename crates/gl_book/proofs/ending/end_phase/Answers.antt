@@ -1,7 +1,7 @@
-use Rattle.std.proofs.Common.{◌≡◌, ◌∙◌, ap, sym, refl, subst, length, List}
+use Rattle.std.proofs.Common.{◌∙◌, ap, sym, length}
 use Rattle.gl_decide.specs.Bounds.{bounds_of}
 use Rattle.gl_book.specs.Phases.{jobs_of}
-use Rattle.gl_book.proofs.Crosses.{nothing_ended}
+use Rattle.gl_book.proofs.Staying.{nothing_ended}
 use Rattle.gl_book.proofs.Waited.{as_many}
 use Rattle.gl_book.proofs.ending.end_phase.Goals as goal
 

@@ -9,8 +9,8 @@ use Rattle.gl_book.specs.declared.answer.Cause.{Cause}
 use Rattle.gl_book.proofs.Refusals.{not_evaluated}
 use Rattle.gl_book.proofs.evaluated.evaluated.Goals as goal
 
-pub returns-in-Err-clause-cause : goal.returns-in-Err-clause-cause
-returns-in-Err-clause-cause c =
+pub returns-clause-cause : goal.returns-clause-cause
+returns-clause-cause c =
     let bounds = bounds_of c.args.limits.now in
     let w = c.args.world.now in
     let ms = c.args.memoized.now in

@@ -19,7 +19,7 @@ returns-in-Refused-clause-walked c =
     let form = c.at.result.now in
     let s = c.loop-i.state in
     let t = c.take_form.new.state in
-    let steps = subst (λ (x : Step). StepsTo c.loop-i.texts bounds form s t x) c.in-Refused.is c.in_ok-take_form.ensures.steps in
+    let steps = subst (λ (x : Step). StepsTo c.loop-i.texts bounds form s t x) c.in-Refused.is c.in-Ok.ensures.steps in
     let refused = subst (λ (ns : List (List ℕ)). IsRefusedForm ns bounds form s) c.loop-i.invariant.texts steps in
     refuses names bounds c.args.state.now c.args.forms.now Clean c.loop-i.i s t c.loop-i.last c.loop-i.invariant.come form c.at.ensures refused t.world
 
@@ -35,16 +35,16 @@ loop-i-preserved c =
     let t = c.take_form.new.state in
     let come = c.loop-i.invariant.come in
     let same = c.take_form.ensures.texts ∙ c.loop-i.invariant.texts in
-    elim c.match-branch-2.branch [
+    elim c.match-step.branch [
       | in-Theorem w ↦
-          let taken = subst (λ (x : Step). StepsTo c.loop-i.texts bounds form s t x) w.in-Theorem.is c.in_ok-take_form.ensures.steps in
+          let taken = subst (λ (x : Step). StepsTo c.loop-i.texts bounds form s t x) w.in-Theorem.is c.in-Ok.ensures.steps in
           let here = subst (λ (ns : List (List ℕ)). IsTaken ns bounds form s t (step.Theorem w.in-Theorem.kept)) c.loop-i.invariant.texts taken in
           record {
             texts = same;
-            come = subst (λ (o : Option Kept). HasCome names bounds first forms Clean (i + 1) t o) (sym w.last-is) (takes_theorem names bounds first forms Clean i s t c.loop-i.last come form c.at.ensures w.in-Theorem.kept here);
+            come = subst (λ (o : Option Kept). HasCome names bounds first forms Clean (i + 1) t o) (sym (w.last-is ∙ w.replace.ensures.after)) (takes_theorem names bounds first forms Clean i s t c.loop-i.last come form c.at.ensures w.in-Theorem.kept here);
           }
       | in-Other w ↦
-          let taken = subst (λ (x : Step). StepsTo c.loop-i.texts bounds form s t x) w.in-Other.is c.in_ok-take_form.ensures.steps in
+          let taken = subst (λ (x : Step). StepsTo c.loop-i.texts bounds form s t x) w.in-Other.is c.in-Ok.ensures.steps in
           let here = subst (λ (ns : List (List ℕ)). IsTaken ns bounds form s t step.Other) c.loop-i.invariant.texts taken in
           record {
             texts = same;

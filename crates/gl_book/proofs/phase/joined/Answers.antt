@@ -1,4 +1,4 @@
-use Rattle.std.proofs.Common.{◌≡◌, ◌∙◌, ◌++◌, ◌∷◌, [], ap, sym, subst, List, Ok, length, Result, Vec, Global, arith}
+use Rattle.std.proofs.Common.{◌≡◌, ◌∙◌, ◌++◌, ◌∷◌, ap, sym, subst, List, Ok, length, Result, Vec, Global, arith}
 use Rattle.std.specs.Vec.Iter.{into_iter_items}
 use Rattle.gl_logic.specs.declared.ids.NoMemory.{NoMemory}
 use Rattle.gl_book.specs.Phases.{Joins}

@@ -1,4 +1,4 @@
-use Rattle.std.proofs.Common.{◌≡◌, ◌∙◌, sym, subst, length, ℕ, List, rules, arith}
+use Rattle.std.proofs.Common.{◌≡◌, subst, length, rules}
 use Rattle.std.proofs.lemmas.Result.{IfOk-weaker}
 use Rattle.gl_decide.specs.Bounds.{Bounds, bounds_of}
 use Rattle.gl_book.specs.Phases.{AreAnswered}

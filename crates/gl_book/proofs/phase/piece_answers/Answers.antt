@@ -1,4 +1,4 @@
-use Rattle.std.proofs.Common.{◌≡◌, ◌≤◌, ◌-◌, ◌+◌, ◌∙◌, ap, sym, subst, take, drop, List, ℕ, arith}
+use Rattle.std.proofs.Common.{◌≡◌, ◌≤◌, ◌-◌, ◌+◌, sym, subst, take, drop, List, ℕ, arith}
 use Rattle.gl_decide.specs.Bounds.{bounds_of}
 use Rattle.gl_book.specs.Phases.{AreAnswered, CanBeAnswered}
 use Rattle.gl_book.specs.Tasks.{task_seen, tasks_in}

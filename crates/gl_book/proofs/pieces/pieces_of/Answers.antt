@@ -1,4 +1,4 @@
-use Rattle.std.proofs.Common.{◌≡◌, ◌<◌, ◌+◌, sym, subst, arith, ℕ}
+use Rattle.std.proofs.Common.{◌≡◌, ◌<◌, ◌+◌, sym, subst, arith}
 use Rattle.gl_book.proofs.Shares.{Dealing, one_dealt, all_follow}
 use Rattle.gl_book.proofs.pieces.pieces_of.Goals as goal
 

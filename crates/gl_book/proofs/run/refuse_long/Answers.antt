@@ -9,4 +9,7 @@ status_of_run-requires g c = refused_reported c.close.result c.close.ensures.sta
 pub returns-clause-written : goal.returns-clause-written
 returns-clause-written g c most text stalls beyond =
     subst (EndsWith most text c.args.last_only _ _ stalls stalls) (sym c.status_of_run.ensures.status)
-    (ends_with most text c.args.last_only _ _ stalls stalls c.close.result (too_long most text c.args.last_only _ _ stalls c.args.line c.args.column beyond c.close.result c.none.result c.none.ensures c.close.ensures.ok c.close.ensures.status c.close.ensures.front) (refused_reported c.close.result c.close.ensures.status))
+    (ends_with most text c.args.last_only _ _ stalls stalls c.close.result (record {
+      ends = too_long most text c.args.last_only _ _ stalls c.args.line c.args.column beyond c.close.result c.none.result c.none.ensures c.close.ensures.ok c.close.ensures.status c.close.ensures.front;
+      reported = refused_reported c.close.result c.close.ensures.status;
+    }))

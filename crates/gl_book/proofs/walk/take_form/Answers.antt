@@ -1,11 +1,11 @@
-use Rattle.std.proofs.Common.{sym, refl, subst, Some, List, ℕ, rules}
+use Rattle.std.proofs.Common.{sym, subst, Some, List, ℕ, rules}
 use Rattle.book_shelf.specs.declared.item.Item.TheVariants as item
 use Rattle.gl_decide.specs.Bounds.{bounds_of}
 use Rattle.gl_book.specs.Courses.{EndsPhase, EndsPhaseByFront, LeadsPast, LeadsPastToFront, place_at}
 use Rattle.gl_book.specs.declared.refusal.Refusal.{Refusal}
 use Rattle.gl_book.proofs.Joined.{on_err}
 use Rattle.gl_book.proofs.Puts.{err_then}
-use Rattle.gl_book.proofs.Ways.{fault_past, front_past, phase_leads, phase_leads_front, stays_front}
+use Rattle.gl_book.proofs.Ways.{fault_past, front_past, nothing_past, phase_leads, phase_leads_front}
 use Rattle.gl_book.proofs.walk.take_form.Goals as goal
 
 pub returns-in-Ok-clause-front : goal.returns-in-Ok-clause-front
@@ -22,15 +22,7 @@ returns-in-Ok-clause-front g c =
 
 pub returns-in-Memory-clause-front : goal.returns-in-Memory-clause-front
 returns-in-Memory-clause-front g c =
-    let names = c.args.texts.now in
-    let bounds = bounds_of c.args.run.now.limits.now in
-    let last = c.args.run.now.last_only in
-    let form = c.args.form.now in
-    let old = c.args.progress.now in
-    let written = g.K.Sink.written c.args.out.now in
-    let stalls = c.args.stalls.now in
-    let here = place_at old written stalls in
-    front_past names bounds last (item.Form form) here written stalls (stays_front names bounds last here written stalls refl refl)
+    nothing_past c.args.texts.now (bounds_of c.args.run.now.limits.now) c.args.run.now.last_only (item.Form c.args.form.now) (place_at c.args.progress.now (g.K.Sink.written c.args.out.now) c.args.stalls.now)
 
 pub returns-in_err-end_phase-in_default : goal.returns-in_err-end_phase-in_default
 returns-in_err-end_phase-in_default g c =

@@ -5,7 +5,7 @@ use Rattle.gl_book.specs.Courses.{place_at}
 use Rattle.gl_book.specs.Phases.{jobs_of}
 use Rattle.gl_book.specs.declared.progress.Progress.{Progress}
 use Rattle.gl_book.proofs.Puts.{err_then, ok_then}
-use Rattle.gl_book.proofs.Ways.{front_past, marks_behind, marks_past, marks_past_front, none_waits, stays_front}
+use Rattle.gl_book.proofs.Ways.{marks_behind, marks_past, marks_past_front, none_waits, nothing_past}
 use Rattle.gl_book.proofs.walk.take_mark.Goals as goal
 
 pub returns-in-Ok-clause-ok : goal.returns-in-Ok-clause-ok
@@ -17,12 +17,7 @@ returns-in-Ok-clause-ok g c = λ stalls.
 
 pub returns-in-Err-clause-front : goal.returns-in-Err-clause-front
 returns-in-Err-clause-front g c = λ stalls.
-    let names = c.args.texts.now in
-    let bounds = bounds_of c.args.run.now.limits.now in
-    let last = c.args.run.now.last_only in
-    let written = g.K.Sink.written c.args.out.now in
-    let here = place_at c.args.progress.now written stalls in
-    front_past names bounds last (item.Mark c.args.mark) here written stalls (stays_front names bounds last here written stalls refl refl)
+    nothing_past c.args.texts.now (bounds_of c.args.run.now.limits.now) c.args.run.now.last_only (item.Mark c.args.mark) (place_at c.args.progress.now (g.K.Sink.written c.args.out.now) stalls)
 
 pub returns-clause-ok : goal.returns-clause-ok
 returns-clause-ok g c =

@@ -1,13 +1,13 @@
 use Rattle.std.proofs.Common.{◌≡◌}
 use Rattle.gl_decide.specs.Bounds.{bounds_of}
-use Rattle.gl_book.specs.Courses.{Stands, place_at}
-use Rattle.gl_book.proofs.walk.walk.Given as goal
+use Rattle.gl_book.specs.Courses.{Stands, course_from, place_at}
+use Rattle.gl_book.proofs.walk.take_items.Given as goal
 
 abbrev pub invariant-loop-i : goal.invariant-loop-i
 invariant-loop-i g l = record {
   faults : g.K.Sink.faults l.out ≡ g.K.Sink.faults l.fn.out;
   texts : l.texts ≡ l.fn.texts;
   stands :
-      Stands l.fn.texts (bounds_of l.run.limits.now) l.run.last_only (record { first = l.fn.state; book = l.book; written = g.K.Sink.written l.fn.out; stalls = l.fn.stalls }) l.i
+      Stands l.fn.texts (bounds_of l.run.limits.now) l.run.last_only (course_from l.book (place_at l.fn.progress (g.K.Sink.written l.fn.out) l.fn.stalls)) l.i
       (place_at l.progress (g.K.Sink.written l.out) l.stalls);
 }
