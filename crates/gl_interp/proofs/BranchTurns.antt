@@ -55,12 +55,12 @@ module _ {B : Type 0} (g : Ghosts B) (ds : List Definition) (start : Edge) (path
   wider : EnvsBelow (length old.nodes) es → EnvsBelow (length new.nodes) es
   wider l i = pairs_below_more _ _ kept.grows.no_fewer (get_or es i []) (l i)
 
-  turn_into : (a b : Bor Term) (env : EnvId) (n : ℕ) (x : Sob) (c : Edge) (way rest : Path) → Ready g old es start path (frame.Test a b env n ∷ fs) (focus.Give x)
+  turn_into : (a b : Bor Term) (env : EnvId) (n : ℕ) (x : Sob) (c : Edge) (onward rest : Path) → Ready g old es start path (frame.Test a b env n ∷ fs) (focus.Give x)
       → g.live new.store c → ((z : ℕ → Bool) → g.truth_of new.store c z ≡ not (is_nil (stands_for g old x z)))
-      → IsPartOf g new new path.edge (g.truth_of new.store c) way → IsPartOf g new new path.edge (λ z. not (g.truth_of new.store c z)) rest
-      → Turn g ds start old es (frame.Test a b env n ∷ fs) (focus.Give x) new es way (frame.Other c b env n path.edge rest ∷ fs) (focus.Visit a env n)
-  turn_into a b env n x c way rest d lc says first second =
-      let inner : Ready g old es start path fs (focus.Visit a env n) = record { whole = d.whole; envs = d.envs; some_env = d.some_env; start_live = d.start_live; path_live = d.path_live; frames = d.frames.1; focus = d.frames.0; is_path = d.is_path; way = d.way; paths = d.paths } in
+      → IsPartOf g new new path.edge (g.truth_of new.store c) onward → IsPartOf g new new path.edge (λ z. not (g.truth_of new.store c z)) rest
+      → Turn g ds start old es (frame.Test a b env n ∷ fs) (focus.Give x) new es onward (frame.Other c b env n path.edge rest ∷ fs) (focus.Visit a env n)
+  turn_into a b env n x c onward rest d lc says first second =
+      let inner : Ready g old es start path fs (focus.Visit a env n) = record { whole = d.whole; envs = d.envs; some_env = d.some_env; start_live = d.start_live; path_live = d.path_live; frames = d.frames.1; focus = d.frames.0; is_path = d.is_path; witnessed = d.witnessed; paths = d.paths } in
       let m : Ready g new es start path fs (focus.Visit a env n) = ready_kept g start old new es es kept (envs_same es) (wider d.envs) path fs (focus.Visit a env n) (focus.Visit a env n) inner d.frames.0 in
       record {
         envs_kept = envs_same es;
@@ -73,8 +73,8 @@ module _ {B : Type 0} (g : Ghosts B) (ds : List Definition) (start : Edge) (path
           frames = ((lc, d.frames.0, m.path_live, second.live), m.frames);
           focus = d.frames.0;
           is_path = record { says = λ z. path_and _ _ _ _ _ (m.is_path.says z) (first.says z) };
-          way = first.is_way;
-          paths = (m.is_path, record { says = λ z. path_and _ _ _ _ _ (m.is_path.says z) (second.says z) }, second.is_way, m.paths);
+          witnessed = first.is_witnessed;
+          paths = (m.is_path, record { says = λ z. path_and _ _ _ _ _ (m.is_path.says z) (second.says z) }, second.is_witnessed, m.paths);
         };
         makes = λ k z whole s p.
             let r = p.0 in
@@ -95,12 +95,12 @@ module _ {B : Type 0} (g : Ghosts B) (ds : List Definition) (start : Edge) (path
       }
 
   -- both branches are reached
-  pub turn_both : (hs : List Frame) (a b : Bor Term) (env : EnvId) (n : ℕ) (x : Sob) (c : Edge) (way rest : Path) → hs ≡ frame.Other c b env n path.edge rest ∷ fs → Ready g old es start path (frame.Test a b env n ∷ fs) (focus.Give x)
+  pub turn_both : (hs : List Frame) (a b : Bor Term) (env : EnvId) (n : ℕ) (x : Sob) (c : Edge) (onward rest : Path) → hs ≡ frame.Other c b env n path.edge rest ∷ fs → Ready g old es start path (frame.Test a b env n ∷ fs) (focus.Give x)
       → g.live new.store c → ((z : ℕ → Bool) → g.truth_of new.store c z ≡ not (is_nil (stands_for g old x z)))
-      → IsPartOf g new new path.edge (g.truth_of new.store c) way → IsPartOf g new new path.edge (λ z. not (g.truth_of new.store c z)) rest
-      → Turn g ds start old es (frame.Test a b env n ∷ fs) (focus.Give x) new es way hs (focus.Visit a env n)
-  turn_both hs a b env n x c way rest e d lc says first second =
-      subst (λ ks. Turn g ds start old es (frame.Test a b env n ∷ fs) (focus.Give x) new es way ks (focus.Visit a env n)) (sym e) (turn_into a b env n x c way rest d lc says first second)
+      → IsPartOf g new new path.edge (g.truth_of new.store c) onward → IsPartOf g new new path.edge (λ z. not (g.truth_of new.store c z)) rest
+      → Turn g ds start old es (frame.Test a b env n ∷ fs) (focus.Give x) new es onward hs (focus.Visit a env n)
+  turn_both hs a b env n x c onward rest e d lc says first second =
+      subst (λ ks. Turn g ds start old es (frame.Test a b env n ∷ fs) (focus.Give x) new es onward ks (focus.Visit a env n)) (sym e) (turn_into a b env n x c onward rest d lc says first second)
 
   -- one branch alone is reached
   pub turn_one : (a b t : Bor Term) (env : EnvId) (n : ℕ) (x : Sob) (flag : Bool) → Ready g old es start path (frame.Test a b env n ∷ fs) (focus.Give x)
@@ -108,7 +108,7 @@ module _ {B : Type 0} (g : Ghosts B) (ds : List Definition) (start : Edge) (path
       → ((z : ℕ → Bool) → g.truth_of old.store path.edge z ≡ true → not (is_nil (stands_for g old x z)) ≡ flag)
       → Turn g ds start old es (frame.Test a b env n ∷ fs) (focus.Give x) new es path fs (focus.Visit t env n)
   turn_one a b t env n x flag d is says =
-      let inner : Ready g old es start path fs (focus.Visit a env n) = record { whole = d.whole; envs = d.envs; some_env = d.some_env; start_live = d.start_live; path_live = d.path_live; frames = d.frames.1; focus = d.frames.0; is_path = d.is_path; way = d.way; paths = d.paths } in
+      let inner : Ready g old es start path fs (focus.Visit a env n) = record { whole = d.whole; envs = d.envs; some_env = d.some_env; start_live = d.start_live; path_live = d.path_live; frames = d.frames.1; focus = d.frames.0; is_path = d.is_path; witnessed = d.witnessed; paths = d.paths } in
       record {
         envs_kept = envs_same es;
         ready = ready_kept g start old new es es kept (envs_same es) (wider d.envs) path fs (focus.Visit a env n) (focus.Visit t env n) inner d.frames.0;
@@ -155,14 +155,14 @@ module _ {B : Type 0} (g : Ghosts B) (ds : List Definition) (start : Edge) (path
       let h : IsSplit g one new path.edge test branches.Second = subst (λ q. IsSplit g one new path.edge test q) e s in
       turn_one g ds start path old new es both_kept fs a b b env n x false ready refl (λ z p. sym (says z) ∙ h z (path_one z ∙ p))
 
-  part_moved : (side later : (ℕ → Bool) → Bool) (way : Path) → ((z : ℕ → Bool) → later z ≡ side z) → IsPartOf g one new path.edge side way → IsPartOf g new new path.edge later way
-  part_moved side later way e p = record { live = p.live; says = λ z. p.says z ∙ (λ i. sym (second.grows.store.same path.edge z path_live) i && sym (e z) i); is_way = p.is_way }
+  part_moved : (side later : (ℕ → Bool) → Bool) (onward : Path) → ((z : ℕ → Bool) → later z ≡ side z) → IsPartOf g one new path.edge side onward → IsPartOf g new new path.edge later onward
+  part_moved side later onward e p = record { live = p.live; says = λ z. p.says z ∙ (λ i. sym (second.grows.store.same path.edge z path_live) i && sym (e z) i); is_witnessed = p.is_witnessed }
 
-  pub turn_parts : (hs : List Frame) (r : Branches) (way rest : Path) → r ≡ branches.Both way rest → hs ≡ frame.Other test b env n path.edge rest ∷ fs → IsSplit g one new path.edge test r
-      → Turn g ds start old es (frame.Test a b env n ∷ fs) (focus.Give x) new es way hs (focus.Visit a env n)
-  turn_parts hs r way rest e pushed s =
-      let h : IsSplit g one new path.edge test (branches.Both way rest) = subst (λ q. IsSplit g one new path.edge test q) e s in
+  pub turn_parts : (hs : List Frame) (r : Branches) (onward rest : Path) → r ≡ branches.Both onward rest → hs ≡ frame.Other test b env n path.edge rest ∷ fs → IsSplit g one new path.edge test r
+      → Turn g ds start old es (frame.Test a b env n ∷ fs) (focus.Give x) new es onward hs (focus.Visit a env n)
+  turn_parts hs r onward rest e pushed s =
+      let h : IsSplit g one new path.edge test (branches.Both onward rest) = subst (λ q. IsSplit g one new path.edge test q) e s in
       let same : (z : ℕ → Bool) → g.truth_of new.store test z ≡ g.truth_of one.store test z = λ z. second.grows.store.same test z live in
-      turn_both g ds start path old new es both_kept fs hs a b env n x test way rest pushed ready (second.grows.store.stays test live) (λ z. same z ∙ says z)
-      (part_moved (g.truth_of one.store test) (g.truth_of new.store test) way same h.0)
+      turn_both g ds start path old new es both_kept fs hs a b env n x test onward rest pushed ready (second.grows.store.stays test live) (λ z. same z ∙ says z)
+      (part_moved (g.truth_of one.store test) (g.truth_of new.store test) onward same h.0)
       (part_moved (λ z. not (g.truth_of one.store test z)) (λ z. not (g.truth_of new.store test z)) rest (λ z. ap not (same z)) h.1)

@@ -44,7 +44,7 @@ module _ {B : Type 0} (g : Ghosts B) (ds : List Definition) (start : Edge) (path
       → Turn g ds start old es fs (focus.Next w done ts env n) old es path (frame.Arguments w done ts env n ∷ fs) (focus.Visit t env n)
   turn_argument w done ts t env n r less is = record {
     envs_kept = envs_same es;
-    ready = record { whole = r.whole; envs = r.envs; some_env = r.some_env; start_live = r.start_live; path_live = r.path_live; frames = ((r.focus.0, r.focus.1, less), r.frames); focus = r.focus.1; is_path = r.is_path; way = r.way; paths = r.paths };
+    ready = record { whole = r.whole; envs = r.envs; some_env = r.some_env; start_live = r.start_live; path_live = r.path_live; frames = ((r.focus.0, r.focus.1, less), r.frames); focus = r.focus.1; is_path = r.is_path; witnessed = r.witnessed; paths = r.paths };
     makes = λ k z whole s p.
         let v : List (ℕ × Object) = objects_of (λ y. stands_for g old y z) (get_or es env.number []) in
         ([], (p.0, (p.1.0, (p.1.1.0, subst (λ ts. Makes (at g ds k old es z) fs whole (wrap p.0 (then (chained p.1.0 (walks ds (n + k) v ts)) (worked ds (n + k) v w)))) (from_more (length done.items) ts.now t.now less is) p.1.1.1))));
@@ -61,7 +61,7 @@ module _ {B : Type 0} (g : Ghosts B) (ds : List Definition) (start : Edge) (path
       → Turn g ds start old es fs (focus.Next w done ts env n) old es path fs (focus.Run w done env n)
   turn_all w done ts env n r less = record {
     envs_kept = envs_same es;
-    ready = record { whole = r.whole; envs = r.envs; some_env = r.some_env; start_live = r.start_live; path_live = r.path_live; frames = r.frames; focus = (r.focus.0, r.focus.1); is_path = r.is_path; way = r.way; paths = r.paths };
+    ready = record { whole = r.whole; envs = r.envs; some_env = r.some_env; start_live = r.start_live; path_live = r.path_live; frames = r.frames; focus = (r.focus.0, r.focus.1); is_path = r.is_path; witnessed = r.witnessed; paths = r.paths };
     makes = λ k z whole s p.
         let v : List (ℕ × Object) = objects_of (λ y. stands_for g old y z) (get_or es env.number []) in
         let q = chained_done p.1.0 in
@@ -84,7 +84,7 @@ module _ {B : Type 0} (g : Ghosts B) (ds : List Definition) (start : Edge) (path
           frames = r.frames.1;
           focus = (subst (λ xs. AllBelow (length old.nodes) xs) (sym is) (all_below_push _ done.items x r.frames.0.0 r.focus), r.frames.0.1, omega (arith, count, r.frames.0.2));
           is_path = r.is_path;
-          way = r.way;
+          witnessed = r.witnessed;
           paths = r.paths;
         };
         makes = λ k z whole s p.
@@ -108,7 +108,7 @@ module _ {B : Type 0} (g : Ghosts B) (ds : List Definition) (start : Edge) (path
       → Turn g ds start old es (frame.Other c b env n saved rest ∷ fs) (focus.Give x) old es rest (frame.Join c x saved ∷ fs) (focus.Visit b env n)
   turn_other c saved rest b env n x r = record {
     envs_kept = envs_same es;
-    ready = record { whole = r.whole; envs = r.envs; some_env = r.some_env; start_live = r.start_live; path_live = r.frames.0.3; frames = ((r.frames.0.0, r.focus, r.frames.0.2), r.frames.1); focus = r.frames.0.1; is_path = r.paths.1; way = r.paths.2; paths = (r.paths.0, r.paths.3) };
+    ready = record { whole = r.whole; envs = r.envs; some_env = r.some_env; start_live = r.start_live; path_live = r.frames.0.3; frames = ((r.frames.0.0, r.focus, r.frames.0.2), r.frames.1); focus = r.frames.0.1; is_path = r.paths.1; witnessed = r.paths.2; paths = (r.paths.0, r.paths.3) };
     makes = λ k z whole s p. (p.1.1.0, (p.0, (p.1.0, p.1.1.1)));
   }
 
@@ -142,8 +142,8 @@ module _ {B : Type 0} (g : Ghosts B) (ds : List Definition) (start : Edge) (path
   turn_join c saved x y r d l m =
       let back : Path = record path { edge = saved } in
       let v = value_at path.found in
-      let reaches : g.truth_of old.store saved v ≡ true = d.paths.0.says v ∙ both_of_three (g.truth_of old.store start (value_at path.found)) (reach (g.truth_of old.store) fs (value_at path.found)) (not (g.truth_of old.store c (value_at path.found))) (sym (d.is_path.says v) ∙ d.way.reaches) in
-      let middle : Ready g old es start back fs (focus.Give y) = record { way = record { count = d.way.count; reaches = reaches }; whole = d.whole; envs = d.envs; some_env = d.some_env; start_live = d.start_live; path_live = d.frames.0.2; frames = d.frames.1; focus = d.focus; is_path = d.paths.0; paths = d.paths.1 } in
+      let reaches : g.truth_of old.store saved v ≡ true = d.paths.0.says v ∙ both_of_three (g.truth_of old.store start (value_at path.found)) (reach (g.truth_of old.store) fs (value_at path.found)) (not (g.truth_of old.store c (value_at path.found))) (sym (d.is_path.says v) ∙ d.witnessed.reaches) in
+      let middle : Ready g old es start back fs (focus.Give y) = record { witnessed = record { count = d.witnessed.count; reaches = reaches }; whole = d.whole; envs = d.envs; some_env = d.some_env; start_live = d.start_live; path_live = d.frames.0.2; frames = d.frames.1; focus = d.focus; is_path = d.paths.0; paths = d.paths.1 } in
       record {
         envs_kept = envs_same es;
         ready = ready_kept g start old new es es kept (envs_same es) (lower d.envs) back fs (focus.Give y) (focus.Give r) middle l;

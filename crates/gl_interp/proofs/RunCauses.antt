@@ -19,7 +19,7 @@ use Rattle.sym_prims.specs.declared.fault.SymFault.TheVariants as prim
 use Rattle.gl_interp.specs.Calls.{HasCallCause, HasEvalCause, values_under}
 use Rattle.gl_interp.specs.Causes.{IsOnPath}
 use Rattle.gl_interp.specs.Faults.{fault_from}
-use Rattle.gl_interp.specs.Running.{IsWay}
+use Rattle.gl_interp.specs.Running.{IsWitnessed}
 use Rattle.gl_interp.specs.TurnFaults.{HasMachineCause, HasTurnCause}
 use Rattle.gl_interp.specs.declared.calls.CallFault.{CallFault}
 use Rattle.gl_interp.specs.declared.calls.CallFault.TheVariants as call
@@ -32,7 +32,7 @@ use Rattle.gl_interp.specs.declared.frame.Work.TheVariants as work
 use Rattle.gl_interp.specs.declared.frame.Focus.TheVariants as focus
 
 -- the path's assignment is one of the path
-pub on_path : {B : Type 0} (g : Ghosts B) (old new : SobsSeen B) (path : Path) (found : List Bool) → IsWay (g.truth_of old.store) (g.width_of old.store) path → Leaves g old new → g.live old.store path.edge → found ≡ path.found → IsOnPath g new path.edge found
+pub on_path : {B : Type 0} (g : Ghosts B) (old new : SobsSeen B) (path : Path) (found : List Bool) → IsWitnessed (g.truth_of old.store) (g.width_of old.store) path → Leaves g old new → g.live old.store path.edge → found ≡ path.found → IsOnPath g new path.edge found
 on_path g old new path found w k live e =
     (ap length e ∙ (w.count ∙ sym k.width), k.grows.store.same path.edge (value_at found) live ∙ (ap (λ b. g.truth_of old.store path.edge (value_at b)) e ∙ w.reaches))
 

@@ -16,7 +16,7 @@ use Rattle.gl_interp.specs.declared.frame.Path.{Path}
 use Rattle.gl_interp.specs.Envs.{AllBelow, PairsBelow, EnvsBelow, EnvsKept}
 use Rattle.gl_interp.specs.Environments.{objects_of}
 use Rattle.gl_interp.specs.Walking.{Makes, FocusMakes}
-use Rattle.gl_interp.specs.Running.{at, FramesLive, FocusLive, IsPath, IsWay, reach, PathsRight, Ready, Turn, Turns}
+use Rattle.gl_interp.specs.Running.{at, FramesLive, FocusLive, IsPath, IsWitnessed, reach, PathsRight, Ready, Turn, Turns}
 use Rattle.gl_interp.proofs.Walking.{makes_same}
 
 -- ---- live things stay live
@@ -47,8 +47,8 @@ module _ (t u : Edge → (ℕ → Bool) → Bool) (live : Edge → Type 0) (n m 
   pub is_path_same : (start path : Edge) (r q : (ℕ → Bool) → Bool) → live start → live path → ((a : ℕ → Bool) → q a ≡ r a) → IsPath t start r path → IsPath u start q path
   is_path_same start path r q ls lp e p = record { says = λ a. same path a lp ∙ (p.says a ∙ (λ i. sym (same start a ls) i && sym (e a) i)) }
 
-  pub is_way_same : (width later : ℕ) (way : Path) → later ≡ width → live way.edge → IsWay t width way → IsWay u later way
-  is_way_same width later way e l w = record { count = w.count ∙ sym e; reaches = same way.edge (value_at way.found) l ∙ w.reaches }
+  pub is_witnessed_same : (width later : ℕ) (onward : Path) → later ≡ width → live onward.edge → IsWitnessed t width onward → IsWitnessed u later onward
+  is_witnessed_same width later onward e l w = record { count = w.count ∙ sym e; reaches = same onward.edge (value_at onward.found) l ∙ w.reaches }
 
   pub paths_same : (width later : ℕ) (start : Edge) → later ≡ width → live start → (fs : List Frame) → FramesLive live n m fs → PathsRight t width start fs → PathsRight u later start fs
   paths_same width later start e ls [] l p = tt
@@ -56,7 +56,7 @@ module _ (t u : Edge → (ℕ → Bool) → Bool) (live : Edge → Type 0) (n m 
   paths_same width later start e ls (frame.Other c b env j saved rest ∷ fs) l p = (
     is_path_same start saved (reach t fs) (reach u fs) ls l.0.2 (reach_same fs l.1) p.0,
     is_path_same start rest.edge (λ a. reach t fs a && not (t c a)) (λ a. reach u fs a && not (u c a)) ls l.0.3 (λ a i. reach_same fs l.1 a i && not (same c a l.0.0 i)) p.1,
-    is_way_same width later rest e l.0.3 p.2,
+    is_witnessed_same width later rest e l.0.3 p.2,
     paths_same width later start e ls fs l.1 p.3,
   )
   paths_same width later start e ls (frame.Join c x saved ∷ fs) l p =
@@ -92,7 +92,7 @@ module _ {B : Type 0} (g : Ghosts B) (start : Edge) (old new : SobsSeen B) (es l
     focus = l;
     is_path = is_path_same (g.truth_of old.store) (g.truth_of new.store) (g.live old.store) (length old.nodes) (length es) kept.grows.store.same start path.edge (reach (g.truth_of old.store) fs) (reach (g.truth_of new.store) fs) r.start_live r.path_live
         (reach_same (g.truth_of old.store) (g.truth_of new.store) (g.live old.store) (length old.nodes) (length es) kept.grows.store.same fs r.frames) r.is_path;
-    way = is_way_same (g.truth_of old.store) (g.truth_of new.store) (g.live old.store) (length old.nodes) (length es) kept.grows.store.same (g.width_of old.store) (g.width_of new.store) path kept.width r.path_live r.way;
+    witnessed = is_witnessed_same (g.truth_of old.store) (g.truth_of new.store) (g.live old.store) (length old.nodes) (length es) kept.grows.store.same (g.width_of old.store) (g.width_of new.store) path kept.width r.path_live r.witnessed;
     paths = paths_same (g.truth_of old.store) (g.truth_of new.store) (g.live old.store) (length old.nodes) (length es) kept.grows.store.same (g.width_of old.store) (g.width_of new.store) start kept.width r.start_live fs r.frames r.paths;
   }
 
@@ -120,5 +120,5 @@ module _ {B : Type 0} (g : Ghosts B) (start : Edge) (old new : SobsSeen B) (es l
   }
 
 -- a turn that keeps what the frames make
-pub turns_of : {B : Type 0} (g : Ghosts B) (ds : List Definition) (start : Edge) (old new : SobsSeen B) (es later : List (List (ℕ × Sob))) (way : Path) (fs hs : List Frame) (f h : Focus) → Turn g ds start old es fs f new later way hs h → Turns g ds start old es fs f new later way hs h
-turns_of g ds start old new es later way fs hs f h t = record { envs_kept = t.envs_kept; ready = t.ready; makes = λ k a whole s p. inl (t.makes k a whole s p) }
+pub turns_of : {B : Type 0} (g : Ghosts B) (ds : List Definition) (start : Edge) (old new : SobsSeen B) (es later : List (List (ℕ × Sob))) (onward : Path) (fs hs : List Frame) (f h : Focus) → Turn g ds start old es fs f new later onward hs h → Turns g ds start old es fs f new later onward hs h
+turns_of g ds start old new es later onward fs hs f h t = record { envs_kept = t.envs_kept; ready = t.ready; makes = λ k a whole s p. inl (t.makes k a whole s p) }

@@ -61,7 +61,7 @@ module _ {B : Type 0} (g : Ghosts B) (ds : List Definition) (start : Edge) (path
       → Turn g ds start old es fs (focus.Visit t env n) old es path (frame.Test a b env n ∷ fs) (focus.Visit u env n)
   turn_if t u a b env n r is = record {
     envs_kept = envs_same es;
-    ready = record { whole = r.whole; envs = r.envs; some_env = r.some_env; start_live = r.start_live; path_live = r.path_live; frames = (r.focus, r.frames); focus = r.focus; is_path = r.is_path; way = r.way; paths = r.paths };
+    ready = record { whole = r.whole; envs = r.envs; some_env = r.some_env; start_live = r.start_live; path_live = r.path_live; frames = (r.focus, r.frames); focus = r.focus; is_path = r.is_path; witnessed = r.witnessed; paths = r.paths };
     makes = λ k z whole s p. ([], (p.0, subst (λ e. Makes (at g ds k old es z) fs whole (wrap p.0 (walk ds (n + k) (objects_of (λ y. stands_for g old y z) (get_or es env.number [])) e))) is p.1));
   }
 
@@ -73,7 +73,7 @@ module _ {B : Type 0} (g : Ghosts B) (ds : List Definition) (start : Edge) (path
       let below : AllBelow (length old.nodes) done.items = subst (λ xs. AllBelow (length old.nodes) xs) (sym none) tt in
       record {
         envs_kept = envs_same es;
-        ready = record { whole = r.whole; envs = r.envs; some_env = r.some_env; start_live = r.start_live; path_live = r.path_live; frames = r.frames; focus = (below, r.focus, omega (arith, ap length none)); is_path = r.is_path; way = r.way; paths = r.paths };
+        ready = record { whole = r.whole; envs = r.envs; some_env = r.some_env; start_live = r.start_live; path_live = r.path_live; frames = r.frames; focus = (below, r.focus, omega (arith, ap length none)); is_path = r.is_path; witnessed = r.witnessed; paths = r.paths };
         makes = λ k z whole s p.
             let v : List (ℕ × Object) = objects_of (λ y. stands_for g old y z) (get_or es env.number []) in (
               p.0,

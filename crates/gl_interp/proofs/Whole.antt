@@ -28,7 +28,7 @@ use Rattle.gl_interp.specs.Causes.{HasCause, Interprets, IsOnPath, Rests, Task}
 use Rattle.gl_interp.specs.Envs.{EnvsBelow, PairsBelow}
 use Rattle.gl_interp.specs.Environments.{AreLive, env_under}
 use Rattle.gl_interp.specs.Walking.{FocusMakes}
-use Rattle.gl_interp.specs.Running.{at, AreTerms, FocusLive, IsWay, Ready, Turn, Turns}
+use Rattle.gl_interp.specs.Running.{at, AreTerms, FocusLive, IsWitnessed, Ready, Turn, Turns}
 use Rattle.gl_interp.specs.Whole.{Running, whole_at}
 use Rattle.gl_interp.proofs.Machines.{rests_none, rests_then}
 use Rattle.gl_interp.proofs.Turns.{objects_same, pairs_below_more, turns_of}
@@ -65,11 +65,11 @@ no_envs n zero = tt
 no_envs n (suc i) = tt
 
 module _ {B : Type 0} (g : Ghosts B) (old : SobsSeen B) (t : Task) where
-  pub running_start : (now : SobsSeen B) (machine : MachineSeen) (es : List (List (ℕ × Sob))) (way : Path) (e : EnvId) (b : Bor Term)
+  pub running_start : (now : SobsSeen B) (machine : MachineSeen) (es : List (List (ℕ × Sob))) (onward : Path) (e : EnvId) (b : Bor Term)
       → Leaves g old now → machine ≡ t.machine → IsTotal t.world.definitions → IsTermOf t.world.definitions t.term → g.live old.store t.path
-      → Ready g now es t.path way [] (focus.Visit b e t.clock) → t.term ≡ term_of b.now → ((a : ℕ → Bool) → env_under g now (get_or es e.number []) a ≡ env_under g old t.env a)
-      → Running g old t now machine es way [] (focus.Visit b e t.clock)
-  running_start now machine es way e b leaves same total is_term live ready term env = record {
+      → Ready g now es t.path onward [] (focus.Visit b e t.clock) → t.term ≡ term_of b.now → ((a : ℕ → Bool) → env_under g now (get_or es e.number []) a ≡ env_under g old t.env a)
+      → Running g old t now machine es onward [] (focus.Visit b e t.clock)
+  running_start now machine es onward e b leaves same total is_term live ready term env = record {
     leaves = leaves;
     rests = subst (λ m. Rests t.machine m) (sym same) (rests_none t.machine);
     total = total;
@@ -80,14 +80,14 @@ module _ {B : Type 0} (g : Ghosts B) (old : SobsSeen B) (t : Task) where
     makes = λ k a s. inl ([], λ i. walk t.world.definitions (t.clock + k) (env a i) (sym term i));
   }
 
-  pub running_begin : (first now : SobsSeen B) (none es : List (List (ℕ × Sob))) (way : Path) (e : EnvId) (b : Bor Term) → first ≡ old → Leaves g old now → IsTotal t.world.definitions → IsTermOf t.world.definitions t.term → g.live old.store t.path → AreLive old t.env
+  pub running_begin : (first now : SobsSeen B) (none es : List (List (ℕ × Sob))) (onward : Path) (e : EnvId) (b : Bor Term) → first ≡ old → Leaves g old now → IsTotal t.world.definitions → IsTermOf t.world.definitions t.term → g.live old.store t.path → AreLive old t.env
       → none ≡ [] ∷ [] → e.number < length es → get_or es e.number [] ≡ t.env → ((n : ℕ) → EnvsBelow n none → PairsBelow n t.env → EnvsBelow n es)
-      → way.edge ≡ t.path → IsWay (g.truth_of now.store) (g.width_of now.store) way → t.term ≡ term_of b.now → Running g old t now t.machine es way [] (focus.Visit b e t.clock)
-  running_begin first now none es way e b same k total is_term live lives empty less bound below edge is_way term =
+      → onward.edge ≡ t.path → IsWitnessed (g.truth_of now.store) (g.width_of now.store) onward → t.term ≡ term_of b.now → Running g old t now t.machine es onward [] (focus.Visit b e t.clock)
+  running_begin first now none es onward e b same k total is_term live lives empty less bound below edge is_witnessed term =
       let old_pairs : PairsBelow (length old.nodes) t.env = pairs_below (length old.nodes) t.env lives in
       let pairs : PairsBelow (length now.nodes) t.env = pairs_below_more (length old.nodes) (length now.nodes) k.grows.no_fewer t.env old_pairs in
       let start : g.live now.store t.path = k.grows.store.stays t.path live in
-      let ready : Ready g now es t.path way [] (focus.Visit b e t.clock) = record {
+      let ready : Ready g now es t.path onward [] (focus.Visit b e t.clock) = record {
         whole = k.grows.whole;
         envs = below (length now.nodes) (subst (λ ls. EnvsBelow (length now.nodes) ls) (sym empty) (no_envs (length now.nodes))) pairs;
         some_env = omega (arith, less);
@@ -96,16 +96,16 @@ module _ {B : Type 0} (g : Ghosts B) (old : SobsSeen B) (t : Task) where
         frames = tt;
         focus = less;
         is_path = record { says = λ a. ap (λ c. g.truth_of now.store c a) edge ∙ and_with_true (g.truth_of now.store t.path a) };
-        way = is_way;
+        witnessed = is_witnessed;
         paths = tt;
       } in
-      running_start now t.machine es way e b k refl total is_term live ready term
+      running_start now t.machine es onward e b k refl total is_term live ready term
       (λ a. ap (λ ps. env_under g now ps a) bound ∙ objects_same (λ x. stands_for g old x a) (λ x. stands_for g now x a) (length old.nodes) (λ x h. k.grows.same x a h) t.env old_pairs)
 
-  pub running_then : (now new : SobsSeen B) (machine next : MachineSeen) (es later : List (List (ℕ × Sob))) (path way : Path) (fs hs : List Frame) (f h : Focus) → Running g old t now machine es path fs f → Leaves g now new → Rests machine next
-      → Turns g t.world.definitions t.path now es fs f new later way hs h → AreTerms t.world.definitions hs h
-      → Running g old t new next later way hs h
-  running_then now new machine next es later path way fs hs f h r k s m terms = record {
+  pub running_then : (now new : SobsSeen B) (machine next : MachineSeen) (es later : List (List (ℕ × Sob))) (path onward : Path) (fs hs : List Frame) (f h : Focus) → Running g old t now machine es path fs f → Leaves g now new → Rests machine next
+      → Turns g t.world.definitions t.path now es fs f new later onward hs h → AreTerms t.world.definitions hs h
+      → Running g old t new next later onward hs h
+  running_then now new machine next es later path onward fs hs f h r k s m terms = record {
     leaves = leaves_then g old now new r.leaves k;
     rests = rests_then t.machine machine next r.rests s;
     total = r.total;
@@ -120,18 +120,18 @@ module _ {B : Type 0} (g : Ghosts B) (old : SobsSeen B) (t : Task) where
   }
 
   -- the same of equal frames and an equal focus
-  pub running_turn : (now new : SobsSeen B) (machine after : MachineSeen) (es later : List (List (ℕ × Sob))) (path way : Path) (gs fs hs : List Frame) (e f h : Focus) → Running g old t now machine es path gs e → gs ≡ fs → e ≡ f → Leaves g now new → Rests machine after
-      → Turns g t.world.definitions t.path now es fs f new later way hs h → AreTerms t.world.definitions hs h → Running g old t new after later way hs h
-  running_turn now new machine after es later path way gs fs hs e f h r i j k s u terms =
+  pub running_turn : (now new : SobsSeen B) (machine after : MachineSeen) (es later : List (List (ℕ × Sob))) (path onward : Path) (gs fs hs : List Frame) (e f h : Focus) → Running g old t now machine es path gs e → gs ≡ fs → e ≡ f → Leaves g now new → Rests machine after
+      → Turns g t.world.definitions t.path now es fs f new later onward hs h → AreTerms t.world.definitions hs h → Running g old t new after later onward hs h
+  running_turn now new machine after es later path onward gs fs hs e f h r i j k s u terms =
       let before : Running g old t now machine es path fs f = subst (λ z. Running g old t now machine es path fs z) j (subst (λ z. Running g old t now machine es path z e) i r) in
-      running_then now new machine after es later path way fs hs f h before k s u terms
+      running_then now new machine after es later path onward fs hs f h before k s u terms
 
   -- a turn that keeps what the frames make
-  pub running_plain : (now new : SobsSeen B) (machine after : MachineSeen) (es later : List (List (ℕ × Sob))) (path way : Path) (gs fs hs : List Frame) (e f h : Focus) → Running g old t now machine es path gs e → gs ≡ fs → e ≡ f → Leaves g now new → Rests machine after
-      → Turn g t.world.definitions t.path now es fs f new later way hs h → (AreTerms t.world.definitions fs f → AreTerms t.world.definitions hs h) → Running g old t new after later way hs h
-  running_plain now new machine after es later path way gs fs hs e f h r i j k s u terms =
+  pub running_plain : (now new : SobsSeen B) (machine after : MachineSeen) (es later : List (List (ℕ × Sob))) (path onward : Path) (gs fs hs : List Frame) (e f h : Focus) → Running g old t now machine es path gs e → gs ≡ fs → e ≡ f → Leaves g now new → Rests machine after
+      → Turn g t.world.definitions t.path now es fs f new later onward hs h → (AreTerms t.world.definitions fs f → AreTerms t.world.definitions hs h) → Running g old t new after later onward hs h
+  running_plain now new machine after es later path onward gs fs hs e f h r i j k s u terms =
       let before : Running g old t now machine es path fs f = subst (λ z. Running g old t now machine es path fs z) j (subst (λ z. Running g old t now machine es path z e) i r) in
-      running_then now new machine after es later path way fs hs f h before k s (turns_of g t.world.definitions t.path now new es later way fs hs f h u) (terms before.terms)
+      running_then now new machine after es later path onward fs hs f h before k s (turns_of g t.world.definitions t.path now new es later onward fs hs f h u) (terms before.terms)
 
   -- nothing is left: the object is the value
   pub running_done : (now : SobsSeen B) (machine : MachineSeen) (es : List (List (ℕ × Sob))) (path : Path) (fs : List Frame) (f : Focus) (x : Sob) → Running g old t now machine es path fs f → fs ≡ [] → f ≡ focus.Give x → (a : ℕ → Bool) → g.truth_of old.store t.path a ≡ true

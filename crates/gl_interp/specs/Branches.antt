@@ -6,13 +6,13 @@ use Rattle.sym_objects.specs.Seen.{SobsSeen}
 use Rattle.gl_interp.specs.declared.frame.Path.{Path}
 use Rattle.gl_interp.specs.declared.results.Branches.{Branches}
 use Rattle.gl_interp.specs.declared.results.Branches.TheVariants as branches
-use Rattle.gl_interp.specs.Running.{IsWay}
+use Rattle.gl_interp.specs.Running.{IsWitnessed}
 
 -- a path's part: its edge is true where the path's edge is and this is
-pub record IsPartOf {B : Type 0} (g : Ghosts B) (old new : SobsSeen B) (path : Edge) (side : (ℕ → Bool) → Bool) (way : Path) : Type 0 where
-  pub live : g.live new.store way.edge
-  pub says : (a : ℕ → Bool) → g.truth_of new.store way.edge a ≡ (g.truth_of old.store path a && side a)
-  pub is_way : IsWay (g.truth_of new.store) (g.width_of new.store) way
+pub record IsPartOf {B : Type 0} (g : Ghosts B) (old new : SobsSeen B) (path : Edge) (side : (ℕ → Bool) → Bool) (onward : Path) : Type 0 where
+  pub live : g.live new.store onward.edge
+  pub says : (a : ℕ → Bool) → g.truth_of new.store onward.edge a ≡ (g.truth_of old.store path a && side a)
+  pub is_witnessed : IsWitnessed (g.truth_of new.store) (g.width_of new.store) onward
 
 -- no assignment makes both edges true
 abbrev pub IsUnreached : {B : Type 0} → Ghosts B → SobsSeen B → Edge → Edge → Type 0

@@ -54,16 +54,16 @@ pub record IsPath (truth : Edge → (ℕ → Bool) → Bool) (start : Edge) (her
   pub says : (a : ℕ → Bool) → truth path a ≡ (truth start a && here a)
 
 -- the path's assignment has so many values, and makes its edge true
-pub record IsWay (truth : Edge → (ℕ → Bool) → Bool) (width : ℕ) (way : Path) : Type 0 where
-  pub count : length way.found ≡ width
-  pub reaches : truth way.edge (value_at way.found) ≡ true
+pub record IsWitnessed (truth : Edge → (ℕ → Bool) → Bool) (width : ℕ) (path : Path) : Type 0 where
+  pub count : length path.found ≡ width
+  pub reaches : truth path.edge (value_at path.found) ≡ true
 
 abbrev pub reach : (Edge → (ℕ → Bool) → Bool) → List Frame → (ℕ → Bool) → Bool
 reach truth fs a = reached (λ e. truth e a) fs
 
 abbrev pub PathsRight : (Edge → (ℕ → Bool) → Bool) → ℕ → Edge → List Frame → Type 0
 PathsRight truth width start [] = Unit {0}
-PathsRight truth width start (frame.Other c b env k saved rest ∷ fs) = IsPath truth start (reach truth fs) saved × IsPath truth start (λ a. reach truth fs a && not (truth c a)) rest.edge × IsWay truth width rest × PathsRight truth width start fs
+PathsRight truth width start (frame.Other c b env k saved rest ∷ fs) = IsPath truth start (reach truth fs) saved × IsPath truth start (λ a. reach truth fs a && not (truth c a)) rest.edge × IsWitnessed truth width rest × PathsRight truth width start fs
 PathsRight truth width start (frame.Join c x saved ∷ fs) = IsPath truth start (reach truth fs) saved × PathsRight truth width start fs
 PathsRight truth width start (frame.Test a b env k ∷ fs) = PathsRight truth width start fs
 PathsRight truth width start (frame.Arguments w done ts env k ∷ fs) = PathsRight truth width start fs
@@ -78,19 +78,19 @@ pub record Ready {B : Type 0} (g : Ghosts B) (s : SobsSeen B) (bindings : List (
   pub frames : FramesLive (g.live s.store) (length s.nodes) (length bindings) fs
   pub focus : FocusLive (length s.nodes) (length bindings) f
   pub is_path : IsPath (g.truth_of s.store) start (reach (g.truth_of s.store) fs) path.edge
-  pub way : IsWay (g.truth_of s.store) (g.width_of s.store) path
+  pub witnessed : IsWitnessed (g.truth_of s.store) (g.width_of s.store) path
   pub paths : PathsRight (g.truth_of s.store) (g.width_of s.store) start fs
 
 -- a turn: the frames make what they made before
-pub record Turn {B : Type 0} (g : Ghosts B) (ds : List Definition) (start : Edge) (old : SobsSeen B) (es : List (List (ℕ × Sob))) (fs : List Frame) (f : Focus) (new : SobsSeen B) (later : List (List (ℕ × Sob))) (way : Path) (hs : List Frame) (h : Focus) : Type 0 where
+pub record Turn {B : Type 0} (g : Ghosts B) (ds : List Definition) (start : Edge) (old : SobsSeen B) (es : List (List (ℕ × Sob))) (fs : List Frame) (f : Focus) (new : SobsSeen B) (later : List (List (ℕ × Sob))) (onward : Path) (hs : List Frame) (h : Focus) : Type 0 where
   pub envs_kept : EnvsKept es later
-  pub ready : Ready g new later start way hs h
+  pub ready : Ready g new later start onward hs h
   pub makes : (k : ℕ) (a : ℕ → Bool) (whole : Option Walk) → g.truth_of old.store start a ≡ true → FocusMakes (at g ds k old es a) fs whole f → FocusMakes (at g ds k new later a) hs whole h
 
 -- a turn that may take the value from elsewhere: the frames make what they made before, or there is no whole within the clock
-pub record Turns {B : Type 0} (g : Ghosts B) (ds : List Definition) (start : Edge) (old : SobsSeen B) (es : List (List (ℕ × Sob))) (fs : List Frame) (f : Focus) (new : SobsSeen B) (later : List (List (ℕ × Sob))) (way : Path) (hs : List Frame) (h : Focus) : Type 0 where
+pub record Turns {B : Type 0} (g : Ghosts B) (ds : List Definition) (start : Edge) (old : SobsSeen B) (es : List (List (ℕ × Sob))) (fs : List Frame) (f : Focus) (new : SobsSeen B) (later : List (List (ℕ × Sob))) (onward : Path) (hs : List Frame) (h : Focus) : Type 0 where
   pub envs_kept : EnvsKept es later
-  pub ready : Ready g new later start way hs h
+  pub ready : Ready g new later start onward hs h
   pub makes : (k : ℕ) (a : ℕ → Bool) (whole : Option Walk) → g.truth_of old.store start a ≡ true → FocusMakes (at g ds k old es a) fs whole f → FocusMakes (at g ds k new later a) hs whole h ⊎ (whole ≡ None)
 
 -- ---- terms

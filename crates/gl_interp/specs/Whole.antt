@@ -20,12 +20,12 @@ use Rattle.gl_interp.specs.Running.{at, AreTerms, Ready}
 abbrev pub whole_at : {B : Type 0} → Ghosts B → SobsSeen B → Task → ℕ → (ℕ → Bool) → Option Walk
 whole_at g s t k a = walk t.world.definitions (t.clock + k) (env_under g s t.env a) t.term
 
-pub record Running {B : Type 0} (g : Ghosts B) (old : SobsSeen B) (t : Task) (now : SobsSeen B) (machine : MachineSeen) (es : List (List (ℕ × Sob))) (way : Path) (fs : List Frame) (f : Focus) : Type 0 where
+pub record Running {B : Type 0} (g : Ghosts B) (old : SobsSeen B) (t : Task) (now : SobsSeen B) (machine : MachineSeen) (es : List (List (ℕ × Sob))) (onward : Path) (fs : List Frame) (f : Focus) : Type 0 where
   pub leaves : Leaves g old now
   pub rests : Rests t.machine machine
   pub total : IsTotal t.world.definitions
   pub is_term : IsTermOf t.world.definitions t.term
   pub start_live : g.live old.store t.path
-  pub ready : Ready g now es t.path way fs f
+  pub ready : Ready g now es t.path onward fs f
   pub terms : AreTerms t.world.definitions fs f
   pub makes : (k : ℕ) (a : ℕ → Bool) → g.truth_of old.store t.path a ≡ true → FocusMakes (at g t.world.definitions k now es a) fs (whole_at g old t k a) f ⊎ (whole_at g old t k a ≡ None)

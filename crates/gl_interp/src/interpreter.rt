@@ -45,7 +45,7 @@ pub fn interp<B: Bits>(
     let _total = world.count();
     let mut envs = Envs::new(alloc);
     let first = envs.bind_pairs(env)?;
-    let mut way = path_of(alloc, objs, path)?;
+    let mut onward = path_of(alloc, objs, path)?;
     let mut frames = Stack::new(alloc);
     let mut focus = Focus::Visit(term, first, clock);
     loop {
@@ -57,7 +57,7 @@ pub fn interp<B: Bits>(
                     machine,
                     &envs,
                     path,
-                    &way,
+                    &onward,
                     t,
                     e,
                     n,
@@ -72,7 +72,7 @@ pub fn interp<B: Bits>(
                     objs,
                     &envs,
                     path,
-                    &way,
+                    &onward,
                     work,
                     done,
                     terms,
@@ -83,7 +83,8 @@ pub fn interp<B: Bits>(
             }
             Focus::Run(work, args, e, n) => {
                 match run(
-                    alloc, objs, machine, &mut envs, world, path, &way, work, args, e, n, &frames,
+                    alloc, objs, machine, &mut envs, world, path, &onward, work, args, e, n,
+                    &frames,
                 ) {
                     Ok(more) => focus = more,
                     Err(fault) => return Err(fault),
@@ -97,7 +98,7 @@ pub fn interp<B: Bits>(
                         objs,
                         &envs,
                         path,
-                        &mut way,
+                        &mut onward,
                         object,
                         frame,
                         &mut frames,

@@ -6,7 +6,7 @@ ghost use Rattle.gl_logic.specs.Definition.{Definition};
 ghost use Rattle.sym_objects.specs.Seen.{IsWhole};
 ghost use Rattle.sym_prims.specs.Applying.{Leaves};
 ghost use Rattle.gl_interp.specs.Branches.{IsPartOf, IsSplit};
-ghost use Rattle.gl_interp.specs.Running.{AreTerms, IsWay, Ready, Turn};
+ghost use Rattle.gl_interp.specs.Running.{AreTerms, IsWitnessed, Ready, Turn};
 ghost use Rattle.gl_interp.specs.TurnFaults.{HasPlainCause};
 ghost use Rattle.gl_interp.specs.TurnsLeft.{Falls};
 
@@ -137,7 +137,7 @@ fn split<B: Bits>(
     requires whole { IsWhole B.Meaning objs.old }
     requires path { B.live objs.old.store path.now.edge }
     requires test { B.live objs.old.store test }
-    requires way { IsWay (B.truth_of objs.old.store) (B.width_of objs.old.store) path.now }
+    requires witnessed { IsWitnessed (B.truth_of objs.old.store) (B.width_of objs.old.store) path.now }
     ensures leaves { Leaves B.Meaning objs.old objs.new }
     ensures split { IfOk result (IsSplit B.Meaning objs.old objs.new path.now.edge test) }
     ensures cause { IfErr result (HasPlainCause B.Meaning objs.new) }
@@ -172,7 +172,7 @@ fn part<B: Bits>(
     requires whole { IsWhole B.Meaning objs.old }
     requires path { B.live objs.old.store path.now.edge }
     requires edge { B.live objs.old.store edge }
-    requires way { IsWay (B.truth_of objs.old.store) (B.width_of objs.old.store) path.now }
+    requires witnessed { IsWitnessed (B.truth_of objs.old.store) (B.width_of objs.old.store) path.now }
     requires here { B.truth_of objs.old.store edge (value_at path.now.found) ≡ true }
     ensures leaves { Leaves B.Meaning objs.old objs.new }
     ensures part { IfOk result (IsPartOf B.Meaning objs.old objs.new path.now.edge (B.truth_of objs.old.store edge)) }

@@ -9,7 +9,7 @@ ghost use Rattle.sym_objects.specs.Seen.{IsConstant, IsLive, IsWhole, stands_for
 ghost use Rattle.sym_prims.specs.Applying.{Leaves};
 ghost use Rattle.gl_interp.specs.Calls.{values_under};
 ghost use Rattle.gl_interp.specs.Causes.{Rests};
-ghost use Rattle.gl_interp.specs.Running.{AreTerms, IsWay, Ready, Turns};
+ghost use Rattle.gl_interp.specs.Running.{AreTerms, IsWitnessed, Ready, Turns};
 ghost use Rattle.gl_interp.specs.TurnFaults.{HasMachineCause, HasTurnCause};
 ghost use Rattle.gl_interp.specs.TurnsLeft.{Falls};
 
@@ -90,7 +90,7 @@ fn evaluate<B: Bits>(
 ) -> Result<Sob, GlFault>
     requires whole { IsWhole B.Meaning objs.old }
     requires edge { B.live objs.old.store path.now.edge }
-    requires way { IsWay (B.truth_of objs.old.store) (B.width_of objs.old.store) path.now }
+    requires witnessed { IsWitnessed (B.truth_of objs.old.store) (B.width_of objs.old.store) path.now }
     requires args { All (IsLive objs.old) args.now }
     requires constant { All (IsConstant B.Meaning objs.old) args.now }
     requires fits { Fits world.now machine.old }

@@ -5,7 +5,7 @@ ghost use Rattle.gl_logic.specs.Assignments.{value_at};
 ghost use Rattle.sym_objects.specs.Seen.{IsWhole};
 ghost use Rattle.sym_prims.specs.Applying.{Leaves};
 ghost use Rattle.gl_interp.specs.Branches.{IsPartOf, IsUnreached};
-ghost use Rattle.gl_interp.specs.Running.{IsWay};
+ghost use Rattle.gl_interp.specs.Running.{IsWitnessed};
 ghost use Rattle.gl_interp.specs.TurnFaults.{HasPlainCause};
 
 use super::fault::GlFault;
@@ -64,7 +64,7 @@ pub fn narrow<B: Bits>(
     requires edge { B.live objs.old.store edge }
     requires test { B.live objs.old.store test }
     ensures leaves { Leaves B.Meaning objs.old objs.new }
-    ensures way { IfOk result (λ o. MatchOption o (IsUnreached B.Meaning objs.old edge test) (IsPartOf B.Meaning objs.old objs.new edge (B.truth_of objs.old.store test))) }
+    ensures part { IfOk result (λ o. MatchOption o (IsUnreached B.Meaning objs.old edge test) (IsPartOf B.Meaning objs.old objs.new edge (B.truth_of objs.old.store test))) }
     ensures cause { IfErr result (HasPlainCause B.Meaning objs.new) }
 {
     let both = conjunction(objs, edge, test)?;
@@ -82,7 +82,7 @@ pub fn path_of<B: Bits>(alloc: Global, objs: &mut Sobs<B>, edge: Edge) -> Result
     requires reaches { (a : ℕ → Bool) × (B.truth_of objs.old.store edge a ≡ true) }
     ensures leaves { Leaves B.Meaning objs.old objs.new }
     ensures edge { IfOk result (λ w. w.edge ≡ edge) }
-    ensures way { IfOk result (IsWay (B.truth_of objs.new.store) (B.width_of objs.new.store)) }
+    ensures witnessed { IfOk result (IsWitnessed (B.truth_of objs.new.store) (B.width_of objs.new.store)) }
     ensures cause { IfErr result (HasPlainCause B.Meaning objs.new) }
 {
     let width = width(objs);

@@ -7,7 +7,7 @@ ghost use Rattle.gl_logic.specs.WorldSeen.{WorldSeen};
 ghost use Rattle.sym_objects.specs.Seen.{IsLive, IsWhole, stands_for};
 ghost use Rattle.sym_prims.specs.Applying.{Leaves};
 ghost use Rattle.gl_interp.specs.Causes.{Rests};
-ghost use Rattle.gl_interp.specs.Running.{AreTerms, IsWay, Ready, Turn};
+ghost use Rattle.gl_interp.specs.Running.{AreTerms, IsWitnessed, Ready, Turn};
 ghost use Rattle.gl_interp.specs.TurnFaults.{HasConstantCause, HasPlainCause, HasTurnCause};
 ghost use Rattle.gl_interp.specs.TurnsLeft.{Falls};
 
@@ -103,7 +103,7 @@ fn constant_of<B: Bits>(
 ) -> Result<Sob, GlFault>
     requires whole { IsWhole B.Meaning objs.old }
     requires edge { B.live objs.old.store path.now.edge }
-    requires way { IsWay (B.truth_of objs.old.store) (B.width_of objs.old.store) path.now }
+    requires witnessed { IsWitnessed (B.truth_of objs.old.store) (B.width_of objs.old.store) path.now }
     ensures leaves { Leaves B.Meaning objs.old objs.new }
     ensures live { IfOk result (λ r. IsLive objs.new r) }
     ensures means { IfOk result (λ r. (a : ℕ → Bool) → stands_for B.Meaning objs.new r a ≡ tree.now) }

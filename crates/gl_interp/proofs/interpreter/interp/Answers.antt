@@ -13,15 +13,15 @@ use Rattle.gl_interp.proofs.interpreter.interp.Goals as goal
 pub loop-focus-init : goal.loop-focus-init
 loop-focus-init g c =
     let first = c.in_ok-first.ensures in
-    let way = c.in_ok-way.ensures in
+    let onward = c.in_ok-onward.ensures in
     let task : Task = record { world = c.args.world.now; machine = c.args.machine.now; clock = c.args.clock; term = term_of c.args.term.now; env = c.args.env.now; path = c.args.path } in
-    subst (λ fs. Running g.B.Meaning c.args.objs.now task c.path_of.new.objs c.args.machine.now c.bind_pairs.new.self c.in_ok-way.way fs (focus.Visit c.args.term c.in_ok-first.first c.args.clock)) (sym c.new-frames.ensures)
-    (running_begin g.B.Meaning c.args.objs.now task c.args.objs.now c.path_of.new.objs c.new-envs.result c.bind_pairs.new.self c.in_ok-way.way c.in_ok-first.first c.args.term refl way.leaves c.count-total.ensures.total c.requires.term c.requires.path c.requires.env
-    c.new-envs.ensures first.live first.bound first.below way.edge way.way refl)
+    subst (λ fs. Running g.B.Meaning c.args.objs.now task c.path_of.new.objs c.args.machine.now c.bind_pairs.new.self c.in_ok-onward.onward fs (focus.Visit c.args.term c.in_ok-first.first c.args.clock)) (sym c.new-frames.ensures)
+    (running_begin g.B.Meaning c.args.objs.now task c.args.objs.now c.path_of.new.objs c.new-envs.result c.bind_pairs.new.self c.in_ok-onward.onward c.in_ok-first.first c.args.term refl onward.leaves c.count-total.ensures.total c.requires.term c.requires.path c.requires.env
+    c.new-envs.ensures first.live first.bound first.below onward.edge onward.witnessed refl)
 
 pub returns-in-None-clause-interprets : goal.returns-in-None-clause-interprets
 returns-in-None-clause-interprets g c =
-    interprets_ok g.B.Meaning c.args.objs.now (record { world = c.args.world.now; machine = c.args.machine.now; clock = c.args.clock; term = term_of c.args.term.now; env = c.args.env.now; path = c.args.path }) c.loop-focus.objs c.loop-focus.machine c.loop-focus.envs c.loop-focus.way c.loop-focus.frames c.loop-focus.focus c.in-Give.object c.loop-focus.invariant c.in-None.ensures.0 c.in-Give.is
+    interprets_ok g.B.Meaning c.args.objs.now (record { world = c.args.world.now; machine = c.args.machine.now; clock = c.args.clock; term = term_of c.args.term.now; env = c.args.env.now; path = c.args.path }) c.loop-focus.objs c.loop-focus.machine c.loop-focus.envs c.loop-focus.onward c.loop-focus.frames c.loop-focus.focus c.in-Give.object c.loop-focus.invariant c.in-None.ensures.0 c.in-Give.is
 
 pub returns-in-Err-clause-interprets : goal.returns-in-Err-clause-interprets
 returns-in-Err-clause-interprets g c =
@@ -29,7 +29,7 @@ returns-in-Err-clause-interprets g c =
     let inv = c.loop-focus.invariant in
     let e = c.in-Err.ensures in
     interprets_err g.B.Meaning c.args.objs.now task c.visit.new.objs c.in-Err.fault (leaves_then g.B.Meaning c.args.objs.now c.loop-focus.objs c.visit.new.objs inv.leaves e.leaves)
-    (visit_cause g.B.Meaning c.args.objs.now task c.loop-focus.objs c.visit.new.objs c.loop-focus.machine c.loop-focus.envs c.loop-focus.way c.loop-focus.frames c.loop-focus.focus inv e.leaves c.in-Visit.t c.in-Visit.e c.in-Visit.n c.in-Visit.is c.in-Err.fault (e.cause c.args.world.now))
+    (visit_cause g.B.Meaning c.args.objs.now task c.loop-focus.objs c.visit.new.objs c.loop-focus.machine c.loop-focus.envs c.loop-focus.onward c.loop-focus.frames c.loop-focus.focus inv e.leaves c.in-Visit.t c.in-Visit.e c.in-Visit.n c.in-Visit.is c.in-Err.fault (e.cause c.args.world.now))
 
 pub returns-in-Err-clause-rests : goal.returns-in-Err-clause-rests
 returns-in-Err-clause-rests g c = rests_then c.args.machine.now c.loop-focus.machine c.visit.new.machine c.loop-focus.invariant.rests c.in-Err.ensures.rests
@@ -43,7 +43,7 @@ returns-in-Err-run-clause-interprets g c =
     let inv = c.loop-focus.invariant in
     let e = c.in-Err-run.ensures in
     interprets_err g.B.Meaning c.args.objs.now task c.run.new.objs c.in-Err-run.fault (leaves_then g.B.Meaning c.args.objs.now c.loop-focus.objs c.run.new.objs inv.leaves e.leaves)
-    (run_cause g.B.Meaning c.args.objs.now task c.loop-focus.objs c.run.new.objs c.loop-focus.machine c.loop-focus.envs c.loop-focus.way c.loop-focus.frames c.loop-focus.focus inv e.leaves c.in-Run.work c.in-Run.args c.in-Run.e c.in-Run.n c.in-Run.is c.in-Err-run.fault e.cause)
+    (run_cause g.B.Meaning c.args.objs.now task c.loop-focus.objs c.run.new.objs c.loop-focus.machine c.loop-focus.envs c.loop-focus.onward c.loop-focus.frames c.loop-focus.focus inv e.leaves c.in-Run.work c.in-Run.args c.in-Run.e c.in-Run.n c.in-Run.is c.in-Err-run.fault e.cause)
 
 pub returns-in-Err-run-clause-rests : goal.returns-in-Err-run-clause-rests
 returns-in-Err-run-clause-rests g c = rests_then c.args.machine.now c.loop-focus.machine c.run.new.machine c.loop-focus.invariant.rests c.in-Err-run.ensures.rests
@@ -53,7 +53,7 @@ loop-focus-preserved-in-Ok g c =
     let ds = c.args.world.now.definitions in
     let task : Task = record { world = c.args.world.now; machine = c.args.machine.now; clock = c.args.clock; term = term_of c.args.term.now; env = c.args.env.now; path = c.args.path } in
     let l = c.loop-focus in
-    running_plain g.B.Meaning c.args.objs.now task l.objs _ l.machine _ l.envs _ l.way _ l.frames l.frames _ l.focus _ _ l.invariant refl c.in-Visit.is c.in-Ok.ensures.leaves c.in-Ok.ensures.rests (c.in-Ok.ensures.turn ds) (c.in-Ok.ensures.terms ds)
+    running_plain g.B.Meaning c.args.objs.now task l.objs _ l.machine _ l.envs _ l.onward _ l.frames l.frames _ l.focus _ _ l.invariant refl c.in-Visit.is c.in-Ok.ensures.leaves c.in-Ok.ensures.rests (c.in-Ok.ensures.turn ds) (c.in-Ok.ensures.terms ds)
 
 pub loop-focus-smaller-in-Ok : goal.loop-focus-smaller-in-Ok
 loop-focus-smaller-in-Ok g c = falls_turn c.args.world.now.definitions c.loop-focus.frames c.loop-focus.frames _ c.loop-focus.focus _ _ refl c.in-Visit.is (c.in-Ok.ensures.falls c.args.world.now.definitions)
@@ -63,7 +63,7 @@ loop-focus-preserved-in-Next g c =
     let ds = c.args.world.now.definitions in
     let task : Task = record { world = c.args.world.now; machine = c.args.machine.now; clock = c.args.clock; term = term_of c.args.term.now; env = c.args.env.now; path = c.args.path } in
     let l = c.loop-focus in
-    running_plain g.B.Meaning c.args.objs.now task l.objs _ l.machine _ l.envs _ l.way _ l.frames l.frames _ l.focus _ _ l.invariant refl c.in-Next.is (leaves_none g.B.Meaning l.objs l.invariant.ready.whole) (rests_none l.machine) (c.in_ok-focus-in-Next.ensures.turn ds) (c.in_ok-focus-in-Next.ensures.terms ds)
+    running_plain g.B.Meaning c.args.objs.now task l.objs _ l.machine _ l.envs _ l.onward _ l.frames l.frames _ l.focus _ _ l.invariant refl c.in-Next.is (leaves_none g.B.Meaning l.objs l.invariant.ready.whole) (rests_none l.machine) (c.in_ok-focus-in-Next.ensures.turn ds) (c.in_ok-focus-in-Next.ensures.terms ds)
 
 pub loop-focus-smaller-in-Next : goal.loop-focus-smaller-in-Next
 loop-focus-smaller-in-Next g c = falls_turn c.args.world.now.definitions c.loop-focus.frames c.loop-focus.frames _ c.loop-focus.focus _ _ refl c.in-Next.is (c.in_ok-focus-in-Next.ensures.falls c.args.world.now.definitions)
@@ -72,7 +72,7 @@ pub loop-focus-preserved-in-Ok-run : goal.loop-focus-preserved-in-Ok-run
 loop-focus-preserved-in-Ok-run g c =
     let task : Task = record { world = c.args.world.now; machine = c.args.machine.now; clock = c.args.clock; term = term_of c.args.term.now; env = c.args.env.now; path = c.args.path } in
     let l = c.loop-focus in
-    running_turn g.B.Meaning c.args.objs.now task l.objs _ l.machine _ l.envs _ l.way _ l.frames l.frames _ l.focus _ _ l.invariant refl c.in-Run.is c.in-Ok-run.ensures.leaves c.in-Ok-run.ensures.rests c.in-Ok-run.ensures.turn c.in-Ok-run.ensures.terms
+    running_turn g.B.Meaning c.args.objs.now task l.objs _ l.machine _ l.envs _ l.onward _ l.frames l.frames _ l.focus _ _ l.invariant refl c.in-Run.is c.in-Ok-run.ensures.leaves c.in-Ok-run.ensures.rests c.in-Ok-run.ensures.turn c.in-Ok-run.ensures.terms
 
 pub loop-focus-smaller-in-Ok-run : goal.loop-focus-smaller-in-Ok-run
 loop-focus-smaller-in-Ok-run g c = falls_turn c.args.world.now.definitions c.loop-focus.frames c.loop-focus.frames _ c.loop-focus.focus _ _ refl c.in-Run.is c.in-Ok-run.ensures.falls
@@ -82,7 +82,7 @@ loop-focus-preserved g c =
     let ds = c.args.world.now.definitions in
     let task : Task = record { world = c.args.world.now; machine = c.args.machine.now; clock = c.args.clock; term = term_of c.args.term.now; env = c.args.env.now; path = c.args.path } in
     let l = c.loop-focus in
-    running_plain g.B.Meaning c.args.objs.now task l.objs _ l.machine _ l.envs _ l.way _ l.frames _ _ l.focus _ _ l.invariant c.in-Some.ensures c.in-Give.is c.in-Ok-give.ensures.leaves (rests_none l.machine) (c.in-Ok-give.ensures.turn ds) (c.in-Ok-give.ensures.terms ds)
+    running_plain g.B.Meaning c.args.objs.now task l.objs _ l.machine _ l.envs _ l.onward _ l.frames _ _ l.focus _ _ l.invariant c.in-Some.ensures c.in-Give.is c.in-Ok-give.ensures.leaves (rests_none l.machine) (c.in-Ok-give.ensures.turn ds) (c.in-Ok-give.ensures.terms ds)
 
 pub loop-focus-smaller : goal.loop-focus-smaller
 loop-focus-smaller g c = falls_turn c.args.world.now.definitions c.loop-focus.frames _ _ c.loop-focus.focus _ _ c.in-Some.ensures c.in-Give.is (c.in-Ok-give.ensures.falls c.args.world.now.definitions)

@@ -15,7 +15,7 @@ returns-in-Width-clause-cause g c =
     let old = c.args.objs.now in
     let found = c.in_ok-found-in-Err-Eval.found in
     let kept : Leaves g.B.Meaning old c.copy_of.new.objs = subst (λ s. Leaves g.B.Meaning old s) (sym c.in_ok-found-in-Err-Eval.ensures.same) (leaves_of g.B.Meaning old c.call.new.objs c.call.ensures.keeps) in (
-      on_path g.B.Meaning old c.copy_of.new.objs c.args.path.now found c.requires.way kept c.requires.edge c.in_ok-found-in-Err-Eval.ensures.copy,
+      on_path g.B.Meaning old c.copy_of.new.objs c.args.path.now found c.requires.witnessed kept c.requires.edge c.in_ok-found-in-Err-Eval.ensures.copy,
       subst (λ e. HasEvalCause c.args.world.now c.args.machine.now c.args.f.number (values_under g.B.Meaning old c.args.args.now (value_at found)) e) c.in-Width.is
           (cause_eval g.B.Meaning c.call.new.objs c.args.world.now c.args.machine.now c.args.f.number (λ a. values_under g.B.Meaning old c.args.args.now a) c.call.result c.call.ensures.cause (value_at found) c.in-Err-Eval.field-0 c.in-Err-Eval.fault c.in-Err-Eval.is c.in-Err-Eval.field-0-is),
     )
@@ -25,7 +25,7 @@ returns-in-Steps-clause-cause g c =
     let old = c.args.objs.now in
     let found = c.in_ok-found-in-Err-Eval.found in
     let kept : Leaves g.B.Meaning old c.copy_of.new.objs = subst (λ s. Leaves g.B.Meaning old s) (sym c.in_ok-found-in-Err-Eval.ensures.same) (leaves_of g.B.Meaning old c.call.new.objs c.call.ensures.keeps) in (
-      on_path g.B.Meaning old c.copy_of.new.objs c.args.path.now found c.requires.way kept c.requires.edge c.in_ok-found-in-Err-Eval.ensures.copy,
+      on_path g.B.Meaning old c.copy_of.new.objs c.args.path.now found c.requires.witnessed kept c.requires.edge c.in_ok-found-in-Err-Eval.ensures.copy,
       subst (λ e. HasEvalCause c.args.world.now c.args.machine.now c.args.f.number (values_under g.B.Meaning old c.args.args.now (value_at found)) e) c.in-Steps.is
           (cause_eval g.B.Meaning c.call.new.objs c.args.world.now c.args.machine.now c.args.f.number (λ a. values_under g.B.Meaning old c.args.args.now a) c.call.result c.call.ensures.cause (value_at found) c.in-Err-Eval.field-0 c.in-Err-Eval.fault c.in-Err-Eval.is c.in-Err-Eval.field-0-is),
     )
@@ -35,7 +35,7 @@ returns-in-Cells-clause-cause g c =
     let old = c.args.objs.now in
     let found = c.in_ok-found-in-Err-Eval.found in
     let kept : Leaves g.B.Meaning old c.copy_of.new.objs = subst (λ s. Leaves g.B.Meaning old s) (sym c.in_ok-found-in-Err-Eval.ensures.same) (leaves_of g.B.Meaning old c.call.new.objs c.call.ensures.keeps) in (
-      on_path g.B.Meaning old c.copy_of.new.objs c.args.path.now found c.requires.way kept c.requires.edge c.in_ok-found-in-Err-Eval.ensures.copy,
+      on_path g.B.Meaning old c.copy_of.new.objs c.args.path.now found c.requires.witnessed kept c.requires.edge c.in_ok-found-in-Err-Eval.ensures.copy,
       subst (λ e. HasEvalCause c.args.world.now c.args.machine.now c.args.f.number (values_under g.B.Meaning old c.args.args.now (value_at found)) e) c.in-Cells.is
           (cause_eval g.B.Meaning c.call.new.objs c.args.world.now c.args.machine.now c.args.f.number (λ a. values_under g.B.Meaning old c.args.args.now a) c.call.result c.call.ensures.cause (value_at found) c.in-Err-Eval.field-0 c.in-Err-Eval.fault c.in-Err-Eval.is c.in-Err-Eval.field-0-is),
     )
