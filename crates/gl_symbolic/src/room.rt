@@ -61,16 +61,38 @@ pub fn run_in_mode(
     ensures proper { IsProper world.now limits.now.steps limits.now.cells thm.now result.0 }
     ensures room { LeavesRoom ⟦<Bdd as Meaning>⟧ ⟦<AigSat as Meaning>⟧ limits.now.nodes limits.now.clauses mode result.0 result.1 }
 {
-    // every term of the world has a value
-    let _count = world.count();
     let Ok(mut machine) = Machine::new(alloc, limits) else {
         return (Decision::Memory, Room::Empty);
     };
+    let decided = run_on(alloc, &mut machine, world, thm, mode, limits);
+    drop(machine);
+    decided
+}
+
+/// Decides a theorem in a mode, as [`run_in_mode`] does, on a machine with the steps and the cells of the limits.
+fn run_on(
+    alloc: Global,
+    machine: &mut Machine,
+    world: &World,
+    thm: &Thm,
+    mode: Mode,
+    limits: &Limits,
+) -> (Decision, Room)
+    requires hyp { IsTermOf world.now.definitions (term_of thm.now.hyp) }
+    requires concl { IsTermOf world.now.definitions (term_of thm.now.concl) }
+    requires functions { AreFunctionsOf world.now thm.now.memoized }
+    requires steps { machine.old.steps ≡ limits.now.steps }
+    requires cells { machine.old.arena.limit ≡ limits.now.cells }
+    ensures proper { IsProper world.now limits.now.steps limits.now.cells thm.now result.0 }
+    ensures room { LeavesRoom ⟦<Bdd as Meaning>⟧ ⟦<AigSat as Meaning>⟧ limits.now.nodes limits.now.clauses mode result.0 result.1 }
+{
+    // every term of the world has a value
+    let _count = world.count();
     match machine.begin(world, &thm.memoized) {
         Ok(()) => match mode {
-            Mode::Bdd => by_diagrams(alloc, &mut machine, world, thm, mode, limits),
-            Mode::Param => by_parameters(alloc, &mut machine, world, thm, mode, limits),
-            Mode::Sat => by_search(alloc, &mut machine, world, thm, mode, limits),
+            Mode::Bdd => by_diagrams(alloc, machine, world, thm, mode, limits),
+            Mode::Param => by_parameters(alloc, machine, world, thm, mode, limits),
+            Mode::Sat => by_search(alloc, machine, world, thm, mode, limits),
         },
         Err(EvalFault::Cells) => (unplaced(alloc, thm), Room::Empty),
         Err(_) => (Decision::Memory, Room::Empty),
