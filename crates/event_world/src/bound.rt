@@ -73,8 +73,13 @@ fn variables(alloc: Global, bindings: &Bindings) -> Result<NameSet, NoMemory>
     ensures { IfOk result (λ ns. (v : ℕ) → list_any (eqb v) ns ≡ list_any (eqb v) (variables_of bindings.now)) }
 {
     let mut names = NameSet::new(alloc);
-    note_variables(bindings, &mut names)?;
-    Ok(names)
+    match note_variables(bindings, &mut names) {
+        Ok(()) => Ok(names),
+        Err(fault) => {
+            drop(names);
+            Err(fault)
+        }
+    }
 }
 
 /// Puts the variables of bindings into a set that has none.

@@ -1,6 +1,6 @@
 //! Theorems by cases.
 
-ghost use Rattle.std.specs.Prelude.{◌≡◌, [], ◌∷◌, map, IfOk};
+ghost use Rattle.std.specs.Prelude.{◌≡◌, [], ◌∷◌, map, IfOk, OnOk};
 ghost use Rattle.std.specs.Option.{option_map};
 ghost use Rattle.gl_logic.specs.Object.{Cons, nil};
 ghost use Rattle.gl_logic.specs.Names.{with_name};
@@ -46,7 +46,28 @@ fn marked(alloc: Global, mark: &Tree, bindings: &Tree) -> Result<Tree, NoMemory>
     ensures { IfOk result (λ t. t ≡ Cons mark.now (Cons bindings.now nil)) }
 {
     let rest = Tree::pair(alloc, bindings.copy(alloc)?, Tree::nil())?;
-    Tree::pair(alloc, mark.copy(alloc)?, rest)
+    match mark.copy(alloc) {
+        Ok(mark) => Tree::pair(alloc, mark, rest),
+        Err(fault) => {
+            drop(rest);
+            Err(fault)
+        }
+    }
+}
+
+/// The bindings of a case, where its form means any.
+fn bindings_marked(
+    alloc: Global,
+    texts: &Texts,
+    mark: &Tree,
+    bindings: &Tree,
+) -> Result<Option<Bindings>, NoMemory>
+    ensures { IfOk result (λ o. o ≡ bindings_meant texts.now (Cons mark.now (Cons bindings.now nil))) }
+{
+    let form = marked(alloc, mark, bindings)?;
+    let bound = bindings_in(alloc, texts, &form);
+    drop(form);
+    bound
 }
 
 /// A case with its bindings.
@@ -58,13 +79,19 @@ fn case_bound(
 ) -> Result<Option<Case>, NoMemory>
     ensures { IfOk result (λ o. option_map case_seen o ≡ bound_case texts.now mark.now (case_form_seen case.entry)) }
 {
-    let form = marked(alloc, mark, case.bindings)?;
-    match bindings_in(alloc, texts, &form)? {
-        Some(bindings) => Ok(Some(Case {
+    match bindings_marked(alloc, texts, mark, case.bindings) {
+        Ok(Some(bindings)) => Ok(Some(Case {
             constants: case.constants,
             bindings,
         })),
-        None => Ok(None),
+        Ok(None) => {
+            drop(case);
+            Ok(None)
+        }
+        Err(fault) => {
+            drop(case);
+            Err(fault)
+        }
     }
 }
 
@@ -118,13 +145,28 @@ fn bound_parts(
 ) -> Result<Option<(Bindings, CaseList)>, NoMemory>
     ensures { IfOk result (λ o. o ≡ parts_bound texts.now (cases_form_seen form.now) (quoted_form_seen quoted.entry)) }
 {
-    let Some(cover) = bindings_in(alloc, texts, form.cover)? else {
-        return Ok(None);
+    let cover = match bindings_in(alloc, texts, form.cover) {
+        Ok(Some(cover)) => cover,
+        Ok(None) => {
+            drop(quoted);
+            return Ok(None);
+        }
+        Err(fault) => {
+            drop(quoted);
+            return Err(fault);
+        }
     };
-    let Some(cases) = all_bound(alloc, texts, quoted.mark, quoted.cases)? else {
-        return Ok(None);
-    };
-    Ok(Some((cover, cases)))
+    match all_bound(alloc, texts, quoted.mark, quoted.cases) {
+        Ok(Some(cases)) => Ok(Some((cover, cases))),
+        Ok(None) => {
+            drop(cover);
+            Ok(None)
+        }
+        Err(fault) => {
+            drop(cover);
+            Err(fault)
+        }
+    }
 }
 
 /// A theorem by cases of these parts, where each part binds its variables.
@@ -140,10 +182,16 @@ fn of_parts(
     ensures { Gives param_seen (claim_of name.number (term_of hyp) (term_of concl) (term_of term) cover cases) result }
 {
     let thm = param_of(alloc, name, hyp, concl, term, cases, cover)?;
-    if are_bound(alloc, &thm)? {
-        Ok(thm)
-    } else {
-        Err(EventFault::BadBindings)
+    match are_bound(alloc, &thm) {
+        Ok(true) => Ok(thm),
+        Ok(false) => {
+            drop(thm);
+            Err(EventFault::BadBindings)
+        }
+        Err(_) => {
+            drop(thm);
+            Err(EventFault::Memory)
+        }
     }
 }
 
@@ -160,9 +208,20 @@ fn with_terms(
 ) -> Result<ParamThm, EventFault>
     ensures { Gives param_seen (parts_claimed texts.now (cases_form_seen form.now) (quoted_form_seen quoted.entry) (term_of hyp) (term_of concl) (term_of term)) result }
 {
-    match bound_parts(alloc, texts, form, quoted)? {
-        Some((cover, cases)) => of_parts(alloc, form.name, hyp, concl, term, cases, cover),
-        None => Err(EventFault::BadBindings),
+    match bound_parts(alloc, texts, form, quoted) {
+        Ok(Some((cover, cases))) => of_parts(alloc, form.name, hyp, concl, term, cases, cover),
+        Ok(None) => {
+            drop(hyp);
+            drop(concl);
+            drop(term);
+            Err(EventFault::BadBindings)
+        }
+        Err(_) => {
+            drop(hyp);
+            drop(concl);
+            drop(term);
+            Err(EventFault::Memory)
+        }
     }
 }
 
@@ -179,10 +238,44 @@ fn claimed(
     ensures meant { Gives param_seen (cases_claimed texts.old world.now (cases_form_seen form.now) (quoted_form_seen quoted.entry)) result }
     ensures texts { texts.new ≡ texts.old }
 {
-    let hyp = hypothesis(alloc, texts, world, form.hyp)?;
-    let concl = claim_term(alloc, form.concl, world, texts)?;
-    let term = claim_term(alloc, form.term, world, texts)?;
-    with_terms(alloc, texts, form, quoted, hyp, concl, term)
+    let hyp = match hypothesis(alloc, texts, world, form.hyp) {
+        Ok(hyp) => hyp,
+        Err(fault) => {
+            drop(quoted);
+            return Err(fault);
+        }
+    };
+    let concl = match claim_term(alloc, form.concl, world, texts) {
+        Ok(concl) => concl,
+        Err(fault) => {
+            drop(quoted);
+            drop(hyp);
+            return Err(fault);
+        }
+    };
+    match claim_term(alloc, form.term, world, texts) {
+        Ok(term) => with_terms(alloc, texts, form, quoted, hyp, concl, term),
+        Err(fault) => {
+            drop(quoted);
+            drop(hyp);
+            drop(concl);
+            Err(fault)
+        }
+    }
+}
+
+/// Gives a theorem these settings. Its cases are lost where memory runs out.
+fn set_all(
+    alloc: Global,
+    thm: &mut ParamThm,
+    clocks: (u32, u32),
+    mode: Mode,
+    memoized: &FnSet,
+) -> Result<(), NoMemory>
+    ensures { OnOk result (param_seen thm.new ≡ param_set clocks.0 clocks.1 mode memoized.now (param_seen thm.old)) }
+{
+    let memoized = copied_functions(alloc, memoized)?;
+    thm.set(alloc, clocks.0, clocks.1, mode, memoized)
 }
 
 /// The theorem with these settings.
@@ -196,9 +289,13 @@ fn with_settings(
     ensures { IfOk result (λ t. param_seen t ≡ param_set clocks.0 clocks.1 mode memoized.now (param_seen thm)) }
 {
     let mut thm = thm;
-    let memoized = copied_functions(alloc, memoized)?;
-    thm.set(alloc, clocks.0, clocks.1, mode, memoized)?;
-    Ok(thm)
+    match set_all(alloc, &mut thm, clocks, mode, memoized) {
+        Ok(()) => Ok(thm),
+        Err(fault) => {
+            drop(thm);
+            Err(fault)
+        }
+    }
 }
 
 /// `(def-gl-param-thm n :hyp h :concl c :param-hyp p :param-bindings q :cov-bindings b ..)`, by what stands behind

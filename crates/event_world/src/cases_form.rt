@@ -77,10 +77,22 @@ pub(crate) fn cases_form<'a>(
 fn with_forms<'a>(texts: &Texts, name: TextId, options: Keywords<'a>) -> Option<CasesForm<'a>>
     ensures { option_map cases_form_seen result ≡ forms_in texts.now name.number options.entry }
 {
-    let concl = options.value(texts, b":CONCL")?;
-    let term = options.value(texts, b":PARAM-HYP")?;
-    let cases = options.value(texts, b":PARAM-BINDINGS")?;
-    let cover = options.value(texts, b":COV-BINDINGS")?;
+    let Some(concl) = options.value(texts, b":CONCL") else {
+        drop(options);
+        return None;
+    };
+    let Some(term) = options.value(texts, b":PARAM-HYP") else {
+        drop(options);
+        return None;
+    };
+    let Some(cases) = options.value(texts, b":PARAM-BINDINGS") else {
+        drop(options);
+        return None;
+    };
+    let Some(cover) = options.value(texts, b":COV-BINDINGS") else {
+        drop(options);
+        return None;
+    };
     Some(CasesForm {
         name,
         hyp: options.value(texts, b":HYP"),

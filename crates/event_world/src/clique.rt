@@ -67,13 +67,18 @@ fn member(
 {
     scope.vars = member.formals.copy(alloc)?;
     let formals = member.formals.copy(alloc)?;
-    let body = term_in(alloc, member.body, scope, world, texts)?;
-    Ok(Def {
-        name: member.name,
-        formals,
-        body,
-        measure: member.stated,
-    })
+    match term_in(alloc, member.body, scope, world, texts) {
+        Ok(body) => Ok(Def {
+            name: member.name,
+            formals,
+            body,
+            measure: member.stated,
+        }),
+        Err(fault) => {
+            drop(formals);
+            Err(fault)
+        }
+    }
 }
 
 /// The definitions of all members, in their order.
@@ -196,12 +201,19 @@ fn all_settled(alloc: Global, defs: &Defs, measures: &Measures) -> Result<Defs, 
 fn with_measure(alloc: Global, def: &Def, measure: Option<Measure>) -> Result<Def, NoMemory>
     ensures { IfOk result (λ d. definition_of d ≡ record (definition_of def.now) { measure = measure }) }
 {
-    Ok(Def {
-        name: def.name,
-        formals: def.formals.copy(alloc)?,
-        body: def.body.copy(alloc)?,
-        measure,
-    })
+    let formals = def.formals.copy(alloc)?;
+    match def.body.copy(alloc) {
+        Ok(body) => Ok(Def {
+            name: def.name,
+            formals,
+            body,
+            measure,
+        }),
+        Err(fault) => {
+            drop(formals);
+            Err(fault)
+        }
+    }
 }
 
 /// Members whose bodies are known, where each recursive call is a step.
@@ -212,7 +224,11 @@ fn judged(alloc: Global, world: &World, defs: &Defs) -> Result<Event, EventFault
         number: world.count(),
     };
     match admit_clique(alloc, first, defs) {
-        Ok(measures) => Ok(Event::Clique(with_settled(alloc, first, defs, &measures)?)),
+        Ok(measures) => {
+            let settled = with_settled(alloc, first, defs, &measures);
+            drop(measures);
+            Ok(Event::Clique(settled?))
+        }
         Err(AdmitFault::NotAdmitted(call)) => Err(EventFault::NotAdmitted(call)),
         Err(AdmitFault::Memory) => Err(EventFault::Memory),
     }
@@ -233,12 +249,16 @@ fn made(
         return Err(EventFault::BadOption);
     };
     if !are_new(texts, world, stated.as_slice()) {
+        drop(stated);
         return Err(EventFault::Redefined);
     }
     let Some(made) = all_made(alloc, texts, stated.as_slice())? else {
+        drop(stated);
         return Err(EventFault::Term(TermFault::BadUse));
     };
+    drop(stated);
     let defs = all_members(alloc, texts, world, made.as_slice())?;
+    drop(made);
     judged(alloc, world, &defs)
 }
 

@@ -95,10 +95,16 @@ pub(crate) fn clique_form<'a>(
     let Some(members) = all_members(alloc, texts, parts)? else {
         return Ok(None);
     };
-    if are_members(alloc, members.as_slice())? {
-        Ok(Some(members))
-    } else {
-        Ok(None)
+    match are_members(alloc, members.as_slice()) {
+        Ok(true) => Ok(Some(members)),
+        Ok(false) => {
+            drop(members);
+            Ok(None)
+        }
+        Err(fault) => {
+            drop(members);
+            Err(fault)
+        }
     }
 }
 

@@ -148,8 +148,19 @@ pub(crate) fn stated_measure(
     let Some(pairs) = xargs(alloc, texts, before)? else {
         return Ok(None);
     };
-    if !pairs.are_of(alloc, texts, KeywordTable::Xargs)? {
-        return Ok(None);
+    match pairs.are_of(alloc, texts, KeywordTable::Xargs) {
+        Ok(true) => {
+            let stated = stated_value(texts, formals, pairs.value(texts, b":MEASURE"));
+            drop(pairs);
+            Ok(stated)
+        }
+        Ok(false) => {
+            drop(pairs);
+            Ok(None)
+        }
+        Err(fault) => {
+            drop(pairs);
+            Err(fault)
+        }
     }
-    Ok(stated_value(texts, formals, pairs.value(texts, b":MEASURE")))
 }

@@ -75,7 +75,9 @@ fn body(
         every: false,
         own: owns(alloc, name, formals)?,
     };
-    term_in(alloc, form, &scope, world, texts)
+    let found = term_in(alloc, form, &scope, world, texts);
+    drop(scope);
+    found
 }
 
 /// The definition of a form that has passed the checks of its options and its name.

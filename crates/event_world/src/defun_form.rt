@@ -114,10 +114,19 @@ pub(crate) fn formals_of(
     let Some(all) = all_legal(alloc, texts, formals)? else {
         return Ok(None);
     };
-    if are_different(alloc, &all)? && all.len() <= 255 {
-        Ok(Some(all))
-    } else {
-        Ok(None)
+    match are_different(alloc, &all) {
+        Ok(told) => {
+            if told && all.len() <= 255 {
+                Ok(Some(all))
+            } else {
+                drop(all);
+                Ok(None)
+            }
+        }
+        Err(fault) => {
+            drop(all);
+            Err(fault)
+        }
     }
 }
 

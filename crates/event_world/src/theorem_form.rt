@@ -52,8 +52,14 @@ pub(crate) fn theorem_form<'a>(
 fn with_required<'a>(texts: &Texts, name: TextId, options: Keywords<'a>) -> Option<TheoremForm<'a>>
     ensures { option_map theorem_form_seen result ≡ required_in texts.now name.number options.entry }
 {
-    let concl = options.value(texts, b":CONCL")?;
-    let bindings = options.value(texts, b":G-BINDINGS")?;
+    let Some(concl) = options.value(texts, b":CONCL") else {
+        drop(options);
+        return None;
+    };
+    let Some(bindings) = options.value(texts, b":G-BINDINGS") else {
+        drop(options);
+        return None;
+    };
     Some(TheoremForm {
         name,
         hyp: options.value(texts, b":HYP"),

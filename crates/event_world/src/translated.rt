@@ -48,7 +48,9 @@ pub(crate) fn closed_term(
         every: false,
         own: Owns::new(alloc),
     };
-    term_in(alloc, form, &scope, world, texts)
+    let found = term_in(alloc, form, &scope, world, texts);
+    drop(scope);
+    found
 }
 
 /// A term in which every legal variable is in scope.
@@ -67,5 +69,7 @@ pub(crate) fn claim_term(
         every: true,
         own: Owns::new(alloc),
     };
-    term_in(alloc, form, &scope, world, texts)
+    let found = term_in(alloc, form, &scope, world, texts);
+    drop(scope);
+    found
 }
