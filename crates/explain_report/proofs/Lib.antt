@@ -1,3 +1,4 @@
 pub mod Back
 pub mod Numbers
 pub mod Parts
+pub mod Reports

@@ -1,11 +1,12 @@
 -- Digits of a number that are put one after another.
-use Rattle.std.proofs.Common.{◌≡◌, ◌∙◌, ap, ℕ, ◌+◌, ◌*◌, ◌/◌, ◌%◌, ◌<◌, ◌≤◌, List, [], ◌∷◌, ◌++◌, append_assoc, div-add-mod', length, arith}
+use Rattle.std.proofs.Common.{◌≡◌, ◌∙◌, ap, ℕ, ◌+◌, ◌*◌, ◌/◌, ◌%◌, ◌<◌, ◌≤◌, List, [], ◌∷◌, ◌++◌, append_assoc, div-add-mod', length, arith, Option, Some, None, subst, ℤ}
+use Rattle.std.specs.Prelude.{unsigned_abs}
 use Rattle.std.proofs.lemmas.Nat.{mod_below}
 use Rattle.std.proofs.Math.Nat.{mod-eq_of_lt}
 use Rattle.std.specs.Char.{digit_value}
-use Rattle.std.specs.Str.Parse.{digits_value}
 use Rattle.std.proofs.lemmas.Int.Digits.{digits_value_push, digits_push}
-use Rattle.explain_report.specs.Bases.{PutsNumber}
+use Rattle.explain_report.specs.Bases.{PutsNumber, PutsInBases, minus, hexadecimal_mark, binary_mark}
+use Rattle.explain_report.specs.Said.{Says, Adds}
 
 some : (xs : List ℕ) (x : ℕ) → 0 < length (xs ++ x ∷ [])
 some [] x = omega arith
@@ -15,8 +16,8 @@ none_in_front : (b v : ℕ) → 0 * b + v ≡ v
 none_in_front b v = omega arith
 
 -- the last digit, behind those of the number without it
-pub digit_behind : (base n d : ℕ) (old mid new : List ℕ) → 2 ≤ base → PutsNumber base (n / base) old mid → digit_value d ≡ n % base → new ≡ mid ++ d ∷ [] → PutsNumber base n old new
-digit_behind base n d old mid new two h v e =
+digit_behind_bytes : (base n d : ℕ) (old mid new : List ℕ) → 2 ≤ base → PutsNumber base (n / base) old mid → digit_value d ≡ n % base → new ≡ mid ++ d ∷ [] → PutsNumber base n old new
+digit_behind_bytes base n d old mid new two h v e =
     let small : n % base < base = mod_below n base (omega (arith, two)) in
     let below : digit_value d < base = rw v small in
     record {
@@ -27,12 +28,45 @@ digit_behind base n d old mid new two h v e =
     }
 
 -- the only digit
-pub digit_alone : (base n d : ℕ) (old new : List ℕ) → n < base → digit_value d ≡ n % base → new ≡ old ++ d ∷ [] → PutsNumber base n old new
-digit_alone base n d old new small v e =
+digit_alone_bytes : (base n d : ℕ) (old new : List ℕ) → n < base → digit_value d ≡ n % base → new ≡ old ++ d ∷ [] → PutsNumber base n old new
+digit_alone_bytes base n d old new small v e =
     let is : digit_value d ≡ n = v ∙ mod-eq_of_lt small in
     record {
       digits = d ∷ [];
       put = e;
       are = (omega arith, (rw is small, tt));
       denote = none_in_front base (digit_value d) ∙ is;
+    }
+
+-- the same in a report
+pub digit_behind : (base n d : ℕ) (old mid new : Option (List ℕ)) → 2 ≤ base → Says (PutsNumber base (n / base)) old mid → digit_value d ≡ n % base
+    → Adds (d ∷ []) mid new → Says (PutsNumber base n) old new
+digit_behind base n d old mid None two h v e = tt
+digit_behind base n d old None (Some c) two h v e = absurd e
+digit_behind base n d None (Some b) (Some c) two h v e = absurd h
+digit_behind base n d (Some a) (Some b) (Some c) two h v e = digit_behind_bytes base n d a b c two h v e
+
+pub digit_alone : (base n d : ℕ) (old new : Option (List ℕ)) → n < base → digit_value d ≡ n % base → Adds (d ∷ []) old new → Says (PutsNumber base n) old new
+digit_alone base n d old None small v e = tt
+digit_alone base n d None (Some b) small v e = absurd e
+digit_alone base n d (Some a) (Some b) small v e = digit_alone_bytes base n d a b small v e
+
+-- the text of an integer, and its digits in two bases
+pub in_bases : (z : ℤ) (text : List ℕ) (a b c d e f g h : Option (List ℕ)) → Adds text a b → Adds hexadecimal_mark b c → Adds (minus z) c d
+    → Says (PutsNumber 16 (unsigned_abs z)) d e → Adds binary_mark e f → Adds (minus z) f g → Says (PutsNumber 2 (unsigned_abs z)) g h → Says (PutsInBases z text) a h
+in_bases z text a b c d e f g None p q r s t u v = tt
+in_bases z text a b c d e f None (Some h) p q r s t u v = absurd v
+in_bases z text a b c d e None (Some g) (Some h) p q r s t u v = absurd u
+in_bases z text a b c d None (Some f) (Some g) (Some h) p q r s t u v = absurd t
+in_bases z text a b c None (Some e) (Some f) (Some g) (Some h) p q r s t u v = absurd s
+in_bases z text a b None (Some d) (Some e) (Some f) (Some g) (Some h) p q r s t u v = absurd r
+in_bases z text a None (Some c) (Some d) (Some e) (Some f) (Some g) (Some h) p q r s t u v = absurd q
+in_bases z text None (Some b) (Some c) (Some d) (Some e) (Some f) (Some g) (Some h) p q r s t u v = absurd p
+in_bases z text (Some a) (Some b) (Some c) (Some d) (Some e) (Some f) (Some g) (Some h) p q r s t u v =
+    let first : d ≡ a ++ text ++ hexadecimal_mark ++ minus z = r ∙ ap (λ xs. xs ++ minus z) (q ∙ ap (λ xs. xs ++ hexadecimal_mark) p) in
+    let second : g ≡ e ++ binary_mark ++ minus z = u ∙ ap (λ xs. xs ++ minus z) t in
+    record {
+      before = e;
+      hexadecimal = subst (λ xs. PutsNumber 16 (unsigned_abs z) xs e) first s;
+      binary = subst (λ xs. PutsNumber 2 (unsigned_abs z) xs h) second v;
     }

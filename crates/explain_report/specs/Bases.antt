@@ -1,6 +1,6 @@
 -- Integers in other bases than ten.
-use Rattle.std.specs.Prelude.{◌≡◌, ℕ, ℤ, pos, negsuc, List, [], ◌∷◌, ◌++◌, unsigned_abs}
-use Rattle.std.specs.Str.Parse.{IsNumeral, digits_value}
+use Rattle.std.specs.Prelude.{◌≡◌, ℕ, ℤ, pos, negsuc, List, [], ◌∷◌, ◌++◌, ◌⊎◌, unsigned_abs}
+use Rattle.std.specs.Str.Parse.{IsNumeral, digits_value, signed_digits_value}
 
 -- digits of a base come behind what stands there, and denote a number
 pub record PutsNumber (base n : ℕ) (old new : List ℕ) : Type 0 where
@@ -26,3 +26,7 @@ pub record PutsInBases (z : ℤ) (text old new : List ℕ) : Type 0 where
   pub before : List ℕ
   pub hexadecimal : PutsNumber 16 (unsigned_abs z) (old ++ text ++ hexadecimal_mark ++ minus z) before
   pub binary : PutsNumber 2 (unsigned_abs z) (before ++ binary_mark ++ minus z) new
+
+-- the text of an object alone, or that of an integer and behind it the same integer in two bases
+abbrev pub PutsObject : List ℕ → List ℕ → List ℕ → Type 0
+PutsObject text old new = (new ≡ old ++ text) ⊎ PutsInBases (signed_digits_value 10 text) text old new

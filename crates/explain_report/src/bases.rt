@@ -1,14 +1,13 @@
 //! An integer in three bases.
 
-ghost use Rattle.std.specs.Prelude.{◌≡◌, ◌<◌, ◌≤◌, ◌+◌, ◌++◌, ◌⊎◌, unsigned_abs, IfSome, OnOk};
+ghost use Rattle.std.specs.Prelude.{◌≡◌, ◌<◌, ◌≤◌, unsigned_abs, IfSome};
 ghost use Rattle.std.specs.Char.{digit_value};
 ghost use Rattle.std.specs.Str.Parse.{signed_digits_value};
-ghost use Rattle.explain_report.specs.Bases.{PutsNumber, PutsInBases, minus};
+ghost use Rattle.explain_report.specs.Bases.{PutsNumber, PutsInBases, PutsObject, minus};
+ghost use Rattle.explain_report.specs.Said.{Says, Adds};
 
 use crate::html::put_text;
 use crate::report::Report;
-use gl_logic::NoMemory;
-use std::alloc::Global;
 
 /// The integer that a text in decimal is.
 fn integer_of(text: &[u8]) -> Option<i128>
@@ -34,68 +33,70 @@ fn digit_of(number: u8) -> u8
 
 /// Puts a number in a base, with so many digits at least.
 #[tactic(auto, using(crate::proofs::Numbers::digit_behind, crate::proofs::Numbers::digit_alone))]
-fn put_digits(report: &mut Report, base: u128, least: usize, number: u128) -> Result<(), NoMemory>
+fn put_digits(report: &mut Report, base: u128, least: usize, number: u128)
     requires some { 2 ≤ base }
     requires most { base ≤ 16 }
-    ensures { OnOk result (PutsNumber base number report.old report.new) }
+    ensures { Says (PutsNumber base number) report.old report.new }
 {
     if base <= number || 1 < least {
-        put_digits(report, base, least.saturating_sub(1), number / base)?;
+        put_digits(report, base, least.saturating_sub(1), number / base);
     }
-    report.text(&[digit_of((number % base) as u8)])
+    report.text(&[digit_of((number % base) as u8)]);
 }
 
 /// Puts the minus of an integer below zero.
-fn put_minus(report: &mut Report, integer: i128) -> Result<(), NoMemory>
-    ensures { OnOk result (report.new ≡ report.old ++ minus integer) }
+fn put_minus(report: &mut Report, integer: i128)
+    ensures { Adds (minus integer) report.old report.new }
 {
     if integer < 0 {
-        report.text(b"-")
+        report.text(b"-");
     } else {
-        report.text(b"")
+        report.text(b"");
     }
 }
 
-fn put_integer(alloc: Global, report: &mut Report, integer: i128) -> Result<(), NoMemory> {
-    let decimal = format!(in alloc; "<td>{integer}</td><td>#x")?;
-    report.say(decimal.as_str())?;
-    put_minus(report, integer)?;
-    put_digits(report, 16, 1, integer.unsigned_abs())?;
-    report.say("</td><td>#b")?;
-    put_minus(report, integer)?;
-    put_digits(report, 2, 1, integer.unsigned_abs())?;
-    report.say("</td>")
+fn put_integer(report: &mut Report, integer: i128) {
+    report.say("<td>");
+    report.integer(integer);
+    report.say("</td><td>#x");
+    put_minus(report, integer);
+    put_digits(report, 16, 1, integer.unsigned_abs());
+    report.say("</td><td>#b");
+    put_minus(report, integer);
+    put_digits(report, 2, 1, integer.unsigned_abs());
+    report.say("</td>");
 }
 
 /// Cells of a table with an integer in decimal, hexadecimal and binary; one cell with another object.
-pub(crate) fn put_bases(alloc: Global, report: &mut Report, object: &[u8]) -> Result<(), NoMemory> {
+pub(crate) fn put_bases(report: &mut Report, object: &[u8]) {
     match integer_of(object) {
-        Some(integer) => put_integer(alloc, report, integer),
+        Some(integer) => put_integer(report, integer),
         None => {
-            report.say("<td colspan=\"3\">")?;
-            put_text(report, object)?;
-            report.say("</td>")
+            report.say("<td colspan=\"3\">");
+            put_text(report, object);
+            report.say("</td>");
         }
     }
 }
 
 /// Puts an integer's text, and its hexadecimal and binary digits, of the latter at least so many.
-fn put_in_all(report: &mut Report, text: &[u8], integer: i128, bits: usize) -> Result<(), NoMemory>
-    ensures { OnOk result (PutsInBases integer text.now report.old report.new) }
+#[tactic(auto, using(crate::proofs::Numbers::in_bases))]
+fn put_in_all(report: &mut Report, text: &[u8], integer: i128, bits: usize)
+    ensures { Says (PutsInBases integer text.now) report.old report.new }
 {
-    report.text(text)?;
-    report.text(b" = #x")?;
-    put_minus(report, integer)?;
-    put_digits(report, 16, 1, integer.unsigned_abs())?;
-    report.text(b" = #b")?;
-    put_minus(report, integer)?;
-    put_digits(report, 2, bits, integer.unsigned_abs())
+    report.text(text);
+    report.text(b" = #x");
+    put_minus(report, integer);
+    put_digits(report, 16, 1, integer.unsigned_abs());
+    report.text(b" = #b");
+    put_minus(report, integer);
+    put_digits(report, 2, bits, integer.unsigned_abs());
 }
 
 /// An object; of an integer behind it hexadecimal and binary digits, of the latter at least so many.
-pub fn put_in_bases(report: &mut Report, object: &[u8], bits: usize) -> Result<(), NoMemory>
+pub fn put_in_bases(report: &mut Report, object: &[u8], bits: usize)
     // What stands behind an integer denotes the same integer.
-    ensures bases { OnOk result ((report.new ≡ report.old ++ object.now) ⊎ PutsInBases (signed_digits_value 10 object.now) object.now report.old report.new) }
+    ensures bases { Says (PutsObject object.now) report.old report.new }
 {
     match integer_of(object) {
         Some(integer) => put_in_all(report, object, integer, bits),

@@ -30,20 +30,20 @@ fn style_of(text: &[u8]) -> Style {
     Style::Html(str::from_utf8(text).is_ok())
 }
 
-pub(crate) fn put_text(report: &mut Report, text: &[u8]) -> Result<(), NoMemory> {
-    report.shown(style_of(text), text)
+pub(crate) fn put_text(report: &mut Report, text: &[u8]) {
+    report.shown(style_of(text), text);
 }
 
-fn put_head(report: &mut Report, title: &[u8]) -> Result<(), NoMemory> {
-    report.say("<!doctype html>\n<html lang=\"en\">\n<head>\n<meta charset=\"utf-8\">\n")?;
-    report.say("<meta name=\"viewport\" content=\"width=device-width, initial-scale=1\">\n")?;
-    report.say("<link rel=\"icon\" href=\"data:,\">\n<title>")?;
-    put_text(report, title)?;
-    report.say("</title>\n<style>")?;
-    report.say(STYLE)?;
-    report.say("</style>\n</head>\n<body>\n<h1>")?;
-    put_text(report, title)?;
-    report.say("</h1>\n")
+fn put_head(report: &mut Report, title: &[u8]) {
+    report.say("<!doctype html>\n<html lang=\"en\">\n<head>\n<meta charset=\"utf-8\">\n");
+    report.say("<meta name=\"viewport\" content=\"width=device-width, initial-scale=1\">\n");
+    report.say("<link rel=\"icon\" href=\"data:,\">\n<title>");
+    put_text(report, title);
+    report.say("</title>\n<style>");
+    report.say(STYLE);
+    report.say("</style>\n</head>\n<body>\n<h1>");
+    put_text(report, title);
+    report.say("</h1>\n");
 }
 
 /// What the page says of a verdict in plural.
@@ -63,86 +63,89 @@ fn title_of(verdict: Verdict) -> &'static str {
 }
 
 /// How many events of a verdict there are, with a link to them.
-fn put_count(report: &mut Report, verdict: Verdict, count: u64) -> Result<(), NoMemory> {
-    report.say("<li><a href=\"#of-")?;
-    report.say(verdict.word())?;
-    report.say("\"><b data-count=\"")?;
-    report.say(verdict.word())?;
-    report.say("\">")?;
-    report.number(count)?;
-    report.say("</b> ")?;
-    report.say(verdict.word())?;
-    report.say("</a></li>\n")
+fn put_count(report: &mut Report, verdict: Verdict, count: u64) {
+    report.say("<li><a href=\"#of-");
+    report.say(verdict.word());
+    report.say("\"><b data-count=\"");
+    report.say(verdict.word());
+    report.say("\">");
+    report.number(count);
+    report.say("</b> ");
+    report.say(verdict.word());
+    report.say("</a></li>\n");
 }
 
-fn put_counts(report: &mut Report, records: &[Record]) -> Result<(), NoMemory> {
-    report.say("<p>")?;
-    report.number(event_count(records))?;
+fn put_counts(report: &mut Report, records: &[Record]) {
+    report.say("<p>");
+    report.number(event_count(records));
     report.say(if event_count(records) == 1 {
         " event in "
     } else {
         " events in "
-    })?;
-    report.millis(all_micros(records))?;
-    report.say(" s</p>\n<ul class=\"counts\">\n")?;
+    });
+    report.millis(all_micros(records));
+    report.say(" s</p>\n<ul class=\"counts\">\n");
     for verdict in &VERDICTS {
         let count = count_of(records, *verdict);
         if count > 0 {
-            put_count(report, *verdict, count)?;
+            put_count(report, *verdict, count);
         }
     }
-    report.say("</ul>\n")
+    report.say("</ul>\n");
 }
 
 /// A link to the event of a record, with its name or its kind.
-fn put_link(report: &mut Report, number: usize, record: &Record) -> Result<(), NoMemory> {
-    report.say("<a href=\"#")?;
+fn put_link(report: &mut Report, number: usize, record: &Record) {
+    report.say("<a href=\"#");
     report.say(if record.verdict().is_trouble() {
         "look-"
     } else {
         "event-"
-    })?;
-    report.number(number as u64)?;
-    report.say("\">")?;
-    put_title(report, record)?;
-    report.say("</a>")
+    });
+    report.number(number as u64);
+    report.say("\">");
+    put_title(report, record);
+    report.say("</a>");
 }
 
 /// The name of a record's event; its kind where it has none.
-fn put_title(report: &mut Report, record: &Record) -> Result<(), NoMemory> {
+fn put_title(report: &mut Report, record: &Record) {
     if record.name.as_slice().is_empty() {
-        put_text(report, record.kind.as_slice())
+        put_text(report, record.kind.as_slice());
     } else {
-        put_text(report, record.name.as_slice())
+        put_text(report, record.name.as_slice());
     }
 }
 
-fn put_place(report: &mut Report, record: &Record) -> Result<(), NoMemory> {
+fn put_place(report: &mut Report, record: &Record) {
     if record.line == 0 {
-        return Ok(());
+        return;
     }
-    report.say(" <span class=\"place\">")?;
-    put_text(report, record.file.as_slice())?;
-    report.say(":")?;
-    report.number(record.line as u64)?;
-    report.say(":")?;
-    report.number(record.column as u64)?;
-    report.say("</span>")
+    report.say(" <span class=\"place\">");
+    put_text(report, record.file.as_slice());
+    report.say(":");
+    report.number(record.line as u64);
+    report.say(":");
+    report.number(record.column as u64);
+    report.say("</span>");
 }
 
-fn put_slowest(alloc: Global, report: &mut Report, records: &[Record]) -> Result<(), NoMemory> {
-    report.say("<h2>slowest</h2>\n<ol class=\"events\">\n")?;
-    for number in &slowest(alloc, records)? {
+fn put_slowest(alloc: Global, report: &mut Report, records: &[Record]) {
+    let Ok(numbers) = slowest(alloc, records) else {
+        return report.refuse();
+    };
+    report.say("<h2>slowest</h2>\n<ol class=\"events\">\n");
+    for number in &numbers {
         if let Some(record) = records.get(*number) {
-            report.say("<li><span class=\"seconds\">")?;
-            report.millis(record.micros)?;
-            report.say(" s</span>")?;
-            put_link(report, *number, record)?;
-            put_place(report, record)?;
-            report.say("</li>\n")?;
+            report.say("<li><span class=\"seconds\">");
+            report.millis(record.micros);
+            report.say(" s</span>");
+            put_link(report, *number, record);
+            put_place(report, record);
+            report.say("</li>\n");
         }
     }
-    report.say("</ol>\n")
+    report.say("</ol>\n");
 }
 
 /// The part of the most that a number is, in hundredths.
@@ -165,30 +168,30 @@ fn most_micros(records: &[Record]) -> u64 {
 }
 
 /// What stands in front of the line of an event in the list of its verdict.
-fn front_of_event(alloc: Global, number: usize, record: &Record) -> Result<Report, NoMemory> {
+fn front_of_event(alloc: Global, number: usize, record: &Record) -> Result<Vec<u8>, NoMemory> {
     let mut report = Report::new(alloc);
-    report.say("<li id=\"event-")?;
-    report.number(number as u64)?;
-    report.say("\"><span class=\"seconds\">")?;
-    report.millis(record.micros)?;
-    report.say(" s</span>")?;
+    report.say("<li id=\"event-");
+    report.number(number as u64);
+    report.say("\"><span class=\"seconds\">");
+    report.millis(record.micros);
+    report.say(" s</span>");
     if record.verdict().is_trouble() {
-        put_link(&mut report, number, record)?;
+        put_link(&mut report, number, record);
     } else {
-        put_title(&mut report, record)?;
+        put_title(&mut report, record);
     }
-    put_place(&mut report, record)?;
-    report.say("<br><code>")?;
-    Ok(report)
+    put_place(&mut report, record);
+    report.say("<br><code>");
+    report.into_bytes()
 }
 
 /// What stands behind it: a bar.
-fn back_of_event(alloc: Global, record: &Record, most: u64) -> Result<Report, NoMemory> {
+fn back_of_event(alloc: Global, record: &Record, most: u64) -> Result<Vec<u8>, NoMemory> {
     let mut report = Report::new(alloc);
-    report.say("</code><div class=\"track\"><div class=\"bar\" style=\"width:")?;
-    report.number(share_of(record.micros, most))?;
-    report.say("%\"></div></div></li>\n")?;
-    Ok(report)
+    report.say("</code><div class=\"track\"><div class=\"bar\" style=\"width:");
+    report.number(share_of(record.micros, most));
+    report.say("%\"></div></div></li>\n");
+    report.into_bytes()
 }
 
 fn put_event<K: Sink>(
@@ -201,14 +204,7 @@ fn put_event<K: Sink>(
     let front = front_of_event(alloc, number, record)?;
     let back = back_of_event(alloc, record, most)?;
     let text = record.text.as_slice();
-    put_line(
-        alloc,
-        out,
-        style_of(text),
-        front.as_slice(),
-        text,
-        back.as_slice(),
-    )
+    put_line(alloc, out, style_of(text), &front, text, &back)
 }
 
 /// The class of what is shown of a verdict.
@@ -216,18 +212,18 @@ fn class_of(verdict: Verdict) -> &'static str {
     if verdict.is_trouble() { "bad" } else { "good" }
 }
 
-fn head_of_group(alloc: Global, verdict: Verdict, count: u64) -> Result<Report, NoMemory> {
+fn head_of_group(alloc: Global, verdict: Verdict, count: u64) -> Result<Vec<u8>, NoMemory> {
     let mut report = Report::new(alloc);
-    report.say("<h2 id=\"of-")?;
-    report.say(verdict.word())?;
-    report.say("\">")?;
-    report.say(title_of(verdict))?;
-    report.say(" (")?;
-    report.number(count)?;
-    report.say(")</h2>\n<ol class=\"events ")?;
-    report.say(class_of(verdict))?;
-    report.say("\">\n")?;
-    Ok(report)
+    report.say("<h2 id=\"of-");
+    report.say(verdict.word());
+    report.say("\">");
+    report.say(title_of(verdict));
+    report.say(" (");
+    report.number(count);
+    report.say(")</h2>\n<ol class=\"events ");
+    report.say(class_of(verdict));
+    report.say("\">\n");
+    report.into_bytes()
 }
 
 /// The events of a verdict, where there are any.
@@ -242,7 +238,7 @@ fn put_group<K: Sink>(
     if count == 0 {
         return Ok(());
     }
-    put_all(out, head_of_group(alloc, verdict, count)?.as_slice())?;
+    put_all(out, &head_of_group(alloc, verdict, count)?)?;
     for (i, record) in records.iter().enumerate() {
         if record.verdict() == verdict {
             put_event(alloc, out, i, record, most)?;
@@ -252,64 +248,64 @@ fn put_group<K: Sink>(
     Ok(())
 }
 
-fn put_input(alloc: Global, report: &mut Report, line: &[u8]) -> Result<(), NoMemory> {
+fn put_input(report: &mut Report, line: &[u8]) {
     let (name, object) = parts_of_input(line);
-    report.say("<tr><td>")?;
-    put_text(report, name)?;
-    report.say("</td>")?;
-    put_bases(alloc, report, object)?;
-    report.say("</tr>\n")
+    report.say("<tr><td>");
+    put_text(report, name);
+    report.say("</td>");
+    put_bases(report, object);
+    report.say("</tr>\n");
 }
 
-fn put_inputs(alloc: Global, report: &mut Report, inputs: &[Vec<u8>]) -> Result<(), NoMemory> {
+fn put_inputs(report: &mut Report, inputs: &[Vec<u8>]) {
     if inputs.is_empty() {
-        return Ok(());
+        return;
     }
     report.say(
         "<table>\n<tr><th>input</th><th>decimal</th><th>hexadecimal</th><th>binary</th></tr>\n",
-    )?;
+    );
     for line in inputs {
-        put_input(alloc, report, line.as_slice())?;
+        put_input(report, line.as_slice());
     }
-    report.say("</table>\n")
+    report.say("</table>\n");
 }
 
 /// A text as it is laid out; long lines of what is said are broken, but for those of a refusal, which has marks under a line.
-fn put_block(report: &mut Report, front: &str, text: &[u8]) -> Result<(), NoMemory> {
+fn put_block(report: &mut Report, front: &str, text: &[u8]) {
     if text.is_empty() {
-        return Ok(());
+        return;
     }
-    report.say(front)?;
-    put_text(report, text)?;
-    report.say("</pre>\n")
+    report.say(front);
+    put_text(report, text);
+    report.say("</pre>\n");
 }
 
 /// What stands in front of the line of an event that asks for a look.
-fn front_of_look(alloc: Global, number: usize, record: &Record) -> Result<Report, NoMemory> {
+fn front_of_look(alloc: Global, number: usize, record: &Record) -> Result<Vec<u8>, NoMemory> {
     let mut report = Report::new(alloc);
-    report.say("<section class=\"bad\" id=\"look-")?;
-    report.number(number as u64)?;
-    report.say("\">\n<h3>")?;
-    put_title(&mut report, record)?;
-    put_place(&mut report, record)?;
-    report.say("</h3>\n<code>")?;
-    Ok(report)
+    report.say("<section class=\"bad\" id=\"look-");
+    report.number(number as u64);
+    report.say("\">\n<h3>");
+    put_title(&mut report, record);
+    put_place(&mut report, record);
+    report.say("</h3>\n<code>");
+    report.into_bytes()
 }
 
 /// What stands behind it: the input, the event's form, and what is said.
-fn back_of_look(alloc: Global, record: &Record) -> Result<Report, NoMemory> {
+fn back_of_look(alloc: Global, record: &Record) -> Result<Vec<u8>, NoMemory> {
     let mut report = Report::new(alloc);
-    report.say("</code>\n")?;
-    put_inputs(alloc, &mut report, record.inputs.as_slice())?;
-    put_block(&mut report, "<pre>", record.source.as_slice())?;
+    report.say("</code>\n");
+    put_inputs(&mut report, record.inputs.as_slice());
+    put_block(&mut report, "<pre>", record.source.as_slice());
     let front = if record.verdict() == Verdict::Refused {
         "<pre>"
     } else {
         "<pre class=\"said\">"
     };
-    put_block(&mut report, front, record.message.as_slice())?;
-    report.say("</section>\n")?;
-    Ok(report)
+    put_block(&mut report, front, record.message.as_slice());
+    report.say("</section>\n");
+    report.into_bytes()
 }
 
 fn put_look<K: Sink>(
@@ -321,14 +317,7 @@ fn put_look<K: Sink>(
     let front = front_of_look(alloc, number, record)?;
     let back = back_of_look(alloc, record)?;
     let text = record.text.as_slice();
-    put_line(
-        alloc,
-        out,
-        style_of(text),
-        front.as_slice(),
-        text,
-        back.as_slice(),
-    )
+    put_line(alloc, out, style_of(text), &front, text, &back)
 }
 
 /// The events that ask for a look.
@@ -346,12 +335,12 @@ fn put_looks<K: Sink>(alloc: Global, out: &mut K, records: &[Record]) -> Result<
     Ok(())
 }
 
-fn head_of_page(alloc: Global, title: &[u8], records: &[Record]) -> Result<Report, NoMemory> {
+fn head_of_page(alloc: Global, title: &[u8], records: &[Record]) -> Result<Vec<u8>, NoMemory> {
     let mut report = Report::new(alloc);
-    put_head(&mut report, title)?;
-    put_counts(&mut report, records)?;
-    put_slowest(alloc, &mut report, records)?;
-    Ok(report)
+    put_head(&mut report, title);
+    put_counts(&mut report, records);
+    put_slowest(alloc, &mut report, records);
+    report.into_bytes()
 }
 
 /// Writes the page of a run.
@@ -361,7 +350,7 @@ pub fn put_page<K: Sink>(
     title: &[u8],
     records: &[Record],
 ) -> Result<(), PutEnd> {
-    put_all(out, head_of_page(alloc, title, records)?.as_slice())?;
+    put_all(out, &head_of_page(alloc, title, records)?)?;
     put_looks(alloc, out, records)?;
     let most = most_micros(records);
     for verdict in &VERDICTS {
