@@ -1,5 +1,5 @@
 -- The jobs of a phase, and when their answers are proper.
-use Rattle.std.specs.Prelude.{◌≡◌, ◌⊎◌, ℕ, ◌≤◌, ◌<◌, Bool, true, false, List, [], ◌∷◌, ◌++◌, length, map, Result, Ok, Err, IfOk, Vec}
+use Rattle.std.specs.Prelude.{◌≡◌, ◌⊎◌, ℕ, ◌≤◌, ◌<◌, Bool, true, false, not, ◌&&◌, cond, eqb, nat_lt, List, [], ◌∷◌, ◌++◌, length, map, Result, Ok, Err, IfOk, Vec}
 use Rattle.std.proofs.Common.{Global}
 use Rattle.gl_logic.specs.Definition.{Definition}
 use Rattle.gl_logic.specs.WorldSeen.{WorldSeen}
@@ -43,6 +43,10 @@ new_job e memoized = record { event = e; memoized = memoized; behind = [] }
 -- an event that is taken in before its phase ends: a job, or another behind a job
 abbrev pub StaysIn : List JobSeen → EventSeen → Type 0
 StaysIn jobs e = (is_job e ≡ true) ⊎ ((ends_phase e ≡ false) × (0 < length jobs))
+
+-- whether it is taken in so where there are so many workers: a job unless it is one worker's
+abbrev pub stays_by : ℕ → List JobSeen → EventSeen → Bool
+stays_by workers jobs e = cond (is_job e) (not (eqb workers 1)) (nat_lt 0 (length jobs) && not (ends_phase e))
 
 -- lines more behind the last job
 pub record IsFollowed (old : List JobSeen) (lines : List (List ℕ)) (new : List JobSeen) : Type 0 where

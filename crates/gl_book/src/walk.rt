@@ -16,7 +16,7 @@ ghost use Rattle.gl_book.specs.Courses.{ComesToEnd, HasRoomFor, LeadsAlong, Lead
 ghost use Rattle.gl_book.specs.Courses.{Follows, IsNext, IsPutBehind, Waits};
 ghost use Rattle.gl_book.specs.Entry.{Entry};
 ghost use Rattle.gl_book.specs.Lines.{counts_of};
-ghost use Rattle.gl_book.specs.Phases.{CanBeAnswered, StaysIn, ends_phase as ends_phase_seen, jobs_of};
+ghost use Rattle.gl_book.specs.Phases.{CanBeAnswered, StaysIn, ends_phase as ends_phase_seen, jobs_of, stays_by};
 ghost use Rattle.book_state.specs.States.{is_job as is_job_seen};
 ghost use Rattle.gl_book.specs.Walk.{Walk, end_code as end_code_meant, refused_cause as cause_of, refusal_at as refusal_there};
 ghost use Rattle.book_state.specs.States.{CanGoOn};
@@ -236,7 +236,8 @@ fn take_event<R: Threads + Sync, K: Sink, G: Gate>(
 /// Whether an event is taken in before its phase ends: a job, where more than one worker is there to answer it, and another
 /// event behind a job, unless it ends the phase.
 fn stays(limits: &Limits, waiting: &Waiting, event: &Event) -> bool
-    ensures { result ≡ true → StaysIn (jobs_of waiting.now) (event_seen event.now) }
+    ensures exact { result ≡ stays_by limits.now.workers (jobs_of waiting.now) (event_seen event.now) }
+    ensures stays { result ≡ true → StaysIn (jobs_of waiting.now) (event_seen event.now) }
 {
     if is_job(event) {
         limits.workers != 1
