@@ -33,35 +33,30 @@ fn word_of_hint(outcome: Outcome) -> &'static str {
 }
 
 /// Puts what a trial came to, and in how many microseconds.
-fn put_outcome(
-    report: &mut Report,
-    trial: &Trial,
-    outcome: Outcome,
-    micros: u64,
-) -> Result<(), NoMemory> {
-    report.say("     ")?;
-    report.say(if trial.is_hint { "narrower, " } else { "" })?;
-    put_front(report, &trial.change)?;
-    report.say("\n       ")?;
+fn put_outcome(report: &mut Report, trial: &Trial, outcome: Outcome, micros: u64) {
+    report.say("     ");
+    report.say(if trial.is_hint { "narrower, " } else { "" });
+    put_front(report, &trial.change);
+    report.say("\n       ");
     report.say(if trial.is_hint {
         word_of_hint(outcome)
     } else {
         word_of(outcome)
-    })?;
+    });
     if let Outcome::Open(cause) = outcome {
-        report.say(", ")?;
-        report.say(cause)?;
+        report.say(", ");
+        report.say(cause);
     }
-    report.say(", in ")?;
-    report.millis(micros)?;
-    report.say(" s\n")
+    report.say(", in ");
+    report.millis(micros);
+    report.say(" s\n");
 }
 
 /// Puts the change that decides an event.
-fn put_change(report: &mut Report, trial: &Trial) -> Result<(), NoMemory> {
-    report.say("   so this decides it: ")?;
-    report.text(&trial.change)?;
-    report.say("\n")
+fn put_change(report: &mut Report, trial: &Trial) {
+    report.say("   so this decides it: ");
+    report.text(&trial.change);
+    report.say("\n");
 }
 
 /// Puts the input that refutes, where there is one.
@@ -78,6 +73,27 @@ fn put_refuting<R: Threads + Sync>(
     put_inputs(asker.alloc, texts, report, form, &decision.inputs)
 }
 
+/// Tries what may decide an event, and puts what that came to. Whether it decides the event.
+fn put_attempt<R: Threads + Sync + Clock>(
+    asker: &Asker<R>,
+    texts: &mut Texts,
+    report: &mut Report,
+    form: &Tree,
+    trial: &Trial,
+    watch: &mut Stopwatch<R>,
+) -> Result<bool, NoMemory> {
+    let decision = asker.try_text(texts, &trial.text, trial.mode, &trial.limits)?;
+    put_outcome(report, trial, decision.outcome, watch.lap());
+    if matches!(decision.outcome, Outcome::Open(_)) {
+        return Ok(false);
+    }
+    if !trial.is_hint {
+        put_change(report, trial);
+    }
+    put_refuting(asker, texts, report, form, &decision)?;
+    Ok(true)
+}
+
 /// Tries what may decide an event that is undecided for a cause, and puts what each trial came to.
 pub(crate) fn put_attempts<R: Threads + Sync + Clock>(
     asker: &Asker<R>,
@@ -90,16 +106,11 @@ pub(crate) fn put_attempts<R: Threads + Sync + Clock>(
     if ladder.trials.is_empty() {
         return Ok(());
     }
-    report.say("   tried:\n")?;
+    report.say("   tried:\n");
     let mut watch = Stopwatch::new(asker.rt);
     for trial in &ladder.trials {
-        let decision = asker.try_text(texts, &trial.text, trial.mode, &trial.limits)?;
-        put_outcome(report, trial, decision.outcome, watch.lap())?;
-        if !matches!(decision.outcome, Outcome::Open(_)) {
-            if !trial.is_hint {
-                put_change(report, trial)?;
-            }
-            return put_refuting(asker, texts, report, form, &decision);
+        if put_attempt(asker, texts, report, form, trial, &mut watch)? {
+            break;
         }
     }
     Ok(())

@@ -2,9 +2,9 @@
 
 use crate::asker::Asker;
 use crate::cause::{Cause, thm_of};
-use crate::evaluation::{put_front, value_on};
+use crate::evaluation::{put_front_of, value_on};
 use crate::events::event_in;
-use crate::forms::{Part, conjuncts, head_of, is_among, option_of, printed, speaks_of};
+use crate::forms::{Part, conjuncts, head_of, is_among, option_of, speaks_of};
 use crate::reading::bindings_of_text;
 use crate::shapes::{put_conjunct, put_shape};
 use crate::values::Value;
@@ -38,8 +38,9 @@ fn spoken_of<'a>(
     hyp: &'a Tree,
     name: &[u8],
 ) -> Result<Vec<Part<'a>>, NoMemory> {
+    let parts = conjuncts(alloc, texts, hyp)?;
     let mut found = Vec::new(alloc);
-    for part in &conjuncts(alloc, texts, hyp)? {
+    for part in &parts {
         if speaks_of(alloc, texts, part.tree, name)? {
             found.push(*part)?;
         }
@@ -48,45 +49,54 @@ fn spoken_of<'a>(
 }
 
 /// Puts the conjuncts that speak of a variable.
-fn put_spoken(
-    alloc: Global,
-    texts: &Texts,
-    report: &mut Report,
-    parts: &[Part],
-) -> Result<(), NoMemory> {
+fn put_spoken(alloc: Global, texts: &Texts, report: &mut Report, parts: &[Part]) {
     if parts.is_empty() {
         return report.say("   no conjunct of the hypothesis speaks of it\n");
     }
-    report.say("   what the hypothesis says of it:\n")?;
+    report.say("   what the hypothesis says of it:\n");
     for part in parts {
-        report.say("     ")?;
-        put_front(report, &printed(alloc, part.tree, texts)?)?;
+        report.say("     ");
+        put_front_of(alloc, texts, report, part.tree);
         if !is_among(head_of(texts, part.tree), LOOKED_INTO) {
-            report.say("  (which is not looked into)")?;
+            report.say("  (which is not looked into)");
         }
-        report.say("\n")?;
+        report.say("\n");
     }
-    Ok(())
 }
 
-/// An item of `auto-bindings`.
-fn item_text(
+/// Puts an item of `auto-bindings`.
+fn put_item(report: &mut Report, word: &str, name: &[u8], width: u64) {
+    report.say("(");
+    report.say(word);
+    report.say(" ");
+    report.text(name);
+    report.say(" ");
+    report.number(width);
+    report.say(")");
+}
+
+/// The bindings of a variable to an integer of a width.
+fn bindings_text(alloc: Global, name: &[u8], width: u64) -> Result<Vec<u8>, NoMemory> {
+    let mut text = Report::new(alloc);
+    text.say("(auto-bindings ");
+    put_item(&mut text, ":int", name, width);
+    text.say(")");
+    text.into_bytes()
+}
+
+/// Whether a theorem's hypothesis covers a variable of `:int` of a width.
+fn is_covered(
     alloc: Global,
-    front: &str,
-    word: &str,
+    texts: &mut Texts,
+    thm: &Thm,
     name: &[u8],
     width: u64,
-) -> Result<Vec<u8>, NoMemory> {
-    let mut text = Report::new(alloc);
-    text.say(front)?;
-    text.say("(")?;
-    text.say(word)?;
-    text.say(" ")?;
-    text.text(name)?;
-    text.say(" ")?;
-    text.number(width)?;
-    text.say(")")?;
-    Ok(text.into_bytes())
+) -> Result<bool, NoMemory> {
+    let text = bindings_text(alloc, name, width)?;
+    match bindings_of_text(alloc, texts, &text)? {
+        Some(bindings) => Ok(covers(alloc, &thm.hyp, &thm.concl, &bindings)?.is_none()),
+        None => Ok(false),
+    }
 }
 
 /// The least width of `:int` of a variable that a theorem's hypothesis covers; none up to 128.
@@ -97,15 +107,35 @@ fn least_width(
     name: &[u8],
 ) -> Result<Option<u64>, NoMemory> {
     for width in 1..129 {
-        let mut text = item_text(alloc, "(auto-bindings ", ":int", name, width)?;
-        text.extend_from_slice(b")")?;
-        if let Some(bindings) = bindings_of_text(alloc, texts, &text)? {
-            if covers(alloc, &thm.hyp, &thm.concl, &bindings)?.is_none() {
-                return Ok(Some(width));
-            }
+        if is_covered(alloc, texts, thm, name, width)? {
+            return Ok(Some(width));
         }
     }
     Ok(None)
+}
+
+/// The input that is -1.
+fn negative_input(alloc: Global, name: &[u8]) -> Result<Vec<Vec<u8>>, NoMemory> {
+    let mut line = Report::new(alloc);
+    line.say("  ");
+    line.text(name);
+    line.say(" = -1");
+    let mut inputs = Vec::new(alloc);
+    inputs.push(line.into_bytes()?)?;
+    Ok(inputs)
+}
+
+/// Whether a term is NIL on an input.
+fn is_nil_on<R: Threads + Sync>(
+    asker: &Asker<R>,
+    texts: &mut Texts,
+    inputs: &[Vec<u8>],
+    term: &Tree,
+) -> Result<bool, NoMemory> {
+    match value_on(asker, texts, inputs, term)? {
+        Value::Is(value) => Ok(value.as_slice() == b"NIL".as_slice()),
+        Value::Lacks(_) | Value::Unknown => Ok(false),
+    }
 }
 
 /// Whether one of these conjuncts is NIL where the variable is -1.
@@ -115,59 +145,40 @@ fn excludes_negative<R: Threads + Sync>(
     parts: &[Part],
     name: &[u8],
 ) -> Result<bool, NoMemory> {
-    let mut line = b"  ".to_vec(asker.alloc)?;
-    line.extend_from_slice(name)?;
-    line.extend_from_slice(b" = -1")?;
-    let mut inputs = Vec::new(asker.alloc);
-    inputs.push(line)?;
+    let inputs = negative_input(asker.alloc, name)?;
     for part in parts {
-        if let Value::Is(value) = value_on(asker, texts, &inputs, part.tree)? {
-            if value.as_slice() == b"NIL".as_slice() {
-                return Ok(true);
-            }
+        if is_nil_on(asker, texts, &inputs, part.tree)? {
+            return Ok(true);
         }
     }
     Ok(false)
 }
 
 /// Puts the least shape that the bounds of the hypothesis allow.
-fn put_least(
-    alloc: Global,
-    report: &mut Report,
-    name: &[u8],
-    width: u64,
-    is_natural: bool,
-) -> Result<(), NoMemory> {
-    let text = if is_natural && 1 < width {
-        item_text(alloc, "", ":NAT", name, width - 1)?
+fn put_least(report: &mut Report, name: &[u8], width: u64, is_natural: bool) {
+    report.say("   its bounds fit ");
+    if is_natural && 1 < width {
+        put_item(report, ":NAT", name, width - 1);
     } else {
-        item_text(alloc, "", ":INT", name, width)?
-    };
-    report.say("   its bounds fit ")?;
-    report.text(&text)?;
-    report.say(": give it that shape, or bound it closer\n")
+        put_item(report, ":INT", name, width);
+    }
+    report.say(": give it that shape, or bound it closer\n");
 }
 
 /// Puts the conjunct that is missing.
-fn put_missing(
-    alloc: Global,
-    texts: &Texts,
-    report: &mut Report,
-    shape: &Shape,
-    name: &[u8],
-) -> Result<(), NoMemory> {
-    report.say("   no bounds of it are written out: what would cover it is ")?;
-    put_conjunct(alloc, texts, report, shape, name)?;
+fn put_missing(alloc: Global, texts: &Texts, report: &mut Report, shape: &Shape, name: &[u8]) {
+    report.say("   no bounds of it are written out: what would cover it is ");
+    put_conjunct(alloc, texts, report, shape, name);
     if let Some(indices) = shape.as_integer() {
         if 1 < indices.len() {
-            report.say(", or (UNSIGNED-BYTE-P ")?;
-            report.number((indices.len() - 1) as u64)?;
-            report.say(" ")?;
-            report.text(name)?;
-            report.say(")")?;
+            report.say(", or (UNSIGNED-BYTE-P ");
+            report.number((indices.len() - 1) as u64);
+            report.say(" ");
+            report.text(name);
+            report.say(")");
         }
     }
-    report.say("\n")
+    report.say("\n");
 }
 
 /// Puts what would cover a variable of a theorem.
@@ -181,30 +192,22 @@ fn put_remedy<R: Threads + Sync>(
 ) -> Result<(), NoMemory> {
     if let Some(width) = least_width(asker.alloc, texts, thm, name)? {
         let is_natural = excludes_negative(asker, texts, parts, name)?;
-        return put_least(asker.alloc, report, name, width, is_natural);
+        put_least(report, name, width, is_natural);
+    } else if let Some(shape) = shape_named(texts, thm, name) {
+        put_missing(asker.alloc, texts, report, shape, name);
     }
-    match shape_named(texts, thm, name) {
-        Some(shape) => put_missing(asker.alloc, texts, report, shape, name),
-        None => Ok(()),
-    }
+    Ok(())
 }
 
 /// Puts a variable's shape in words.
-fn put_shape_named(
-    alloc: Global,
-    texts: &Texts,
-    report: &mut Report,
-    thm: &Thm,
-    name: &[u8],
-) -> Result<(), NoMemory> {
+fn put_shape_named(alloc: Global, texts: &Texts, report: &mut Report, thm: &Thm, name: &[u8]) {
     if let Some(shape) = shape_named(texts, thm, name) {
-        report.say("   the shape of ")?;
-        report.text(name)?;
-        report.say(" is: ")?;
-        put_shape(alloc, texts, report, shape)?;
-        report.say("\n")?;
+        report.say("   the shape of ");
+        report.text(name);
+        report.say(" is: ");
+        put_shape(alloc, texts, report, shape);
+        report.say("\n");
     }
-    Ok(())
 }
 
 /// Puts why a variable of a theorem is not covered.
@@ -216,12 +219,12 @@ fn put_uncovered<R: Threads + Sync>(
     thm: &Thm,
     name: &[u8],
 ) -> Result<(), NoMemory> {
-    put_shape_named(asker.alloc, texts, report, thm, name)?;
+    put_shape_named(asker.alloc, texts, report, thm, name);
     let parts = match option_of(texts, form, b":HYP") {
         Some(hyp) => spoken_of(asker.alloc, texts, hyp, name)?,
         None => Vec::new(asker.alloc),
     };
-    put_spoken(asker.alloc, texts, report, &parts)?;
+    put_spoken(asker.alloc, texts, report, &parts);
     put_remedy(asker, texts, report, thm, &parts, name)
 }
 

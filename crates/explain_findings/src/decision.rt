@@ -2,9 +2,10 @@
 
 use crate::forms::printed;
 use crate::values::word_of;
+use explain_report::Report;
 use gl_book::{Answer, CasesVerdict};
 use gl_decide::Verdict;
-use gl_logic::{NoMemory, Texts};
+use gl_logic::{NoMemory, TextId, Texts, Tree};
 use shape_spec::Inputs;
 use std::alloc::Global;
 
@@ -27,16 +28,27 @@ pub(crate) struct Decision {
     pub inputs: Vec<Vec<u8>>,
 }
 
+/// The line of a variable and its object, as a transcript has it.
+fn line_of(
+    alloc: Global,
+    texts: &Texts,
+    variable: TextId,
+    object: &Tree,
+) -> Result<Vec<u8>, NoMemory> {
+    let mut line = Report::new(alloc);
+    line.say("  ");
+    line.text(texts.text(variable));
+    line.say(" = ");
+    line.made(printed(alloc, object, texts));
+    line.into_bytes()
+}
+
 /// The lines of an input, as a transcript has them.
 fn lines_of(alloc: Global, texts: &Texts, inputs: &Inputs) -> Result<Vec<Vec<u8>>, NoMemory> {
     let mut lines = Vec::new(alloc);
     for i in 0..inputs.len() {
         let (variable, object) = inputs.at(i);
-        let mut line = b"  ".to_vec(alloc)?;
-        line.extend_from_slice(texts.text(variable))?;
-        line.extend_from_slice(b" = ")?;
-        line.extend_from_slice(&printed(alloc, object, texts)?)?;
-        lines.push(line)?;
+        lines.push(line_of(alloc, texts, variable, object)?)?;
     }
     Ok(lines)
 }

@@ -16,23 +16,31 @@ const MOST_PARTS: usize = 24;
 const MOST_BYTES: usize = 120;
 
 /// Puts as much of a text as is shown.
-pub(crate) fn put_front(report: &mut Report, text: &[u8]) -> Result<(), NoMemory> {
-    report.text(front_of(text, MOST_BYTES))?;
-    report.say(if MOST_BYTES < text.len() { ".." } else { "" })
+pub(crate) fn put_front(report: &mut Report, text: &[u8]) {
+    report.text(front_of(text, MOST_BYTES));
+    report.say(if MOST_BYTES < text.len() { ".." } else { "" });
+}
+
+/// Puts as much of an object as is shown.
+pub(crate) fn put_front_of(alloc: Global, texts: &Texts, report: &mut Report, object: &Tree) {
+    match printed(alloc, object, texts) {
+        Ok(text) => put_front(report, &text),
+        Err(_) => report.refuse(),
+    }
 }
 
 /// Puts the front of a `let` that gives variables the objects of an input.
-fn put_bound(text: &mut Report, inputs: &[Vec<u8>]) -> Result<(), NoMemory> {
-    text.say("(let (")?;
+fn put_bound(text: &mut Report, inputs: &[Vec<u8>]) {
+    text.say("(let (");
     for line in inputs {
         let (name, object) = parts_of_input(line.as_slice());
-        text.say("(")?;
-        text.text(name)?;
-        text.say(" '")?;
-        text.text(object)?;
-        text.say(")")?;
+        text.say("(");
+        text.text(name);
+        text.say(" '");
+        text.text(object);
+        text.say(")");
     }
-    text.say(") ")
+    text.say(") ");
 }
 
 /// The text that asks for the value of a term where variables have the objects of an input.
@@ -43,31 +51,31 @@ fn value_text(
     term: &Tree,
 ) -> Result<Vec<u8>, NoMemory> {
     let mut text = Report::new(alloc);
-    text.say("(value-triple ")?;
+    text.say("(value-triple ");
     if !inputs.is_empty() {
-        put_bound(&mut text, inputs)?;
+        put_bound(&mut text, inputs);
     }
-    text.text(&printed(alloc, term, texts)?)?;
-    text.say(if inputs.is_empty() { ")" } else { "))" })?;
-    Ok(text.into_bytes())
+    text.made(printed(alloc, term, texts));
+    text.say(if inputs.is_empty() { ")" } else { "))" });
+    text.into_bytes()
 }
 
 /// Puts a value behind its term.
-fn put_value(report: &mut Report, value: &Value) -> Result<(), NoMemory> {
+fn put_value(report: &mut Report, value: &Value) {
     match value {
         Value::Is(object) if object.len() <= MOST_BYTES => {
-            report.say(" = ")?;
-            put_in_bases(report, object.as_slice(), 0)
+            report.say(" = ");
+            put_in_bases(report, object.as_slice(), 0);
         }
         Value::Is(object) => {
-            report.say(" = ")?;
-            put_front(report, object.as_slice())
+            report.say(" = ");
+            put_front(report, object.as_slice());
         }
         Value::Lacks(cause) => {
-            report.say(" has no value, ")?;
-            report.say(cause)
+            report.say(" has no value, ");
+            report.say(cause);
         }
-        Value::Unknown => Ok(()),
+        Value::Unknown => {}
     }
 }
 
@@ -92,10 +100,11 @@ fn put_part<R: Threads + Sync>(
     indent: usize,
 ) -> Result<(), NoMemory> {
     let value = value_on(asker, texts, inputs, part.tree)?;
-    report.times(indent, b' ')?;
-    put_front(report, &printed(asker.alloc, part.tree, texts)?)?;
-    put_value(report, &value)?;
-    report.say("\n")
+    report.times(indent, b' ');
+    put_front_of(asker.alloc, texts, report, part.tree);
+    put_value(report, &value);
+    report.say("\n");
+    Ok(())
 }
 
 /// The bits of a variable's shape, without the sign; 0 where it has none.
@@ -130,14 +139,14 @@ pub(crate) fn put_inputs(
     inputs: &[Vec<u8>],
 ) -> Result<(), NoMemory> {
     let bindings = bindings_of(alloc, texts, form)?;
-    report.say("   the input:\n")?;
+    report.say("   the input:\n");
     for line in inputs {
         let (name, object) = parts_of_input(line.as_slice());
-        report.say("     ")?;
-        report.text(name)?;
-        report.say(" = ")?;
-        put_in_bases(report, object, bits_of(texts, &bindings, name))?;
-        report.say("\n")?;
+        report.say("     ");
+        report.text(name);
+        report.say(" = ");
+        put_in_bases(report, object, bits_of(texts, &bindings, name));
+        report.say("\n");
     }
     Ok(())
 }
@@ -151,7 +160,7 @@ fn put_hypothesis<R: Threads + Sync>(
     inputs: &[Vec<u8>],
 ) -> Result<(), NoMemory> {
     if let Some(hyp) = option_of(texts, form, b":HYP") {
-        report.say("   the hypothesis on it:\n")?;
+        report.say("   the hypothesis on it:\n");
         for (i, part) in conjuncts(asker.alloc, texts, hyp)?.iter().enumerate() {
             if i < MOST_PARTS {
                 put_part(asker, texts, report, inputs, *part, 5)?;
@@ -189,7 +198,7 @@ pub(crate) fn put_on_input<R: Threads + Sync>(
     put_inputs(asker.alloc, texts, report, form, inputs)?;
     put_hypothesis(asker, texts, report, form, inputs)?;
     if let Some(concl) = option_of(texts, form, b":CONCL") {
-        report.say("   the conclusion on it:\n")?;
+        report.say("   the conclusion on it:\n");
         put_parts(asker, texts, report, concl, inputs)?;
     }
     Ok(())

@@ -1,6 +1,6 @@
 //! What is found out of a line that asks for a look.
 
-use crate::advice::advice_of_line;
+use crate::advice::advice_of;
 use crate::asker::Asker;
 use crate::attempts::put_attempts;
 use crate::cause::{Cause, cause_of};
@@ -76,10 +76,11 @@ pub fn put_finding<R: Threads + Sync + Clock>(
     form: &Tree,
     record: &Record,
 ) -> Result<(), NoMemory> {
-    let Some(advice) = advice_of_line(record.text.as_slice()) else {
+    let Some(advice) = advice_of(record) else {
         return Ok(());
     };
-    advice.put_meaning(report)?;
+    advice.put_meaning(report);
     put_found(asker, texts, report, form, record)?;
-    advice.put_help(report)
+    advice.put_help(report);
+    Ok(())
 }

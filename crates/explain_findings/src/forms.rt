@@ -139,18 +139,30 @@ fn put_front<'a>(
     Ok(())
 }
 
+/// Writes the text of a form, with a stack for what is left of it.
+fn put_form<'a>(
+    alloc: Global,
+    texts: &Texts,
+    form: &'a Tree,
+    bytes: &mut Vec<u8>,
+    left: &mut Vec<Left<'a>>,
+) -> Result<(), NoMemory> {
+    left.push(Left::Form(form))?;
+    for _ in 0..MOST_PIECES {
+        match left.pop() {
+            None => return Ok(()),
+            Some(Left::Bytes(piece)) => bytes.extend_from_slice(piece.as_bytes())?,
+            Some(Left::Form(part)) => put_front(alloc, texts, part, bytes, left)?,
+        }
+    }
+    Ok(())
+}
+
 /// The text of a form, which reads as the form again: a backquote and a comma stand in front of what they are of.
 pub(crate) fn form_text(alloc: Global, form: &Tree, texts: &Texts) -> Result<Vec<u8>, NoMemory> {
     let mut bytes = Vec::new(alloc);
     let mut left = Vec::new(alloc);
-    left.push(Left::Form(form))?;
-    for _ in 0..MOST_PIECES {
-        match left.pop() {
-            None => return Ok(bytes),
-            Some(Left::Bytes(piece)) => bytes.extend_from_slice(piece.as_bytes())?,
-            Some(Left::Form(part)) => put_front(alloc, texts, part, &mut bytes, &mut left)?,
-        }
-    }
+    put_form(alloc, texts, form, &mut bytes, &mut left)?;
     Ok(bytes)
 }
 
@@ -161,15 +173,54 @@ pub(crate) struct Part<'a> {
     pub depth: usize,
 }
 
-/// A term in front of the parts that calls of some functions have, down to a depth; without these calls themselves where they
-/// are only to be parted.
+/// Which calls are parted: those of some functions, down to a depth; and whether they themselves are kept.
+#[derive(Clone, Copy)]
+struct Parting {
+    heads: &'static str,
+    deepest: usize,
+    keeps_calls: bool,
+}
+
+/// Puts the operands of a call on a stack.
+fn push_operands<'a>(left: &mut Vec<Part<'a>>, call: Part<'a>) -> Result<(), NoMemory> {
+    for operand in operands(call.tree) {
+        left.push(Part {
+            tree: operand,
+            depth: call.depth.saturating_add(1),
+        })?;
+    }
+    Ok(())
+}
+
+/// Takes what is left on a stack to be parted apart.
+fn part_all<'a>(
+    texts: &Texts,
+    parting: Parting,
+    left: &mut Vec<Part<'a>>,
+    found: &mut Vec<Part<'a>>,
+) -> Result<(), NoMemory> {
+    for _ in 0..MOST_PARTS {
+        let Some(part) = left.pop() else {
+            return Ok(());
+        };
+        let is_parted = part.depth < parting.deepest
+            && is_among(head_of(texts, part.tree), parting.heads);
+        if parting.keeps_calls || !is_parted {
+            found.push(part)?;
+        }
+        if is_parted {
+            push_operands(left, part)?;
+        }
+    }
+    Ok(())
+}
+
+/// A term in front of the parts that its calls have, as far as they are parted.
 fn parted<'a>(
     alloc: Global,
     texts: &Texts,
     term: &'a Tree,
-    heads: &str,
-    deepest: usize,
-    keeps_calls: bool,
+    parting: Parting,
 ) -> Result<Vec<Part<'a>>, NoMemory> {
     let mut found = Vec::new(alloc);
     let mut left = Vec::new(alloc);
@@ -177,23 +228,7 @@ fn parted<'a>(
         tree: term,
         depth: 0,
     })?;
-    for _ in 0..MOST_PARTS {
-        let Some(part) = left.pop() else {
-            return Ok(found);
-        };
-        let is_parted = part.depth < deepest && is_among(head_of(texts, part.tree), heads);
-        if keeps_calls || !is_parted {
-            found.push(part)?;
-        }
-        if is_parted {
-            for operand in operands(part.tree) {
-                left.push(Part {
-                    tree: operand,
-                    depth: part.depth.saturating_add(1),
-                })?;
-            }
-        }
-    }
+    part_all(texts, parting, &mut left, &mut found)?;
     Ok(found)
 }
 
@@ -203,7 +238,12 @@ pub(crate) fn conjuncts<'a>(
     texts: &Texts,
     hyp: &'a Tree,
 ) -> Result<Vec<Part<'a>>, NoMemory> {
-    parted(alloc, texts, hyp, "AND", MOST_PARTS, false)
+    let parting = Parting {
+        heads: "AND",
+        deepest: MOST_PARTS,
+        keeps_calls: false,
+    };
+    parted(alloc, texts, hyp, parting)
 }
 
 /// A conclusion, and the sides and parts of what it says.
@@ -212,25 +252,16 @@ pub(crate) fn claims<'a>(
     texts: &Texts,
     concl: &'a Tree,
 ) -> Result<Vec<Part<'a>>, NoMemory> {
-    parted(
-        alloc,
-        texts,
-        concl,
-        "EQUAL = EQL EQ < <= > >= AND OR NOT IMPLIES IFF",
-        3,
-        true,
-    )
+    let parting = Parting {
+        heads: "EQUAL = EQL EQ < <= > >= AND OR NOT IMPLIES IFF",
+        deepest: 3,
+        keeps_calls: true,
+    };
+    parted(alloc, texts, concl, parting)
 }
 
-/// Whether a symbol stands in a term outside quotes.
-pub(crate) fn speaks_of(
-    alloc: Global,
-    texts: &Texts,
-    term: &Tree,
-    name: &[u8],
-) -> Result<bool, NoMemory> {
-    let mut left = Vec::new(alloc);
-    left.push(term)?;
+/// Whether a symbol stands outside quotes in what is left on a stack.
+fn is_left<'a>(texts: &Texts, name: &[u8], left: &mut Vec<&'a Tree>) -> Result<bool, NoMemory> {
     for _ in 0..MOST_PARTS {
         let Some(part) = left.pop() else {
             return Ok(false);
@@ -245,4 +276,16 @@ pub(crate) fn speaks_of(
         }
     }
     Ok(false)
+}
+
+/// Whether a symbol stands in a term outside quotes.
+pub(crate) fn speaks_of(
+    alloc: Global,
+    texts: &Texts,
+    term: &Tree,
+    name: &[u8],
+) -> Result<bool, NoMemory> {
+    let mut left = Vec::new(alloc);
+    left.push(term)?;
+    is_left(texts, name, &mut left)
 }

@@ -19,91 +19,85 @@ fn half_of(count: usize) -> Option<i128> {
 }
 
 /// Puts the integers of so many indices in words.
-fn put_integers(alloc: Global, report: &mut Report, count: usize) -> Result<(), NoMemory> {
-    report.say("integers of ")?;
-    report.number(count as u64)?;
-    report.say(" bits")?;
+fn put_integers(report: &mut Report, count: usize) {
+    report.say("integers of ");
+    report.number(count as u64);
+    report.say(" bits");
     if let Some(half) = half_of(count) {
-        let most = half.saturating_sub(1);
-        let range = format!(in alloc; ", from -{half} to {most}")?;
-        report.say(range.as_str())?;
+        report.say(", from -");
+        report.integer(half);
+        report.say(" to ");
+        report.integer(half.saturating_sub(1));
     }
-    Ok(())
 }
 
 /// Puts a shape in words.
-pub(crate) fn put_shape(
-    alloc: Global,
-    texts: &Texts,
-    report: &mut Report,
-    shape: &Shape,
-) -> Result<(), NoMemory> {
+pub(crate) fn put_shape(alloc: Global, texts: &Texts, report: &mut Report, shape: &Shape) {
     if let Some(indices) = shape.as_integer() {
-        return put_integers(alloc, report, indices.len());
+        return put_integers(report, indices.len());
     }
     match shape {
         Shape::Boolean(_) => report.say("T or NIL"),
-        Shape::Constant(object) => put_object(alloc, texts, report, object),
+        Shape::Constant(object) => {
+            report.say("the object ");
+            report.made(printed(alloc, object, texts));
+        }
         Shape::Choice(_, first, second) => {
-            report.say("either ")?;
-            put_shape(alloc, texts, report, first)?;
-            report.say(", or ")?;
-            put_shape(alloc, texts, report, second)
+            report.say("either ");
+            put_shape(alloc, texts, report, first);
+            report.say(", or ");
+            put_shape(alloc, texts, report, second);
         }
         Shape::List(elements, tail) => {
-            report.say("a list (")?;
+            report.say("a list (");
             for i in 0..elements.len() {
-                report.say(if i == 0 { "" } else { "; " })?;
-                put_shape(alloc, texts, report, &elements[elements.len() - 1 - i])?;
+                report.say(if i == 0 { "" } else { "; " });
+                put_shape(alloc, texts, report, &elements[elements.len() - 1 - i]);
             }
             if !is_nil(texts, tail) {
-                report.say(" . ")?;
-                put_shape(alloc, texts, report, tail)?;
+                report.say(" . ");
+                put_shape(alloc, texts, report, tail);
             }
-            report.say(")")
+            report.say(")");
         }
-        Shape::Integer(_) => Ok(()),
+        Shape::Integer(_) => {}
     }
 }
 
-/// Puts an object of a shape in words.
-fn put_object(
-    alloc: Global,
-    texts: &Texts,
-    report: &mut Report,
-    object: &Tree,
-) -> Result<(), NoMemory> {
-    report.say("the object ")?;
-    report.text(&printed(alloc, object, texts)?)
+/// Puts a call on an argument.
+fn put_call(report: &mut Report, head: &str, argument: &[u8]) {
+    report.say("(");
+    report.say(head);
+    report.say(" ");
+    report.text(argument);
+    report.say(")");
 }
 
-/// Puts a call on an argument, with another one in front of it, where one is said.
-fn put_call(
-    report: &mut Report,
-    head: &str,
-    front: &[u8],
-    argument: &[u8],
-) -> Result<(), NoMemory> {
-    report.say("(")?;
-    report.say(head)?;
-    report.say(" ")?;
-    if !front.is_empty() {
-        report.text(front)?;
-        report.say(" ")?;
+/// Puts a call on a number and another argument.
+fn put_call_on(report: &mut Report, head: &str, number: usize, argument: &[u8]) {
+    report.say("(");
+    report.say(head);
+    report.say(" ");
+    report.number(number as u64);
+    report.say(" ");
+    report.text(argument);
+    report.say(")");
+}
+
+/// Puts the term of what stands behind so many conses at a place.
+fn put_behind(report: &mut Report, place: &[u8], count: usize) {
+    for _ in 0..count {
+        report.say("(CDR ");
     }
-    report.text(argument)?;
-    report.say(")")
+    report.text(place);
+    report.times(count, b')');
 }
 
 /// The term of what stands behind so many conses at a place.
 fn behind(alloc: Global, place: &[u8], count: usize) -> Result<Vec<u8>, NoMemory> {
     let mut text = Report::new(alloc);
-    for _ in 0..count {
-        text.say("(CDR ")?;
-    }
-    text.text(place)?;
-    text.times(count, b')')?;
-    Ok(text.into_bytes())
+    put_behind(&mut text, place, count);
+    text.into_bytes()
 }
 
 /// The term of an element of the list at a place: by its number, where the list ends in NIL.
@@ -115,60 +109,45 @@ fn element_at(
 ) -> Result<Vec<u8>, NoMemory> {
     let mut text = Report::new(alloc);
     if is_proper {
-        let digits = format!(in alloc; "{number}")?;
-        put_call(&mut text, "NTH", digits.as_bytes(), place)?;
+        put_call_on(&mut text, "NTH", number, place);
     } else {
-        put_call(&mut text, "CAR", b"", &behind(alloc, place, number)?)?;
+        text.say("(CAR ");
+        put_behind(&mut text, place, number);
+        text.say(")");
     }
-    Ok(text.into_bytes())
+    text.into_bytes()
+}
+
+/// Puts that so many conses stand at a place, and behind them NIL.
+fn put_proper(report: &mut Report, place: &[u8], count: usize) {
+    put_call(report, "TRUE-LISTP", place);
+    report.say(" (EQUAL ");
+    report.number(count as u64);
+    report.say(" ");
+    put_call(report, "LEN", place);
+    report.say(")");
 }
 
 /// Puts that so many conses stand at a place, and behind them NIL, where the list is to end so.
-fn put_length(
-    alloc: Global,
-    report: &mut Report,
-    place: &[u8],
-    count: usize,
-    is_proper: bool,
-) -> Result<(), NoMemory> {
+fn put_length(report: &mut Report, place: &[u8], count: usize, is_proper: bool) {
     if is_proper {
-        let digits = format!(in alloc; "{count}")?;
-        put_call(report, "TRUE-LISTP", b"", place)?;
-        let mut length = Report::new(alloc);
-        put_call(&mut length, "LEN", b"", place)?;
-        report.say(" ")?;
-        return put_call(report, "EQUAL", digits.as_bytes(), length.as_slice());
+        return put_proper(report, place, count);
     }
-    report.say("T")?;
+    report.say("T");
     for number in 0..count {
-        report.say(" ")?;
-        put_call(report, "CONSP", b"", &behind(alloc, place, number)?)?;
+        report.say(" (CONSP ");
+        put_behind(report, place, number);
+        report.say(")");
     }
-    Ok(())
 }
 
-/// Puts that an integer of so many indices is at a place.
-fn put_width(
-    alloc: Global,
-    report: &mut Report,
-    count: usize,
-    place: &[u8],
-) -> Result<(), NoMemory> {
-    let digits = format!(in alloc; "{count}")?;
-    put_call(report, "SIGNED-BYTE-P", digits.as_bytes(), place)
-}
-
-/// Puts the equality of a place with an object.
-fn put_equality(
-    alloc: Global,
-    texts: &Texts,
-    report: &mut Report,
-    object: &Tree,
-    place: &[u8],
-) -> Result<(), NoMemory> {
-    let mut quoted = b"'".to_vec(alloc)?;
-    quoted.extend_from_slice(&printed(alloc, object, texts)?)?;
-    put_call(report, "EQUAL", &quoted, place)
+/// Puts the equality of an object with a place.
+fn put_equality(alloc: Global, texts: &Texts, report: &mut Report, object: &Tree, place: &[u8]) {
+    report.say("(EQUAL '");
+    report.made(printed(alloc, object, texts));
+    report.say(" ");
+    report.text(place);
+    report.say(")");
 }
 
 /// Whether a shape is NIL alone.
@@ -186,43 +165,42 @@ pub(crate) fn put_conjunct(
     report: &mut Report,
     shape: &Shape,
     place: &[u8],
-) -> Result<(), NoMemory> {
+) {
     if let Some(indices) = shape.as_integer() {
-        return put_width(alloc, report, indices.len(), place);
+        return put_call_on(report, "SIGNED-BYTE-P", indices.len(), place);
     }
     match shape {
-        Shape::Boolean(_) => put_call(report, "BOOLEANP", b"", place),
+        Shape::Boolean(_) => put_call(report, "BOOLEANP", place),
         Shape::Constant(object) => put_equality(alloc, texts, report, object, place),
         Shape::Choice(_, first, second) => {
-            report.say("(OR ")?;
-            put_conjunct(alloc, texts, report, first, place)?;
-            report.say(" ")?;
-            put_conjunct(alloc, texts, report, second, place)?;
-            report.say(")")
+            report.say("(OR ");
+            put_conjunct(alloc, texts, report, first, place);
+            report.say(" ");
+            put_conjunct(alloc, texts, report, second, place);
+            report.say(")");
         }
         Shape::List(elements, tail) => {
             let is_proper = is_nil(texts, tail);
             let count = elements.len();
-            report.say("(AND ")?;
-            put_length(alloc, report, place, count, is_proper)?;
+            report.say("(AND ");
+            put_length(report, place, count, is_proper);
             for i in 0..elements.len() {
-                let element = element_at(alloc, place, i, is_proper)?;
-                report.say(" ")?;
-                put_conjunct(
-                    alloc,
-                    texts,
-                    report,
-                    &elements[elements.len() - 1 - i],
-                    &element,
-                )?;
+                let element = &elements[elements.len() - 1 - i];
+                report.say(" ");
+                match element_at(alloc, place, i, is_proper) {
+                    Ok(at) => put_conjunct(alloc, texts, report, element, &at),
+                    Err(_) => report.refuse(),
+                }
             }
             if !is_proper {
-                let end = behind(alloc, place, count)?;
-                report.say(" ")?;
-                put_conjunct(alloc, texts, report, tail, &end)?;
+                report.say(" ");
+                match behind(alloc, place, count) {
+                    Ok(end) => put_conjunct(alloc, texts, report, tail, &end),
+                    Err(_) => report.refuse(),
+                }
             }
-            report.say(")")
+            report.say(")");
         }
-        Shape::Integer(_) => Ok(()),
+        Shape::Integer(_) => {}
     }
 }

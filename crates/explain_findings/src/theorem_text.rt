@@ -55,18 +55,13 @@ pub(crate) fn theorem_of(
 }
 
 /// Puts an event's head, and the name, the hypothesis and the conclusion of a theorem.
-fn put_claim(
-    report: &mut Report,
-    head: &str,
-    theorem: &Theorem,
-    hyp: &[u8],
-) -> Result<(), NoMemory> {
-    report.say(head)?;
-    report.text(&theorem.name)?;
-    report.say(" :HYP ")?;
-    report.text(hyp)?;
-    report.say(" :CONCL ")?;
-    report.text(&theorem.concl)
+fn put_claim(report: &mut Report, head: &str, theorem: &Theorem, hyp: &[u8]) {
+    report.say(head);
+    report.text(&theorem.name);
+    report.say(" :HYP ");
+    report.text(hyp);
+    report.say(" :CONCL ");
+    report.text(&theorem.concl);
 }
 
 /// The theorem with another hypothesis and other bindings.
@@ -77,11 +72,11 @@ pub(crate) fn changed(
     bindings: &[u8],
 ) -> Result<Vec<u8>, NoMemory> {
     let mut text = Report::new(alloc);
-    put_claim(&mut text, "(DEF-GL-THM ", theorem, hyp)?;
-    text.say(" :G-BINDINGS ")?;
-    text.text(bindings)?;
-    text.say(")")?;
-    Ok(text.into_bytes())
+    put_claim(&mut text, "(DEF-GL-THM ", theorem, hyp);
+    text.say(" :G-BINDINGS ");
+    text.text(bindings);
+    text.say(")");
+    text.into_bytes()
 }
 
 /// The variable with the fewest indices that is to be a natural number, where these are at most four.
@@ -98,22 +93,21 @@ fn narrowest(bound: &[Bound]) -> Option<&Bound> {
 }
 
 /// Puts a case of each value of a variable, with the bindings of the theorem.
-fn put_cases(report: &mut Report, variable: &Bound, bound: &[Bound]) -> Result<(), NoMemory> {
+fn put_cases(report: &mut Report, variable: &Bound, bound: &[Bound]) {
     let count = match variable.indices.len() {
         2 => 2,
         3 => 4,
         _ => 8,
     };
     for value in 0..count {
-        report.say(" (((CASE-OF-")?;
-        report.text(&variable.name)?;
-        report.say(" ")?;
-        report.number(value)?;
-        report.say(")) ")?;
-        put_quoted(report, bound)?;
-        report.say(")")?;
+        report.say(" (((CASE-OF-");
+        report.text(&variable.name);
+        report.say(" ");
+        report.number(value);
+        report.say(")) ");
+        put_quoted(report, bound);
+        report.say(")");
     }
-    Ok(())
 }
 
 /// The theorem by the cases of its narrowest variable; none where no variable has few values.
@@ -122,17 +116,17 @@ pub(crate) fn by_cases(alloc: Global, theorem: &Theorem) -> Result<Option<Vec<u8
         return Ok(None);
     };
     let mut text = Report::new(alloc);
-    put_claim(&mut text, "(DEF-GL-PARAM-THM ", theorem, &theorem.hyp)?;
-    text.say(" :PARAM-HYP (EQUAL ")?;
-    text.text(&variable.name)?;
-    text.say(" CASE-OF-")?;
-    text.text(&variable.name)?;
-    text.say(") :PARAM-BINDINGS '(")?;
-    put_cases(&mut text, variable, &theorem.bound)?;
-    text.say(") :COV-BINDINGS '")?;
-    put_quoted(&mut text, &theorem.bound)?;
-    text.say(")")?;
-    Ok(Some(text.into_bytes()))
+    put_claim(&mut text, "(DEF-GL-PARAM-THM ", theorem, &theorem.hyp);
+    text.say(" :PARAM-HYP (EQUAL ");
+    text.text(&variable.name);
+    text.say(" CASE-OF-");
+    text.text(&variable.name);
+    text.say(") :PARAM-BINDINGS '(");
+    put_cases(&mut text, variable, &theorem.bound);
+    text.say(") :COV-BINDINGS '");
+    put_quoted(&mut text, &theorem.bound);
+    text.say(")");
+    Ok(Some(text.into_bytes()?))
 }
 
 /// The text of an event without its clocks.
@@ -147,12 +141,12 @@ pub(crate) fn without_clocks(
         if let Some(part) = element(form, number) {
             let is_clock = is_among(word_of(texts, part), ":HYP-CLK :CONCL-CLK");
             if !is_clock && !is_skipped {
-                text.say(if number == 0 { "(" } else { " " })?;
-                text.text(&form_text(alloc, part, texts)?)?;
+                text.say(if number == 0 { "(" } else { " " });
+                text.made(form_text(alloc, part, texts));
             }
             is_skipped = is_clock;
         }
     }
-    text.say(")")?;
-    Ok(text.into_bytes())
+    text.say(")");
+    text.into_bytes()
 }

@@ -3,6 +3,7 @@
 use crate::forms::form_text;
 use crate::reordered::{mixed, narrow_first, narrowed, narrowed_hypothesis};
 use crate::theorem_text::{Theorem, by_cases, changed, theorem_of, without_clocks};
+use explain_report::Report;
 use gl_base::limits::Limits;
 use gl_logic::{NoMemory, Texts, Tree};
 use shape_spec::Mode;
@@ -41,31 +42,34 @@ impl Ladder {
         Ok(())
     }
 
-    /// Adds the same event after other words of the command, where these change a limit.
-    fn push_option(&mut self, words: &str, limits: Limits) -> Result<(), NoMemory> {
-        if limits == self.limits {
-            return Ok(());
-        }
+    /// Adds the same event in a mode and under limits.
+    fn push_same(
+        &mut self,
+        words: &str,
+        mode: Option<Mode>,
+        limits: Limits,
+    ) -> Result<(), NoMemory> {
         self.trials.push(Trial {
             change: words.as_bytes().to_vec(self.alloc)?,
             text: self.event.clone()?,
-            mode: None,
+            mode,
             limits,
             is_hint: false,
         })?;
         Ok(())
     }
 
+    /// Adds the same event after other words of the command, where these change a limit.
+    fn push_option(&mut self, words: &str, limits: Limits) -> Result<(), NoMemory> {
+        if limits == self.limits {
+            return Ok(());
+        }
+        self.push_same(words, None, limits)
+    }
+
     /// Adds the same event behind a mode.
     fn push_mode(&mut self, words: &str, mode: Mode) -> Result<(), NoMemory> {
-        self.trials.push(Trial {
-            change: words.as_bytes().to_vec(self.alloc)?,
-            text: self.event.clone()?,
-            mode: Some(mode),
-            limits: self.limits,
-            is_hint: false,
-        })?;
-        Ok(())
+        self.push_same(words, Some(mode), self.limits)
     }
 
     /// Adds other bindings than a theorem has.
@@ -73,36 +77,47 @@ impl Ladder {
         if bindings == theorem.bindings.as_slice() {
             return Ok(());
         }
-        let mut change = b":G-BINDINGS ".to_vec(self.alloc)?;
-        change.extend_from_slice(bindings)?;
+        let change = option_text(self.alloc, bindings)?;
         let text = changed(self.alloc, theorem, &theorem.hyp, bindings)?;
         self.push_text(change, text)
     }
 
-    /// Adds the orders of indices: equal widths mixed, and then the narrow ones in front.
-    fn push_orders(&mut self, theorem: &Option<Theorem>) -> Result<(), NoMemory> {
-        if let Some(theorem) = theorem {
-            let first = mixed(self.alloc, &theorem.bound)?;
-            let second = narrow_first(self.alloc, &theorem.bound)?;
-            self.push_bindings(theorem, &first)?;
-            if second.as_slice() != first.as_slice() {
-                self.push_bindings(theorem, &second)?;
-            }
+    /// Adds two orders of indices, which may be the same.
+    fn push_both(
+        &mut self,
+        theorem: &Theorem,
+        first: &[u8],
+        second: &[u8],
+    ) -> Result<(), NoMemory> {
+        self.push_bindings(theorem, first)?;
+        if second != first {
+            self.push_bindings(theorem, second)?;
         }
         Ok(())
     }
 
-    /// Adds the theorem by cases, where some variable has few values, and narrower widths, which are a hint.
-    fn push_others(&mut self, theorem: &Option<Theorem>) -> Result<(), NoMemory> {
+    /// Adds the orders of indices: equal widths mixed, and then the narrow ones in front.
+    fn push_orders(&mut self, theorem: &Option<Theorem>) -> Result<(), NoMemory> {
         let Some(theorem) = theorem else {
             return Ok(());
         };
-        if let Some(text) = by_cases(self.alloc, theorem)? {
-            self.push_text(text.clone()?, text)?;
+        let first = mixed(self.alloc, &theorem.bound)?;
+        let second = narrow_first(self.alloc, &theorem.bound)?;
+        self.push_both(theorem, &first, &second)
+    }
+
+    /// Adds a text that is told as it is, where there is one.
+    fn push_whole(&mut self, text: Option<Vec<u8>>) -> Result<(), NoMemory> {
+        match text {
+            Some(text) => self.push_text(text.clone()?, text),
+            None => Ok(()),
         }
-        let hyp = narrowed_hypothesis(self.alloc, &theorem.bound, &theorem.hyp)?;
+    }
+
+    /// Adds narrower widths, which are a hint.
+    fn push_narrowed(&mut self, theorem: &Theorem) -> Result<(), NoMemory> {
         let bindings = narrowed(self.alloc, &theorem.bound)?;
-        let text = changed(self.alloc, theorem, &hyp, &bindings)?;
+        let text = narrowed_text(self.alloc, theorem, &bindings)?;
         self.trials.push(Trial {
             change: bindings,
             text,
@@ -112,6 +127,48 @@ impl Ladder {
         })?;
         Ok(())
     }
+
+    /// Adds the theorem by cases, where some variable has few values, and narrower widths, which are a hint.
+    fn push_others(&mut self, theorem: &Option<Theorem>) -> Result<(), NoMemory> {
+        let Some(theorem) = theorem else {
+            return Ok(());
+        };
+        self.push_whole(by_cases(self.alloc, theorem)?)?;
+        self.push_narrowed(theorem)
+    }
+
+    /// Adds what may decide a theorem that took all nodes.
+    fn push_of_nodes(&mut self, theorem: &Option<Theorem>) -> Result<(), NoMemory> {
+        let limits = with_nodes(&self.limits);
+        self.push_orders(theorem)?;
+        self.push_option("--nodes 4000000", limits)?;
+        self.push_mode("(gl-satlink-mode)", Mode::Sat)?;
+        self.push_mode("(gl-param-mode)", Mode::Param)?;
+        self.push_others(theorem)
+    }
+
+    /// Adds what may decide a theorem whose search learned all clauses.
+    fn push_of_clauses(&mut self, theorem: &Option<Theorem>) -> Result<(), NoMemory> {
+        let limits = with_clauses(&self.limits);
+        self.push_option("--clauses 1000000", limits)?;
+        self.push_mode("(gl-bdd-mode)", Mode::Bdd)?;
+        self.push_mode("(gl-param-mode)", Mode::Param)?;
+        self.push_others(theorem)
+    }
+}
+
+/// The bindings of a theorem as its option.
+fn option_text(alloc: Global, bindings: &[u8]) -> Result<Vec<u8>, NoMemory> {
+    let mut text = Report::new(alloc);
+    text.say(":G-BINDINGS ");
+    text.text(bindings);
+    text.into_bytes()
+}
+
+/// A theorem with narrower bindings, and with a hypothesis that keeps its variables within them.
+fn narrowed_text(alloc: Global, theorem: &Theorem, bindings: &[u8]) -> Result<Vec<u8>, NoMemory> {
+    let hyp = narrowed_hypothesis(alloc, &theorem.bound, &theorem.hyp)?;
+    changed(alloc, theorem, &hyp, bindings)
 }
 
 fn with_nodes(limits: &Limits) -> Limits {
@@ -166,18 +223,24 @@ fn push_searches(
     is_of_nodes: bool,
 ) -> Result<(), NoMemory> {
     let theorem = theorem_of(ladder.alloc, texts, form)?;
-    let limits = ladder.limits;
     if is_of_nodes {
-        ladder.push_orders(&theorem)?;
-        ladder.push_option("--nodes 4000000", with_nodes(&limits))?;
-        ladder.push_mode("(gl-satlink-mode)", Mode::Sat)?;
-        ladder.push_mode("(gl-param-mode)", Mode::Param)?;
+        ladder.push_of_nodes(&theorem)
     } else {
-        ladder.push_option("--clauses 1000000", with_clauses(&limits))?;
-        ladder.push_mode("(gl-bdd-mode)", Mode::Bdd)?;
-        ladder.push_mode("(gl-param-mode)", Mode::Param)?;
+        ladder.push_of_clauses(&theorem)
     }
-    ladder.push_others(&theorem)
+}
+
+/// Adds what may decide an event that is undecided for a cause.
+fn push_all(ladder: &mut Ladder, texts: &Texts, form: &Tree, word: &str) -> Result<(), NoMemory> {
+    let limits = ladder.limits;
+    match word {
+        "nodes" => push_searches(ladder, texts, form, true),
+        "clauses" => push_searches(ladder, texts, form, false),
+        "steps" => ladder.push_option("--steps 99999999", with_steps(&limits)),
+        "cells" => ladder.push_option("--cells 4000000", with_cells(&limits)),
+        "clock" => ladder.push_whole(Some(without_clocks(ladder.alloc, texts, form)?)),
+        _ => Ok(()),
+    }
 }
 
 /// What may decide an event that is undecided for a cause.
@@ -194,16 +257,6 @@ pub(crate) fn ladder_of(
         limits: *limits,
         trials: Vec::new(alloc),
     };
-    match word {
-        "nodes" => push_searches(&mut ladder, texts, form, true)?,
-        "clauses" => push_searches(&mut ladder, texts, form, false)?,
-        "steps" => ladder.push_option("--steps 99999999", with_steps(limits))?,
-        "cells" => ladder.push_option("--cells 4000000", with_cells(limits))?,
-        "clock" => {
-            let text = without_clocks(alloc, texts, form)?;
-            ladder.push_text(text.clone()?, text)?;
-        }
-        _ => {}
-    }
+    push_all(&mut ladder, texts, form, word)?;
     Ok(ladder)
 }
