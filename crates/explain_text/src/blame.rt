@@ -8,6 +8,7 @@ use crate::elements::{elements, form_alone};
 use crate::span::{Span, cut, is_word, whole};
 use crate::terms::{head_of, terms_of_event, terms_of_term};
 use event_world::{EventFault, event_of};
+use explain_report::Report;
 use gl_logic::{NoMemory, Texts, World};
 use sexp_reader::forms;
 use shape_spec::{FnSet, Mode};
@@ -85,29 +86,42 @@ impl<'a> Judge<'a> {
 
 /// A text with the parts from a number on replaced by NIL.
 fn without(alloc: Global, text: &[u8], parts: &[Span], first: usize) -> Result<Vec<u8>, NoMemory> {
-    let mut out = Vec::new(alloc);
+    let mut out = Report::new(alloc);
     let mut start = 0;
     for (i, part) in parts.iter().enumerate() {
         if first <= i {
-            out.extend_from_slice(cut(
+            out.text(cut(
                 text,
                 Span {
                     start,
                     end: part.start,
                 },
-            ))?;
-            out.extend_from_slice(b"nil ")?;
+            ));
+            out.say("nil ");
             start = part.end;
         }
     }
-    out.extend_from_slice(cut(
+    out.text(cut(
         text,
         Span {
             start,
             end: text.len(),
         },
-    ))?;
-    Ok(out)
+    ));
+    out.into_bytes()
+}
+
+/// Whether a text keeps its fault with the parts from a number on replaced.
+fn refuses_without(
+    alloc: Global,
+    judge: &Judge,
+    texts: &mut Texts,
+    text: &[u8],
+    parts: &[Span],
+    first: usize,
+) -> Result<bool, NoMemory> {
+    let tried = without(alloc, text, parts, first)?;
+    judge.refuses(alloc, texts, &tried)
 }
 
 /// The first of some terms such that the text keeps its fault with those behind it replaced, by halving. With none replaced
@@ -126,8 +140,7 @@ fn first_faulty(
             return Ok(low);
         }
         let middle = low + (high - low) / 2;
-        let tried = without(alloc, text, parts, middle.saturating_add(1))?;
-        if judge.refuses(alloc, texts, &tried)? {
+        if refuses_without(alloc, judge, texts, text, parts, middle.saturating_add(1))? {
             high = middle;
         } else {
             low = middle.saturating_add(1);
@@ -154,16 +167,33 @@ fn further(
     if parts.is_empty() {
         return Ok(None);
     }
-    let bare = without(alloc, text, parts, 0)?;
-    if judge.refuses(alloc, texts, &bare)? {
+    if refuses_without(alloc, judge, texts, text, parts, 0)? {
         return Ok(None);
     }
     let number = first_faulty(alloc, judge, texts, text, parts)?;
-    let text = without(alloc, text, parts, number.saturating_add(1))?;
     match parts.get(number) {
-        Some(span) => Ok(Some(Blamed { span: *span, text })),
+        Some(span) => Ok(Some(Blamed {
+            span: *span,
+            text: without(alloc, text, parts, number.saturating_add(1))?,
+        })),
         None => Ok(None),
     }
+}
+
+/// One step further in from a part, which is the whole event or a term.
+fn further_in(
+    alloc: Global,
+    judge: &Judge,
+    texts: &mut Texts,
+    blamed: &Blamed,
+    is_event: bool,
+) -> Result<Option<Blamed>, NoMemory> {
+    let parts = if is_event {
+        terms_of_event(alloc, &blamed.text, blamed.span)?
+    } else {
+        terms_of_term(alloc, &blamed.text, blamed.span)?
+    };
+    further(alloc, judge, texts, &blamed.text, &parts)
 }
 
 /// The part of an event's text that is at fault: a term of it, or the whole.
@@ -177,41 +207,37 @@ pub(crate) fn blame(
         span: whole(event),
         text: event.to_vec(alloc)?,
     };
-    let mut parts = terms_of_event(alloc, event, blamed.span)?;
-    for _ in 0..MOST_DEEP {
-        match further(alloc, judge, texts, &blamed.text, &parts)? {
+    for depth in 0..MOST_DEEP {
+        match further_in(alloc, judge, texts, &blamed, depth == 0)? {
             Some(next) => blamed = next,
-            None => return Ok(blamed),
+            None => break,
         }
-        parts = terms_of_term(alloc, &blamed.text, blamed.span)?;
     }
     Ok(blamed)
 }
 
 /// A text without a part of it.
-fn taken_out(alloc: Global, text: &[u8], part: Span) -> Result<Vec<u8>, NoMemory> {
-    let mut out = cut(
+pub(crate) fn taken_out(alloc: Global, text: &[u8], part: Span) -> Result<Vec<u8>, NoMemory> {
+    let mut out = Report::new(alloc);
+    out.text(cut(
         text,
         Span {
             start: 0,
             end: part.start,
         },
-    )
-    .to_vec(alloc)?;
-    out.extend_from_slice(cut(
+    ));
+    out.text(cut(
         text,
         Span {
             start: part.end,
             end: text.len(),
         },
-    ))?;
-    Ok(out)
+    ));
+    out.into_bytes()
 }
 
-/// The options of an event, each with its value: the declarations of a definition, and the keywords of a theorem.
-fn options_of(alloc: Global, event: &[u8]) -> Result<Vec<Span>, NoMemory> {
-    let parts = elements(alloc, event, whole(event))?;
-    let is_theorem = begins_theorem(head_of(event, &parts));
+/// The options among the elements of an event, each with its value.
+fn options_among(alloc: Global, parts: &[Span], is_theorem: bool) -> Result<Vec<Span>, NoMemory> {
     let mut options = Vec::new(alloc);
     let mut start = None;
     for (i, part) in parts.iter().enumerate() {
@@ -234,8 +260,26 @@ fn options_of(alloc: Global, event: &[u8]) -> Result<Vec<Span>, NoMemory> {
     Ok(options)
 }
 
+/// The options of an event, each with its value: the declarations of a definition, and the keywords of a theorem.
+fn options_of(alloc: Global, event: &[u8]) -> Result<Vec<Span>, NoMemory> {
+    let parts = elements(alloc, event, whole(event))?;
+    options_among(alloc, &parts, begins_theorem(head_of(event, &parts)))
+}
+
 fn begins_theorem(head: &[u8]) -> bool {
     is_word(head, b"def-gl-thm") || is_word(head, b"def-gl-param-thm")
+}
+
+/// The fault of an event's text without a part of it.
+fn fault_without(
+    alloc: Global,
+    judge: &Judge,
+    texts: &mut Texts,
+    event: &[u8],
+    part: Span,
+) -> Result<Option<EventFault>, NoMemory> {
+    let tried = taken_out(alloc, event, part)?;
+    fault_of(alloc, judge, texts, &tried)
 }
 
 /// The first option of an event without which it is not refused as before; the event where there is none. Without a required
@@ -250,8 +294,7 @@ pub(crate) fn odd_option(
     let options = options_of(alloc, event)?;
     for (i, option) in options.iter().enumerate() {
         if i < MOST_OPTIONS {
-            let tried = taken_out(alloc, event, *option)?;
-            let fault = fault_of(alloc, judge, texts, &tried)?;
+            let fault = fault_without(alloc, judge, texts, event, *option)?;
             if fault != Some(judge.fault) && fault != Some(EventFault::BadEvent) {
                 return form_alone(alloc, event, *option);
             }

@@ -4,7 +4,7 @@ use crate::spots::{Spot, Spots, name_of};
 use book_shelf::{Item, Library};
 use explain_findings::head_of;
 use explain_report::Report;
-use gl_logic::{NoMemory, Texts, Tree};
+use gl_logic::{Texts, Tree};
 
 /// Whether a form is a named event of this name, or a clique with a member of it.
 fn takes(texts: &Texts, form: &Tree, name: &[u8]) -> bool {
@@ -40,11 +40,11 @@ fn taken_by(library: &Library, texts: &Texts, name: &[u8], end: u64) -> Option<u
 }
 
 /// Puts the place of an event that took a name.
-fn put_spot(report: &mut Report, spots: &Spots, spot: Spot, name: &[u8]) -> Result<(), NoMemory> {
-    report.place(spots.file(spot), spot.line as u64, spot.column as u64)?;
-    report.say("`")?;
-    report.text(name)?;
-    report.say("` is taken here\n")
+fn put_spot(report: &mut Report, spots: &Spots, spot: Spot, name: &[u8]) {
+    report.place(spots.file(spot), spot.line as u64, spot.column as u64);
+    report.say("`");
+    report.text(name);
+    report.say("` is taken here\n");
 }
 
 /// Puts where a name was taken in front of an item. Whether it was taken by an item.
@@ -55,14 +55,14 @@ fn put_taken(
     texts: &Texts,
     name: &[u8],
     item: u64,
-) -> Result<bool, NoMemory> {
+) -> bool {
     if let Some(number) = taken_by(library, texts, name, item) {
         if let Some(spot) = spots.items.get(number as usize) {
-            put_spot(report, spots, *spot, name)?;
-            return Ok(true);
+            put_spot(report, spots, *spot, name);
+            return true;
         }
     }
-    Ok(false)
+    false
 }
 
 /// Puts where the name of an item was taken, or that of a member of its clique.
@@ -72,12 +72,12 @@ pub(crate) fn put_earlier(
     spots: &Spots,
     texts: &Texts,
     item: u64,
-) -> Result<(), NoMemory> {
+) {
     if item >= library.items.len() {
-        return Ok(());
+        return;
     }
     let Item::Form(form) = library.items.at(item) else {
-        return Ok(());
+        return;
     };
     let mut is_told = put_taken(
         report,
@@ -86,16 +86,15 @@ pub(crate) fn put_earlier(
         texts,
         name_of(texts, &form.tree),
         item,
-    )?;
+    );
     for member in form.tree.elements() {
         if !is_told && !member.elements().is_empty() {
-            is_told = put_taken(report, library, spots, texts, name_of(texts, member), item)?;
+            is_told = put_taken(report, library, spots, texts, name_of(texts, member), item);
         }
     }
-    if is_told {
-        return Ok(());
+    if !is_told {
+        report.say(
+            "   = note: it is a primitive, a macro, or a definition that each book begins with\n",
+        );
     }
-    report.say(
-        "   = note: it is a primitive, a macro, or a definition that each book begins with\n",
-    )
 }

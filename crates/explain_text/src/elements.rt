@@ -98,6 +98,25 @@ fn spans_between(alloc: Global, base: usize, offsets: &[usize]) -> Result<Vec<Sp
     Ok(spans)
 }
 
+/// The places of a text's whole forms, and where its reading ends before its end.
+fn places_read(alloc: Global, read: &Forms) -> Result<Vec<Place>, NoMemory> {
+    let mut places = places_of(alloc, &read.list)?;
+    if let End::Bad(line, column, _) = read.end {
+        places.push(Place { line, column })?;
+    }
+    Ok(places)
+}
+
+/// The offsets of these places; none of a text that is too long.
+fn offsets_read(alloc: Global, text: &[u8]) -> Result<Vec<usize>, NoMemory> {
+    let Some(read) = forms_of(alloc, text)? else {
+        return Ok(Vec::new(alloc));
+    };
+    let places = places_read(alloc, &read)?;
+    drop(read);
+    offsets_of(alloc, text, &places)
+}
+
 /// The elements of the list that a part of a text is, each from its first byte to the next element or the list's end, and
 /// none where the part is no list.
 pub(crate) fn elements(alloc: Global, text: &[u8], span: Span) -> Result<Vec<Span>, NoMemory> {
@@ -112,14 +131,7 @@ pub(crate) fn elements(alloc: Global, text: &[u8], span: Span) -> Result<Vec<Spa
             end: span.end,
         },
     );
-    let Some(read) = forms_of(alloc, inside)? else {
-        return Ok(Vec::new(alloc));
-    };
-    let mut places = places_of(alloc, &read.list)?;
-    if let End::Bad(line, column, _) = read.end {
-        places.push(Place { line, column })?;
-    }
-    let offsets = offsets_of(alloc, inside, &places)?;
+    let offsets = offsets_read(alloc, inside)?;
     spans_between(alloc, base, &offsets)
 }
 
@@ -185,22 +197,23 @@ fn behind_gaps(text: &[u8], start: usize) -> usize {
     text.len()
 }
 
+/// The offset of the last of a text's whole forms.
+fn last_form(alloc: Global, text: &[u8], forms: &Forms) -> Result<Option<usize>, NoMemory> {
+    let places = places_of(alloc, &forms.list)?;
+    Ok(offsets_of(alloc, text, &places)?.last().copied())
+}
+
 /// Where what stands behind the whole forms of a text begins.
 pub(crate) fn behind_forms(alloc: Global, text: &[u8]) -> Result<usize, NoMemory> {
     let Some(read) = forms_of(alloc, text)? else {
         return Ok(0);
     };
-    let places = places_of(alloc, &read.list)?;
-    match offsets_of(alloc, text, &places)?.last() {
+    let last = last_form(alloc, text, &read)?;
+    drop(read);
+    match last {
         Some(start) => {
-            let last = form_alone(
-                alloc,
-                text,
-                Span {
-                    start: *start,
-                    end: text.len(),
-                },
-            )?;
+            let end = text.len();
+            let last = form_alone(alloc, text, Span { start, end })?;
             Ok(behind_gaps(text, last.end))
         }
         None => Ok(behind_gaps(text, 0)),

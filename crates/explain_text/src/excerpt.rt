@@ -2,8 +2,6 @@
 
 use crate::span::{Span, column_of, cut, line_end, line_of, line_start};
 use explain_report::Report;
-use gl_logic::NoMemory;
-use std::alloc::Global;
 
 /// How many bytes of a line are shown, and how many in front of a part that stands further to the right.
 const MOST_SHOWN: usize = 160;
@@ -50,41 +48,41 @@ fn shown_byte(byte: u8) -> u8 {
     }
 }
 
-fn put_shown(report: &mut Report, bytes: &[u8]) -> Result<(), NoMemory> {
+fn put_shown(report: &mut Report, bytes: &[u8]) {
     for byte in bytes {
-        report.times(1, shown_byte(*byte))?;
+        report.times(1, shown_byte(*byte));
     }
-    Ok(())
 }
 
 /// As wide as the bytes, with nothing to be seen.
-fn put_blanks(report: &mut Report, bytes: &[u8]) -> Result<(), NoMemory> {
+fn put_blanks(report: &mut Report, bytes: &[u8]) {
     for byte in bytes {
-        report.times(1, if *byte == 9 { 9 } else { b' ' })?;
+        report.times(1, if *byte == 9 { 9 } else { b' ' });
     }
-    Ok(())
 }
 
-fn digits_of(alloc: Global, number: u64) -> Result<usize, NoMemory> {
-    let mut digits = Report::new(alloc);
-    digits.number(number)?;
-    Ok(digits.as_slice().len())
+/// How many digits a number has.
+fn digits_of(number: u64) -> usize {
+    let mut count: usize = 1;
+    let mut rest = number / 10;
+    for _ in 0..20 {
+        if 0 < rest {
+            count = count.saturating_add(1);
+            rest /= 10;
+        }
+    }
+    count
 }
 
 /// Puts the line in which a part begins, and marks under the part as far as that line goes.
-pub(crate) fn put_excerpt(
-    alloc: Global,
-    report: &mut Report,
-    text: &[u8],
-    span: Span,
-) -> Result<(), NoMemory> {
+pub(crate) fn put_excerpt(report: &mut Report, text: &[u8], span: Span) {
     let window = window_of(text, span);
     let line = line_of(text, span.start);
-    let width = digits_of(alloc, line)?;
-    report.times(width.saturating_add(1), b' ')?;
-    report.say(" |\n ")?;
-    report.number(line)?;
-    report.say(" | ")?;
+    let width = digits_of(line).saturating_add(1);
+    report.times(width, b' ');
+    report.say(" |\n ");
+    report.number(line);
+    report.say(" | ");
     put_shown(
         report,
         cut(
@@ -94,10 +92,10 @@ pub(crate) fn put_excerpt(
                 end: window.to,
             },
         ),
-    )?;
-    report.say("\n")?;
-    report.times(width.saturating_add(1), b' ')?;
-    report.say(" | ")?;
+    );
+    report.say("\n");
+    report.times(width, b' ');
+    report.say(" | ");
     put_blanks(
         report,
         cut(
@@ -107,18 +105,13 @@ pub(crate) fn put_excerpt(
                 end: window.marked.start,
             },
         ),
-    )?;
-    report.times(window.marked.end.saturating_sub(window.marked.start), b'^')?;
-    report.say("\n")
+    );
+    report.times(window.marked.end.saturating_sub(window.marked.start), b'^');
+    report.say("\n");
 }
 
 /// Puts a part of a text, up to so many bytes.
-pub(crate) fn put_part(
-    report: &mut Report,
-    text: &[u8],
-    span: Span,
-    most: usize,
-) -> Result<(), NoMemory> {
+pub(crate) fn put_part(report: &mut Report, text: &[u8], span: Span, most: usize) {
     let part = cut(text, span);
     if part.len() <= most {
         return put_shown(report, part);
@@ -132,16 +125,11 @@ pub(crate) fn put_part(
                 end: most,
             },
         ),
-    )?;
-    report.say("..")
+    );
+    report.say("..");
 }
 
 /// Puts a place of a text.
-pub(crate) fn put_place(
-    report: &mut Report,
-    file: &[u8],
-    text: &[u8],
-    offset: usize,
-) -> Result<(), NoMemory> {
-    report.place(file, line_of(text, offset), column_of(text, offset))
+pub(crate) fn put_place(report: &mut Report, file: &[u8], text: &[u8], offset: usize) {
+    report.place(file, line_of(text, offset), column_of(text, offset));
 }

@@ -122,15 +122,56 @@ fn say_all<R: Threads + Sync + Clock, S: Shelf>(
         return Ok(());
     }
     let mut replay = Replay::new(alloc, texts)?;
+    say_each(rt, alloc, book, &mut replay, texts, shelf, records)
+}
+
+/// Says of each record what is to be said, from a state on.
+fn say_each<R: Threads + Sync + Clock, S: Shelf>(
+    rt: &R,
+    alloc: Global,
+    book: &Book,
+    replay: &mut Replay,
+    texts: &mut Texts,
+    shelf: &mut S,
+    records: &mut [Record],
+) -> Result<(), NoMemory> {
     for record in records {
         let verdict = record.verdict();
         if verdict == Verdict::Refused {
-            record.message = refusal_of(rt, alloc, book, &mut replay, texts, shelf)?;
+            record.message = refusal_of(rt, alloc, book, replay, texts, shelf)?;
         } else if verdict.is_trouble() {
-            record.message = finding_of(rt, alloc, book, &mut replay, texts, record)?;
+            record.message = finding_of(rt, alloc, book, replay, texts, record)?;
         }
     }
     Ok(())
+}
+
+/// Puts what is found out of a record that asks for a look.
+fn put_finding_of<R: Threads + Sync + Clock>(
+    rt: &R,
+    alloc: Global,
+    book: &Book,
+    replay: &mut Replay,
+    texts: &mut Texts,
+    record: &Record,
+    report: &mut Report,
+) -> Result<(), NoMemory> {
+    let item = record.item as u64;
+    if item >= book.library.items.len() {
+        return Ok(());
+    }
+    let Item::Form(form) = book.library.items.at(item) else {
+        return Ok(());
+    };
+    let _refused = replay.go_to(rt, alloc, book.library, book.limits, texts, item)?;
+    let asker = Asker {
+        rt,
+        alloc,
+        state: replay.state(),
+        limits: book.limits,
+        tries: book.tries,
+    };
+    put_finding(&asker, texts, report, &form.tree, record)
 }
 
 /// What is said of a record that asks for a look.
@@ -143,21 +184,8 @@ fn finding_of<R: Threads + Sync + Clock>(
     record: &Record,
 ) -> Result<Vec<u8>, NoMemory> {
     let mut report = Report::new(alloc);
-    let item = record.item as u64;
-    if item < book.library.items.len() {
-        if let Item::Form(form) = book.library.items.at(item) {
-            let _refused = replay.go_to(rt, alloc, book.library, book.limits, texts, item)?;
-            let asker = Asker {
-                rt,
-                alloc,
-                state: replay.state(),
-                limits: book.limits,
-                tries: book.tries,
-            };
-            put_finding(&asker, texts, &mut report, &form.tree, record)?;
-        }
-    }
-    Ok(report.into_bytes())
+    put_finding_of(rt, alloc, book, replay, texts, record, &mut report)?;
+    report.into_bytes()
 }
 
 /// What is said of a book that is refused.
@@ -171,7 +199,7 @@ fn refusal_of<R: Threads + Sync, S: Shelf>(
 ) -> Result<Vec<u8>, NoMemory> {
     let mut report = Report::new(alloc);
     say_why(rt, alloc, book, replay, texts, shelf, &mut report)?;
-    Ok(report.into_bytes())
+    report.into_bytes()
 }
 
 /// Tells what is to be told behind a run. The status.
@@ -271,7 +299,8 @@ fn explain_place<S: Shelf>(
 ) -> Result<(), NoMemory> {
     let file = book.spots.file(place.spot);
     let Some(text) = text_of(alloc, shelf, file)? else {
-        return explain_unread(report, file, place);
+        explain_unread(report, file, place);
+        return Ok(());
     };
     let refusal = Refusal {
         file,
@@ -280,31 +309,42 @@ fn explain_place<S: Shelf>(
         column: place.spot.column,
         fault: place.fault,
     };
-    match place.fault {
+    explain_refusal(alloc, report, book, place.item, &refusal, state, texts)
+}
+
+/// Explains why an item is refused, in the state in front of it.
+fn explain_refusal(
+    alloc: Global,
+    report: &mut Report,
+    book: &Book,
+    item: u64,
+    refusal: &Refusal,
+    state: &State,
+    texts: &mut Texts,
+) -> Result<(), NoMemory> {
+    match refusal.fault {
         Fault::Shelf(code) => {
             let is_form = matches!(code, ShelfCode::Cyclic | ShelfCode::Many);
-            explain_text_fault(alloc, report, &refusal, is_form)
+            explain_text_fault(alloc, report, refusal, is_form)
         }
-        Fault::Form(FormFault::Constant(_)) => explain_constant(alloc, report, &refusal),
+        Fault::Form(FormFault::Constant(_)) => explain_constant(alloc, report, refusal),
         Fault::Form(FormFault::Event(fault)) => {
             let judge = Judge {
                 world: state.world(),
                 memoized: state.memoized(),
                 fault,
             };
-            explain_event_fault(alloc, report, &refusal, &judge, texts)?;
-            match fault {
-                EventFault::Redefined => {
-                    put_earlier(report, book.library, book.spots, texts, place.item)
-                }
-                _ => Ok(()),
+            explain_event_fault(alloc, report, refusal, &judge, texts)?;
+            if fault == EventFault::Redefined {
+                put_earlier(report, book.library, book.spots, texts, item);
             }
+            Ok(())
         }
     }
 }
 
 /// Explains what is refused of a text that is too long, or that cannot be read once more.
-fn explain_unread(report: &mut Report, file: &[u8], place: &Place) -> Result<(), NoMemory> {
-    report.place(file, place.spot.line as u64, place.spot.column as u64)?;
-    put_words(report, place.fault)
+fn explain_unread(report: &mut Report, file: &[u8], place: &Place) {
+    report.place(file, place.spot.line as u64, place.spot.column as u64);
+    put_words(report, place.fault);
 }

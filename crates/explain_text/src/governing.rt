@@ -32,9 +32,11 @@ fn put_test(
     test: Span,
     holds: bool,
 ) -> Result<(), NoMemory> {
-    report.say("   = note: around it ")?;
-    put_part(report, text, form_alone(alloc, text, test)?, MOST_NAMED)?;
-    report.say(if holds { " holds\n" } else { " is false\n" })
+    let form = form_alone(alloc, text, test)?;
+    report.say("   = note: around it ");
+    put_part(report, text, form, MOST_NAMED);
+    report.say(if holds { " holds\n" } else { " is false\n" });
+    Ok(())
 }
 
 /// Puts what the tests of the elements up to a number are around it.
@@ -54,6 +56,11 @@ fn put_tests(
     Ok(())
 }
 
+/// The first element of a list, the test of a clause.
+fn test_of(alloc: Global, text: &[u8], clause: Span) -> Result<Option<Span>, NoMemory> {
+    Ok(elements(alloc, text, clause)?.first().copied())
+}
+
 /// Puts what the tests of a `cond` are around a part of a clause.
 fn put_clauses(
     alloc: Global,
@@ -64,12 +71,11 @@ fn put_clauses(
     offset: usize,
 ) -> Result<(), NoMemory> {
     for (i, part) in parts.iter().enumerate() {
-        let clause = elements(alloc, text, *part)?;
-        if let Some(test) = clause.first() {
+        if let Some(test) = test_of(alloc, text, *part)? {
             if 1 <= i && i < number {
-                put_test(alloc, report, text, *test, false)?;
+                put_test(alloc, report, text, test, false)?;
             } else if i == number && test.end <= offset {
-                put_test(alloc, report, text, *test, true)?;
+                put_test(alloc, report, text, test, true)?;
             }
         }
     }
@@ -123,19 +129,36 @@ fn put_governing(
     Ok(())
 }
 
+/// What stands behind the keyword of a measure among these.
+fn behind_measure(text: &[u8], words: &[Span]) -> Option<Span> {
+    let mut is_next = false;
+    for word in words {
+        if is_next {
+            return Some(*word);
+        }
+        is_next = is_word(token(text, *word), b":measure");
+    }
+    None
+}
+
+/// What stands behind the keyword of a measure in a list.
+fn measure_of(alloc: Global, text: &[u8], list: Span) -> Result<Option<Span>, NoMemory> {
+    Ok(behind_measure(text, &elements(alloc, text, list)?))
+}
+
 /// The measure that a list of declarations states.
 fn measure_in(alloc: Global, text: &[u8], list: Span) -> Result<Option<Span>, NoMemory> {
     for part in &elements(alloc, text, list)? {
-        let inner = elements(alloc, text, *part)?;
-        let mut is_next = false;
-        for word in &inner {
-            if is_next {
-                return Ok(Some(form_alone(alloc, text, *word)?));
-            }
-            is_next = is_word(token(text, *word), b":measure");
+        if let Some(measure) = measure_of(alloc, text, *part)? {
+            return Ok(Some(form_alone(alloc, text, measure)?));
         }
     }
     Ok(None)
+}
+
+/// Whether a part is a list of declarations.
+fn is_declaration(alloc: Global, text: &[u8], part: Span) -> Result<bool, NoMemory> {
+    Ok(is_word(head_of(text, &elements(alloc, text, part)?), b"declare"))
 }
 
 /// Puts the measure of a definition.
@@ -146,15 +169,17 @@ fn put_measure(
     parts: &[Span],
 ) -> Result<(), NoMemory> {
     for part in parts {
-        if is_word(head_of(text, &elements(alloc, text, *part)?), b"declare") {
+        if is_declaration(alloc, text, *part)? {
             if let Some(measure) = measure_in(alloc, text, *part)? {
-                report.say("   = note: the measure that is stated is ")?;
-                put_part(report, text, measure, MOST_NAMED)?;
-                return report.say("\n");
+                report.say("   = note: the measure that is stated is ");
+                put_part(report, text, measure, MOST_NAMED);
+                report.say("\n");
+                return Ok(());
             }
         }
     }
-    report.say("   = note: no measure is stated, so (acl2-count v) is tried of each formal v\n")
+    report.say("   = note: no measure is stated, so (acl2-count v) is tried of each formal v\n");
+    Ok(())
 }
 
 /// What the row of the table of steps says that is nearest to an argument, which begins so; none where there is no such row.
@@ -206,20 +231,34 @@ fn row_of_argument(
     ))
 }
 
+/// Puts the row that is nearest to an argument. Whether there is one.
+fn put_row_of(
+    alloc: Global,
+    report: &mut Report,
+    text: &[u8],
+    argument: Span,
+) -> Result<bool, NoMemory> {
+    let Some(row) = row_of_argument(alloc, text, argument)? else {
+        return Ok(false);
+    };
+    let form = form_alone(alloc, text, argument)?;
+    report.say("   = note: of ");
+    put_part(report, text, form, MOST_NAMED);
+    report.say(" the nearest row is: ");
+    report.say(row);
+    report.say("\n");
+    Ok(true)
+}
+
 /// Puts the row of the table of steps that is nearest to a call.
 fn put_row(alloc: Global, report: &mut Report, text: &[u8], call: Span) -> Result<(), NoMemory> {
     for (i, part) in elements(alloc, text, call)?.iter().enumerate() {
-        if 1 <= i {
-            if let Some(row) = row_of_argument(alloc, text, *part)? {
-                report.say("   = note: of ")?;
-                put_part(report, text, form_alone(alloc, text, *part)?, MOST_NAMED)?;
-                report.say(" the nearest row is: ")?;
-                report.say(row)?;
-                return report.say("\n");
-            }
+        if 1 <= i && put_row_of(alloc, report, text, *part)? {
+            return Ok(());
         }
     }
-    report.say("   = note: no argument is made smaller as a row of the table has it\n")
+    report.say("   = note: no argument is made smaller as a row of the table has it\n");
+    Ok(())
 }
 
 /// The definition of an event in which an offset stands.

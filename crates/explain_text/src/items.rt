@@ -1,9 +1,9 @@
 //! The item of a list that is at fault: of bindings, of cases, of the clauses of a form.
 
-use crate::blame::Judge;
+use crate::blame::{Judge, taken_out};
 use crate::elements::{elements, form_alone};
 use crate::span::{Span, byte_at, cut, is_word, token};
-use crate::terms::head_of;
+use crate::terms::{all_from, head_of};
 use explain_findings::{bindings_of_text, is_bound};
 use explain_report::Report;
 use gl_logic::{NoMemory, Texts};
@@ -11,17 +11,6 @@ use std::alloc::Global;
 
 /// How many items of a list are tried.
 const MOST_ITEMS: usize = 64;
-
-/// The elements from a number on.
-fn behind(alloc: Global, parts: &[Span], first: usize) -> Result<Vec<Span>, NoMemory> {
-    let mut found = Vec::new(alloc);
-    for (i, part) in parts.iter().enumerate() {
-        if first <= i {
-            found.push(*part)?;
-        }
-    }
-    Ok(found)
-}
 
 /// The elements of the list that stands behind a quote.
 fn quoted_elements(alloc: Global, text: &[u8], span: Span) -> Result<Vec<Span>, NoMemory> {
@@ -34,35 +23,35 @@ fn quoted_elements(alloc: Global, text: &[u8], span: Span) -> Result<Vec<Span>, 
         return elements(alloc, text, list);
     }
     let parts = elements(alloc, text, span)?;
-    behind(alloc, &parts, 1)
-}
-
-/// A text with what stands between two offsets taken out.
-fn without(alloc: Global, text: &[u8], start: usize, end: usize) -> Result<Vec<u8>, NoMemory> {
-    let mut out = cut(
-        text,
-        Span {
-            start: 0,
-            end: start,
-        },
-    )
-    .to_vec(alloc)?;
-    out.extend_from_slice(cut(
-        text,
-        Span {
-            start: end,
-            end: text.len(),
-        },
-    ))?;
-    Ok(out)
+    all_from(alloc, &parts, 1)
 }
 
 /// A text without those of a list's items that stand behind one of them.
 fn up_to(alloc: Global, text: &[u8], items: &[Span], item: Span) -> Result<Vec<u8>, NoMemory> {
     match items.last() {
-        Some(last) => without(alloc, text, item.end, last.end),
+        Some(last) => taken_out(
+            alloc,
+            text,
+            Span {
+                start: item.end,
+                end: last.end,
+            },
+        ),
         None => Ok(text.to_vec(alloc)?),
     }
+}
+
+/// Whether an event keeps its fault without those of a list's items that stand behind one of them.
+fn refuses_up_to(
+    alloc: Global,
+    judge: &Judge,
+    texts: &mut Texts,
+    event: &[u8],
+    items: &[Span],
+    item: Span,
+) -> Result<bool, NoMemory> {
+    let tried = up_to(alloc, event, items, item)?;
+    judge.refuses(alloc, texts, &tried)
 }
 
 /// The first of some items such that an event keeps its fault with those behind it taken out; the whole where there is none.
@@ -76,8 +65,7 @@ pub(crate) fn first_odd(
 ) -> Result<Span, NoMemory> {
     for (i, item) in items.iter().enumerate() {
         if i < MOST_ITEMS {
-            let tried = up_to(alloc, event, items, *item)?;
-            if judge.refuses(alloc, texts, &tried)? {
+            if refuses_up_to(alloc, judge, texts, event, items, *item)? {
                 return form_alone(alloc, event, *item);
             }
         }
@@ -102,10 +90,10 @@ fn parts_of(alloc: Global, text: &[u8], form: Span) -> Result<Vec<Span>, NoMemor
     let parts = elements(alloc, text, form)?;
     let head = head_of(text, &parts);
     if is_word(head, b"cond") {
-        return behind(alloc, &parts, 1);
+        return all_from(alloc, &parts, 1);
     }
     if is_word(head, b"case") {
-        return behind(alloc, &parts, 2);
+        return all_from(alloc, &parts, 2);
     }
     let number = if is_word(head, b"defun") { 2 } else { 1 };
     match parts.get(number) {
@@ -126,6 +114,30 @@ pub(crate) fn odd_part(
     first_odd(alloc, judge, texts, text, &items, form)
 }
 
+/// Whether bindings without the items that stand behind one of them are bindings.
+fn binds_up_to(
+    alloc: Global,
+    texts: &mut Texts,
+    event: &[u8],
+    bindings: Span,
+    items: &[Span],
+    item: Span,
+) -> Result<bool, NoMemory> {
+    let tried = up_to(alloc, event, items, item)?;
+    let taken = tried
+        .len()
+        .saturating_add(bindings.end)
+        .saturating_sub(event.len());
+    let part = cut(
+        &tried,
+        Span {
+            start: bindings.start,
+            end: taken,
+        },
+    );
+    Ok(bindings_of_text(alloc, texts, part)?.is_some())
+}
+
 /// The first item of bindings such that those up to it are none; the bindings where there is none.
 pub(crate) fn odd_binding(
     alloc: Global,
@@ -135,22 +147,8 @@ pub(crate) fn odd_binding(
 ) -> Result<Span, NoMemory> {
     let items = quoted_elements(alloc, event, bindings)?;
     for (i, item) in items.iter().enumerate() {
-        if i < MOST_ITEMS {
-            let tried = up_to(alloc, event, &items, *item)?;
-            let taken = tried
-                .len()
-                .saturating_add(bindings.end)
-                .saturating_sub(event.len());
-            let part = cut(
-                &tried,
-                Span {
-                    start: bindings.start,
-                    end: taken,
-                },
-            );
-            if bindings_of_text(alloc, texts, part)?.is_none() {
-                return form_alone(alloc, event, *item);
-            }
+        if i < MOST_ITEMS && !binds_up_to(alloc, texts, event, bindings, &items, *item)? {
+            return form_alone(alloc, event, *item);
         }
     }
     Ok(bindings)
@@ -214,26 +212,49 @@ fn all_bound_but(
             start: 0,
             end: bindings.start,
         },
-    ))?;
-    text.say("'(")?;
+    ));
+    text.say("'(");
     for (i, word) in words.iter().enumerate() {
         if i != number {
-            text.say("(")?;
-            text.text(cut(event, *word))?;
-            text.say(" (:g-boolean . ")?;
-            text.number(i as u64)?;
-            text.say("))")?;
+            text.say("(");
+            text.text(cut(event, *word));
+            text.say(" (:g-boolean . ");
+            text.number(i as u64);
+            text.say("))");
         }
     }
-    text.say(") ")?;
+    text.say(") ");
     text.text(cut(
         event,
         Span {
             start: bindings.end,
             end: event.len(),
         },
-    ))?;
-    Ok(text.into_bytes())
+    ));
+    text.into_bytes()
+}
+
+/// The words of some terms that may be variables, each once.
+fn words_of(alloc: Global, text: &[u8], terms: &[Span]) -> Result<Vec<Span>, NoMemory> {
+    let mut words = Vec::new(alloc);
+    for term in terms {
+        add_words(text, *term, &mut words)?;
+    }
+    Ok(words)
+}
+
+/// Whether an event keeps its fault with all of some words bound but one, which is a variable of it then.
+fn is_unbound(
+    alloc: Global,
+    judge: &Judge,
+    texts: &mut Texts,
+    event: &[u8],
+    bindings: Span,
+    words: &[Span],
+    number: usize,
+) -> Result<bool, NoMemory> {
+    let tried = all_bound_but(alloc, event, bindings, words, number)?;
+    judge.refuses(alloc, texts, &tried)
 }
 
 /// The first word of some terms that is a variable of them and not bound.
@@ -245,14 +266,10 @@ pub(crate) fn unbound(
     bindings: Span,
     terms: &[Span],
 ) -> Result<Option<Span>, NoMemory> {
-    let mut words = Vec::new(alloc);
-    for term in terms {
-        add_words(event, *term, &mut words)?;
-    }
+    let words = words_of(alloc, event, terms)?;
     for (i, word) in words.iter().enumerate() {
         if !is_bound(alloc, texts, cut(event, bindings), cut(event, *word))? {
-            let tried = all_bound_but(alloc, event, bindings, &words, i)?;
-            if judge.refuses(alloc, texts, &tried)? {
+            if is_unbound(alloc, judge, texts, event, bindings, &words, i)? {
                 return Ok(Some(*word));
             }
         }

@@ -37,31 +37,25 @@ fn has_word(text: &[u8], parts: &[Span], word: &[u8]) -> bool {
 }
 
 /// Puts a keyword and what is wrong with it.
-fn put_keyword(report: &mut Report, keyword: &[u8], words: &str) -> Result<(), NoMemory> {
-    report.say("   = note: `")?;
-    report.text(keyword)?;
-    report.say("` ")?;
-    report.say(words)?;
-    report.say("\n")
+fn put_keyword(report: &mut Report, keyword: &[u8], words: &str) {
+    report.say("   = note: `");
+    report.text(keyword);
+    report.say("` ");
+    report.say(words);
+    report.say("\n");
 }
 
 /// Puts the required options that are left out.
-fn put_left_out(
-    report: &mut Report,
-    text: &[u8],
-    parts: &[Span],
-    required: &str,
-) -> Result<(), NoMemory> {
+fn put_left_out(report: &mut Report, text: &[u8], parts: &[Span], required: &str) {
     for keyword in required.split_whitespace() {
         if !has_word(text, parts, keyword.as_bytes()) {
-            put_keyword(report, keyword.as_bytes(), "is left out")?;
+            put_keyword(report, keyword.as_bytes(), "is left out");
         }
     }
-    Ok(())
 }
 
 /// Puts the first place for a keyword where none stands, or the last keyword where it has no value.
-fn put_odd_keyword(report: &mut Report, text: &[u8], parts: &[Span]) -> Result<(), NoMemory> {
+fn put_odd_keyword(report: &mut Report, text: &[u8], parts: &[Span]) {
     let mut is_value = false;
     let mut last: &[u8] = b"";
     for (i, part) in parts.iter().enumerate() {
@@ -78,9 +72,8 @@ fn put_odd_keyword(report: &mut Report, text: &[u8], parts: &[Span]) -> Result<(
         }
     }
     if is_value {
-        return put_keyword(report, last, "has no value behind it");
+        put_keyword(report, last, "has no value behind it");
     }
-    Ok(())
 }
 
 /// Puts what an event lacks, and its form.
@@ -93,13 +86,13 @@ pub(crate) fn put_missing(
     let parts = elements(alloc, event, all)?;
     let head = head_of(event, &parts);
     if let Some(required) = entry_of(REQUIRED, head) {
-        put_odd_keyword(report, event, &parts)?;
-        put_left_out(report, event, &parts, required)?;
+        put_odd_keyword(report, event, &parts);
+        put_left_out(report, event, &parts, required);
     }
     if let Some(form) = entry_of(FORMS, head) {
-        report.say("   = note: its form is ")?;
-        report.say(form)?;
-        report.say("\n")?;
+        report.say("   = note: its form is ");
+        report.say(form);
+        report.say("\n");
     }
     Ok(())
 }

@@ -42,35 +42,30 @@ struct Marked {
     is_named: bool,
 }
 
-fn put_help(report: &mut Report, help: &str) -> Result<(), NoMemory> {
+fn put_help(report: &mut Report, help: &str) {
     if help.is_empty() {
-        return Ok(());
+        return;
     }
-    report.say("   = help: ")?;
-    report.say(help)?;
-    report.say("\n")
+    report.say("   = help: ");
+    report.say(help);
+    report.say("\n");
 }
 
 /// Puts the first lines of a message: place, code and words, and the excerpt.
-fn put_message(
-    alloc: Global,
-    report: &mut Report,
-    refusal: &Refusal,
-    marked: Marked,
-) -> Result<(), NoMemory> {
+fn put_message(report: &mut Report, refusal: &Refusal, marked: Marked) {
     let words = words_of(refusal.fault);
-    put_place(report, refusal.file, refusal.text, marked.span.start)?;
-    report.say("error[")?;
-    report.say(words.code)?;
-    report.say("]: ")?;
+    put_place(report, refusal.file, refusal.text, marked.span.start);
+    report.say("error[");
+    report.say(words.code);
+    report.say("]: ");
     if marked.is_named {
-        report.say("`")?;
-        put_part(report, refusal.text, marked.span, MOST_NAMED)?;
-        report.say("` ")?;
+        report.say("`");
+        put_part(report, refusal.text, marked.span, MOST_NAMED);
+        report.say("` ");
     }
-    report.say(words.title)?;
-    report.say("\n")?;
-    put_excerpt(alloc, report, refusal.text, marked.span)
+    report.say(words.title);
+    report.say("\n");
+    put_excerpt(report, refusal.text, marked.span);
 }
 
 /// Where the form of a refusal begins: at the end where the text has no such place.
@@ -111,45 +106,45 @@ pub(crate) fn explain_text_fault(
         }
     };
     put_message(
-        alloc,
         report,
         refusal,
         Marked {
             span,
             is_named: false,
         },
-    )?;
+    );
     if refusal.fault == Fault::Shelf(ShelfCode::Text(ReadCode::EndInside)) {
         put_open_form(alloc, report, refusal)?;
     }
-    put_help(report, words_of(refusal.fault).help)
+    put_help(report, words_of(refusal.fault).help);
+    Ok(())
 }
 
 /// Puts where the form begins that is not closed.
 fn put_open_form(alloc: Global, report: &mut Report, refusal: &Refusal) -> Result<(), NoMemory> {
     let start = behind_forms(alloc, refusal.text)?;
-    put_place(report, refusal.file, refusal.text, start)?;
-    report.say("what is open begins here\n")?;
+    put_place(report, refusal.file, refusal.text, start);
+    report.say("what is open begins here\n");
     put_excerpt(
-        alloc,
         report,
         refusal.text,
         Span {
             start,
             end: start.saturating_add(1),
         },
-    )
+    );
+    Ok(())
 }
 
 /// Puts the words of a fault whose text is not at hand.
-pub(crate) fn put_words(report: &mut Report, fault: Fault) -> Result<(), NoMemory> {
+pub(crate) fn put_words(report: &mut Report, fault: Fault) {
     let words = words_of(fault);
-    report.say("error[")?;
-    report.say(words.code)?;
-    report.say("]: ")?;
-    report.say(words.title)?;
-    report.say("\n")?;
-    put_help(report, words.help)
+    report.say("error[");
+    report.say(words.code);
+    report.say("]: ");
+    report.say(words.title);
+    report.say("\n");
+    put_help(report, words.help);
 }
 
 /// A part moved by an offset.
@@ -263,26 +258,31 @@ fn put_function_help(
 ) -> Result<(), NoMemory> {
     let word = without_package(word);
     if let Some(instead) = instead_of_term(word) {
-        report.say("   = help: ACL2's word; here: ")?;
-        report.say(instead)?;
-        return report.say("\n");
-    }
-    let nearest = nearest_function(alloc, word, world, texts)?;
-    if nearest.name.is_empty() {
+        put_instead(report, "word", instead);
         return Ok(());
     }
-    report.say("   = help: a function of a near name is `")?;
-    report.text(&nearest.name)?;
-    report.say("`\n")
-}
-
-fn put_event_help(report: &mut Report, word: &[u8]) -> Result<(), NoMemory> {
-    if let Some(instead) = instead_of_event(without_package(word)) {
-        report.say("   = help: ACL2's event; here: ")?;
-        report.say(instead)?;
-        report.say("\n")?;
+    let nearest = nearest_function(alloc, word, world, texts)?;
+    if !nearest.name.is_empty() {
+        report.say("   = help: a function of a near name is `");
+        report.text(&nearest.name);
+        report.say("`\n");
     }
     Ok(())
+}
+
+/// Puts what stands here for what ACL2 has.
+fn put_instead(report: &mut Report, what: &str, instead: &str) {
+    report.say("   = help: ACL2's ");
+    report.say(what);
+    report.say("; here: ");
+    report.say(instead);
+    report.say("\n");
+}
+
+fn put_event_help(report: &mut Report, word: &[u8]) {
+    if let Some(instead) = instead_of_event(without_package(word)) {
+        put_instead(report, "event", instead);
+    }
 }
 
 /// Puts the formals of a definition.
@@ -291,12 +291,37 @@ fn put_formals(alloc: Global, report: &mut Report, event: &[u8]) -> Result<(), N
     let parts = elements(alloc, event, all)?;
     if is_word(head_of(event, &parts), b"defun") {
         if let Some(part) = parts.get(2) {
-            report.say("   = help: the formals are ")?;
-            put_part(report, event, form_alone(alloc, event, *part)?, MOST_NAMED)?;
-            report.say("\n")?;
+            let formals = form_alone(alloc, event, *part)?;
+            report.say("   = help: the formals are ");
+            put_part(report, event, formals, MOST_NAMED);
+            report.say("\n");
         }
     }
     Ok(())
+}
+
+/// An event with a call of a head on so many arguments.
+fn call_text(alloc: Global, head: &[u8], count: u64) -> Result<Vec<u8>, NoMemory> {
+    let mut event = Report::new(alloc);
+    event.say("(value-triple (");
+    event.text(head);
+    for _ in 0..count {
+        event.say(" nil");
+    }
+    event.say("))");
+    event.into_bytes()
+}
+
+/// Whether a call of a head is none of another number of arguments than so many.
+fn takes_count(
+    alloc: Global,
+    judge: &Judge,
+    texts: &mut Texts,
+    head: &[u8],
+    count: u64,
+) -> Result<bool, NoMemory> {
+    let event = call_text(alloc, head, count)?;
+    Ok(!judge.refuses(alloc, texts, &event)?)
 }
 
 /// The counts of arguments, up to so many, with which a call of a head is none of another number.
@@ -307,19 +332,25 @@ fn counts_taken(
     head: &[u8],
 ) -> Result<Vec<u64>, NoMemory> {
     let mut counts = Vec::new(alloc);
-    let mut arguments = Report::new(alloc);
     for count in 0..MOST_COUNTED {
-        let mut event = Report::new(alloc);
-        event.say("(value-triple (")?;
-        event.text(head)?;
-        event.text(arguments.as_slice())?;
-        event.say("))")?;
-        if !judge.refuses(alloc, texts, event.as_slice())? {
+        if takes_count(alloc, judge, texts, head, count)? {
             counts.push(count)?;
         }
-        arguments.say(" nil")?;
     }
     Ok(counts)
+}
+
+/// How many arguments a head takes; nothing where it takes any number.
+fn put_taken_counts(report: &mut Report, counts: &[u64]) {
+    if counts.len() as u64 == MOST_COUNTED {
+        return;
+    }
+    let mut between = ", and it takes ";
+    for count in counts {
+        report.say(between);
+        report.number(*count);
+        between = " or ";
+    }
 }
 
 /// Puts how many arguments a head takes, which may be that of the definition itself; nothing where it takes any number.
@@ -331,22 +362,9 @@ fn put_taken(
     head: &[u8],
     own: Option<u64>,
 ) -> Result<(), NoMemory> {
-    let mut counts = Vec::new(alloc);
-    match own {
-        Some(count) => counts.push(count)?,
-        None => match count_taken(head, judge.world, texts) {
-            Some(count) => counts.push(count)?,
-            None => counts = counts_taken(alloc, judge, texts, head)?,
-        },
-    }
-    if counts.len() as u64 == MOST_COUNTED {
-        return Ok(());
-    }
-    let mut between = ", and it takes ";
-    for count in &counts {
-        report.say(between)?;
-        report.number(*count)?;
-        between = " or ";
+    match own.or(count_taken(head, judge.world, texts)) {
+        Some(count) => put_taken_counts(report, &[count]),
+        None => put_taken_counts(report, &counts_taken(alloc, judge, texts, head)?),
     }
     Ok(())
 }
@@ -372,17 +390,20 @@ fn put_counts(
     call: Span,
 ) -> Result<(), NoMemory> {
     let parts = elements(alloc, event, call)?;
-    report.say("   = help: ")?;
-    report.number(parts.len().saturating_sub(1) as u64)?;
-    report.say(" stand here")?;
+    let count = parts.len().saturating_sub(1);
     let head = head_of(event, &parts);
+    drop(parts);
+    report.say("   = help: ");
+    report.number(count as u64);
+    report.say(" stand here");
     let own = own_count(alloc, event, head)?;
     put_taken(alloc, report, judge, texts, head, own)?;
-    report.say("\n")
+    report.say("\n");
+    Ok(())
 }
 
 /// Puts what stands here for the first word of GL's bindings in a part of an event.
-fn put_shape_help(report: &mut Report, event: &[u8], part: Span) -> Result<(), NoMemory> {
+fn put_shape_help(report: &mut Report, event: &[u8], part: Span) {
     for (i, byte) in cut(event, part).iter().enumerate() {
         if *byte == b':' {
             let start = part.start.saturating_add(i);
@@ -393,13 +414,12 @@ fn put_shape_help(report: &mut Report, event: &[u8], part: Span) -> Result<(), N
                     end: part.end,
                 },
             )) {
-                report.say("   = help: GL's word; here: ")?;
-                report.say(instead)?;
+                report.say("   = help: GL's word; here: ");
+                report.say(instead);
                 return report.say("\n");
             }
         }
     }
-    Ok(())
 }
 
 /// How many arguments a definition takes.
@@ -416,7 +436,9 @@ fn count_taken(head: &[u8], world: &World, texts: &Texts) -> Option<u64> {
 /// The bindings of a theorem; of one by cases the cases, where its cover has bindings.
 fn theorem_bindings(alloc: Global, texts: &mut Texts, event: &[u8]) -> Result<Span, NoMemory> {
     let parts = elements(alloc, event, whole(event))?;
-    if !is_word(head_of(event, &parts), b"def-gl-param-thm") {
+    let head = head_of(event, &parts);
+    drop(parts);
+    if !is_word(head, b"def-gl-param-thm") {
         return bindings_of(alloc, event, b":g-bindings");
     }
     let cover = bindings_of(alloc, event, b":cov-bindings")?;
@@ -441,9 +463,9 @@ fn put_unbound(
     let all = whole(event);
     let terms = terms_of_event(alloc, event, all)?;
     if let Some(word) = unbound(alloc, judge, texts, event, bindings, &terms)? {
-        report.say("   = note: `")?;
-        report.text(cut(event, word))?;
-        report.say("` is a variable of the theorem and has no shape\n")?;
+        report.say("   = note: `");
+        report.text(cut(event, word));
+        report.say("` is a variable of the theorem and has no shape\n");
     }
     Ok(())
 }
@@ -458,7 +480,10 @@ fn put_help_of_part(
     part: Span,
 ) -> Result<(), NoMemory> {
     match judge.fault {
-        EventFault::UnknownEvent => put_event_help(report, token(event, part)),
+        EventFault::UnknownEvent => {
+            put_event_help(report, token(event, part));
+            Ok(())
+        }
         EventFault::Term(TermFault::UnknownFunction) => {
             put_function_help(alloc, report, token(event, part), judge.world, texts)
         }
@@ -469,7 +494,7 @@ fn put_help_of_part(
         EventFault::BadEvent => put_missing(alloc, report, event),
         EventFault::NotAdmitted(_) => put_call(alloc, report, event, part),
         EventFault::BadBindings => {
-            put_shape_help(report, event, part)?;
+            put_shape_help(report, event, part);
             put_unbound(alloc, report, judge, texts, event)
         }
         _ => Ok(()),
@@ -489,16 +514,16 @@ pub(crate) fn explain_event_fault(
     let part = part_at_fault(alloc, judge, texts, event)?;
     let span = moved(part, form.start);
     put_message(
-        alloc,
         report,
         refusal,
         Marked {
             span,
             is_named: true,
         },
-    )?;
+    );
     put_help_of_part(alloc, report, judge, texts, event, part)?;
-    put_help(report, words_of(refusal.fault).help)
+    put_help(report, words_of(refusal.fault).help);
+    Ok(())
 }
 
 /// Explains a constant without a value.
@@ -510,13 +535,13 @@ pub(crate) fn explain_constant(
     let form = form_of(alloc, refusal)?;
     let span = element_of(alloc, refusal.text, form, 2)?;
     put_message(
-        alloc,
         report,
         refusal,
         Marked {
             span,
             is_named: true,
         },
-    )?;
-    put_help(report, words_of(refusal.fault).help)
+    );
+    put_help(report, words_of(refusal.fault).help);
+    Ok(())
 }

@@ -13,15 +13,15 @@ const MOST_NAMED: usize = 40;
 const WIPE: &[u8] = b"\r\x1b[K";
 
 /// What is said while an event runs.
-fn words_of(alloc: Global, file: &[u8], spot: Spot, named: &Named) -> Result<Report, NoMemory> {
+fn words_of(alloc: Global, file: &[u8], spot: Spot, named: &Named) -> Result<Vec<u8>, NoMemory> {
     let mut words = Report::new(alloc);
-    words.text(WIPE)?;
-    words.say("running ")?;
-    words.place(file, spot.line as u64, spot.column as u64)?;
-    words.text(front_of(named.kind.as_slice(), MOST_NAMED))?;
-    words.say(" ")?;
-    words.text(front_of(named.name.as_slice(), MOST_NAMED))?;
-    Ok(words)
+    words.text(WIPE);
+    words.say("running ");
+    words.place(file, spot.line as u64, spot.column as u64);
+    words.text(front_of(named.kind.as_slice(), MOST_NAMED));
+    words.say(" ");
+    words.text(front_of(named.name.as_slice(), MOST_NAMED));
+    words.into_bytes()
 }
 
 /// Names the event of an item. What cannot be written is left out.
@@ -35,7 +35,7 @@ pub(crate) fn put_running<E: Sink>(
         if let Some(named) = spots.named.get(number) {
             if spot.line > 0 {
                 let words = words_of(alloc, spots.file(*spot), *spot, named)?;
-                let _told = put_all(notes, words.as_slice());
+                let _told = put_all(notes, &words);
             }
         }
     }

@@ -167,33 +167,55 @@ fn put_seen(alloc: Global, record: &mut Record, spots: &Spots, seen: Seen) -> Re
 }
 
 /// What stands in front of a line: the place of its event.
-fn front_of(alloc: Global, manner: Manner, record: &Record) -> Result<Report, NoMemory> {
+fn front_of(alloc: Global, manner: Manner, record: &Record) -> Result<Vec<u8>, NoMemory> {
     let mut front = Report::new(alloc);
     if record.line > 0 {
         front.place(
             record.file.as_slice(),
             record.line as u64,
             record.column as u64,
-        )?;
+        );
     }
-    front.say(manner.color(record.verdict()))?;
-    Ok(front)
+    front.say(manner.color(record.verdict()));
+    front.into_bytes()
 }
 
 /// What stands behind a line: its seconds, where they are told, and its end.
-fn back_of(alloc: Global, manner: Manner, record: &Record) -> Result<Report, NoMemory> {
+fn back_of(alloc: Global, manner: Manner, record: &Record) -> Result<Vec<u8>, NoMemory> {
     let mut back = Report::new(alloc);
     let verdict = record.verdict();
     if !manner.color(verdict).is_empty() {
-        back.say(PLAIN)?;
+        back.say(PLAIN);
     }
     if manner.seconds && verdict.is_of_event() {
-        back.say("  ")?;
-        back.millis(record.micros)?;
-        back.say(" s")?;
+        back.say("  ");
+        back.millis(record.micros);
+        back.say(" s");
     }
-    back.say("\n")?;
-    Ok(back)
+    back.say("\n");
+    back.into_bytes()
+}
+
+/// What stands in front of a line, and what stands behind it.
+#[derive(Drop)]
+struct Edges {
+    front: Vec<u8>,
+    back: Vec<u8>,
+}
+
+fn edges_of(alloc: Global, manner: Manner, record: &Record) -> Result<Edges, NoMemory> {
+    Ok(Edges {
+        front: front_of(alloc, manner, record)?,
+        back: back_of(alloc, manner, record)?,
+    })
+}
+
+/// The record of a line, with the name that stands in it.
+fn record_named(alloc: Global, text: &[u8]) -> Result<Record, NoMemory> {
+    let name = name_in(text).to_vec(alloc)?;
+    let mut record = Record::new(alloc, text.to_vec(alloc)?);
+    record.name = name;
+    Ok(record)
 }
 
 impl<'a, R: Clock, K: Sink + Drop, E: Sink + Drop> Shown<'a, R, K, E> {
@@ -237,9 +259,8 @@ impl<'a, R: Clock, K: Sink + Drop, E: Sink + Drop> Shown<'a, R, K, E> {
     fn record_of(&mut self, text: &[u8]) -> Result<Record, NoMemory>
         ensures faults { self.new ≡ self.old }
     {
-        let mut record = Record::new(self.alloc, text.to_vec(self.alloc)?);
+        let mut record = record_named(self.alloc, text)?;
         record.micros = self.watch.lap();
-        record.name = name_in(text).to_vec(self.alloc)?;
         if let Some(seen) = self.seen_of(text) {
             put_seen(self.alloc, &mut record, &self.spots, seen)?;
         }
@@ -315,10 +336,9 @@ impl<'a, R: Clock, K: Sink + Drop, E: Sink + Drop> Shown<'a, R, K, E> {
         ensures faults { self.new ≡ self.old }
     {
         let record = self.record_of(text)?;
-        let front = front_of(self.alloc, self.outlet.manner, &record)?;
-        let back = back_of(self.alloc, self.outlet.manner, &record)?;
+        let edges = edges_of(self.alloc, self.outlet.manner, &record)?;
         self.keep(record)?;
-        self.put(front.as_slice(), text, back.as_slice())
+        self.put(&edges.front, text, &edges.back)
     }
 
     fn show(&mut self, line: &[u8]) -> Result<(), PutEnd>

@@ -55,13 +55,14 @@ fn lines_of(texts: &Texts, form: &Tree) -> usize {
 
 impl Spots {
     fn new(alloc: Global, name: &[u8]) -> Result<Spots, NoMemory> {
+        let name = name.to_vec(alloc)?;
         let mut spots = Spots {
             files: Vec::new(alloc),
             items: Vec::new(alloc),
             named: Vec::new(alloc),
             open: Vec::new(alloc),
         };
-        spots.enter(name.to_vec(alloc)?)?;
+        spots.enter(name)?;
         Ok(spots)
     }
 
@@ -115,6 +116,17 @@ impl Spots {
         }
     }
 
+    /// Puts the spots of a book's items, and behind them the one of a refusal at the end of the list.
+    fn put_all(&mut self, alloc: Global, library: &Library, texts: &Texts) -> Result<(), NoMemory> {
+        for i in 0..library.items.len() {
+            match library.items.at(i) {
+                Item::Form(form) => self.put_form(alloc, texts, form)?,
+                Item::Mark(mark) => self.put_mark(alloc, texts, *mark)?,
+            }
+        }
+        self.put(0, 0, 0)
+    }
+
     /// The spot of the list's end.
     pub(crate) fn end(&self) -> Spot {
         match self.items.last() {
@@ -152,12 +164,6 @@ pub(crate) fn spots_of(
     texts: &Texts,
 ) -> Result<Spots, NoMemory> {
     let mut spots = Spots::new(alloc, name)?;
-    for i in 0..library.items.len() {
-        match library.items.at(i) {
-            Item::Form(form) => spots.put_form(alloc, texts, form)?,
-            Item::Mark(mark) => spots.put_mark(alloc, texts, *mark)?,
-        }
-    }
-    spots.put(0, 0, 0)?;
+    spots.put_all(alloc, library, texts)?;
     Ok(spots)
 }

@@ -10,7 +10,7 @@ use std::alloc::Global;
 type Spans = Vec<Span>;
 
 /// The spans from a number on.
-fn all_from(alloc: Global, spans: &[Span], first: usize) -> Result<Spans, NoMemory> {
+pub(crate) fn all_from(alloc: Global, spans: &[Span], first: usize) -> Result<Spans, NoMemory> {
     let mut found = Vec::new(alloc);
     for (i, span) in spans.iter().enumerate() {
         if first <= i {
@@ -67,6 +67,16 @@ enum Held {
     Last,
 }
 
+/// Elements of a list.
+fn inside(alloc: Global, text: &[u8], list: Span, held: Held) -> Result<Spans, NoMemory> {
+    let parts = elements(alloc, text, list)?;
+    match held {
+        Held::All => Ok(parts),
+        Held::Second => only(alloc, &parts, 1),
+        Held::Last => only_last(alloc, &parts, 3),
+    }
+}
+
 /// Elements of each of these lists from a number on.
 fn inside_each(
     alloc: Global,
@@ -78,13 +88,7 @@ fn inside_each(
     let mut found = Vec::new(alloc);
     for (i, list) in lists.iter().enumerate() {
         if first <= i {
-            let parts = elements(alloc, text, *list)?;
-            let chosen = match held {
-                Held::All => parts,
-                Held::Second => only(alloc, &parts, 1)?,
-                Held::Last => only_last(alloc, &parts, 3)?,
-            };
-            found.extend_from_slice(&chosen)?;
+            found.extend_from_slice(&inside(alloc, text, *list, held)?)?;
         }
     }
     Ok(found)
@@ -124,6 +128,7 @@ fn terms_of_let(alloc: Global, text: &[u8], parts: &[Span]) -> Result<Spans, NoM
     };
     let lists = elements(alloc, text, *bindings)?;
     let mut found = inside_each(alloc, text, &lists, 0, Held::Second)?;
+    drop(lists);
     found.extend_from_slice(&only_last(alloc, parts, 2)?)?;
     Ok(found)
 }

@@ -4,22 +4,21 @@ use crate::manner::{Format, Outlet};
 use crate::spots::Spots;
 use explain_report::{PutEnd, Record, Report, Verdict, put_object, put_page, put_summary};
 use gl_base::sink::{Sink, put_all};
-use gl_logic::NoMemory;
 use std::alloc::Global;
 
 /// Puts what is said of a line, behind its event's place. Of a refusal it has its own.
-fn put_message(report: &mut Report, record: &Record) -> Result<(), NoMemory> {
+fn put_message(report: &mut Report, record: &Record) {
     if record.message.as_slice().is_empty() {
-        return Ok(());
+        return;
     }
     if record.line > 0 && record.verdict() != Verdict::Refused {
         report.place(
             record.file.as_slice(),
             record.line as u64,
             record.column as u64,
-        )?;
+        );
     }
-    report.text(record.message.as_slice())
+    report.text(record.message.as_slice());
 }
 
 /// Writes what is said of the lines, and the summary.
@@ -31,12 +30,12 @@ fn put_messages<K: Sink>(
 ) -> Result<(), PutEnd> {
     let mut report = Report::new(alloc);
     for record in records {
-        put_message(&mut report, record)?;
+        put_message(&mut report, record);
     }
     if has_summary {
-        put_summary(alloc, &mut report, records)?;
+        put_summary(alloc, &mut report, records);
     }
-    put_all(out, report.as_slice())?;
+    put_all(out, &report.into_bytes()?)?;
     Ok(())
 }
 
