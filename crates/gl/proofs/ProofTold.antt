@@ -14,7 +14,7 @@ use Rattle.gl_decide.specs.declared.verdict.Verdict.TheVariants as verdict
 use Rattle.gl_book.specs.Entry.{Refused}
 use Rattle.gl_book.specs.Transcript.{long, long_refusal}
 use Rattle.gl.specs.Proving.{EndsProof, IsNotDue, TellsProof, WritesProof, none_due, shown, left_open, open_status}
-use Rattle.gl.specs.declared.proof_part.ProofPart.{ProofPart}
+use Rattle.gl_words.specs.declared.proof_part.ProofPart.{ProofPart}
 use Rattle.gl.proofs.TextsTold.{some_text, told_so}
 
 -- ---- statuses

@@ -18,8 +18,8 @@ use Rattle.gl_book.specs.Entry.{verdict_stalls}
 use Rattle.gl_book.specs.Lines.{verdict_lines}
 use Rattle.gl_book.specs.Lasts.{HasNone, IsLastOf}
 use Rattle.gl_book.specs.Transcript.{EndsOrNothing}
-use Rattle.gl.specs.declared.proof_part.ProofPart.{ProofPart}
-use Rattle.gl.specs.declared.proof_part.ProofPart.TheVariants.{Cnf, Log}
+use Rattle.gl_words.specs.declared.proof_part.ProofPart.{ProofPart}
+use Rattle.gl_words.specs.declared.proof_part.ProofPart.TheVariants.{Cnf, Log}
 
 -- ---- which theorems have a proof to be written
 -- one that is decided by a search, over one index at least

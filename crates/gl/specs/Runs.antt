@@ -5,10 +5,10 @@ use Rattle.gl_decide.specs.Bounds.{Bounds}
 use Rattle.gl_decide.specs.Stalls.{StallSeen}
 use Rattle.gl_book.specs.Generated.{generated}
 use Rattle.gl_book.specs.Transcript.{EndsWith, WritesBook}
-use Rattle.gl.specs.Words.{Source, Book, Generated, Command, Order, Transcript, Proof, Judge}
+use Rattle.gl_words.specs.Words.{Source, Book, Generated, Command, Order, Transcript, Proof, Judge}
 use Rattle.gl.specs.Judging.{WritesLine}
 use Rattle.gl.specs.Proving.{WritesProof}
-use Rattle.gl.specs.declared.proof_part.ProofPart.{ProofPart}
+use Rattle.gl_words.specs.declared.proof_part.ProofPart.{ProofPart}
 
 -- the transcript of the book with the books that it includes, or the last line of that of the generator's text, with the stalls before and after; fronts where a write
 -- failed or memory was refused

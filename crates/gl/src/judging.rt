@@ -4,11 +4,11 @@ ghost use Rattle.std.specs.Prelude.{◌≡◌, ◌≢◌, ◌⊎◌, ◌≤◌, 
 ghost use Rattle.gl_base.specs.Outside.{Rose, Grows};
 ghost use Rattle.gl.specs.Judging.{IsSaid, WritesLine, judged_line, line_status};
 
-use crate::orders::Pair;
 use crate::putting::put_text;
 use gl_base::shelf::Shelf;
 use gl_base::sink::Sink;
 use gl_base::status::Status;
+use gl_words::Pair;
 use lrat_tool::{Judgement, TextEnd, judge, read_text};
 use std::alloc::{AllocError, Global};
 use std::thread::Threads;

@@ -4,25 +4,21 @@
 #![tactic(auto)]
 
 mod judging;
-mod orders;
-mod proof_part;
 mod proving;
 mod putting;
 mod run;
 #[cfg(test)]
 mod tests;
-mod usage;
-mod words;
 
 use command_line::{FileShelf, WriterSink, words_of};
 use gl_base::status::Status;
 use gl_decide::Stalls;
+use gl_words::refuse_end;
 use run::run;
 use std::io;
 use std::process::ExitCode;
 use std::rt::{Env, Files};
 use std::thread::Threads;
-use usage::refuse_end;
 
 fn main(rt: HostRuntime) -> ExitCode {
     ExitCode::from(status_of(&rt).code())

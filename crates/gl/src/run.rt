@@ -5,23 +5,21 @@ ghost use Rattle.gl_base.specs.Outside.{Rose, Grows, GrowsByFront};
 ghost use Rattle.gl_decide.specs.Bounds.{bounds_of};
 ghost use Rattle.gl_book.specs.Transcript.{EndsWith};
 ghost use Rattle.gl_book.specs.Generated.{generated};
-ghost use Rattle.gl.specs.Usage.{usage_line};
-ghost use Rattle.gl.specs.Words.{order_of};
-ghost use Rattle.gl.specs.CommandOf.{order_seen, source_seen, IsFew, IsWithin};
+ghost use Rattle.gl_words.specs.Usage.{usage_line};
+ghost use Rattle.gl_words.specs.Words.{order_of};
+ghost use Rattle.gl_words.specs.CommandOf.{order_seen, source_seen, IsFew, IsWithin};
 ghost use Rattle.gl.specs.Runs.{Writes, WritesFrom, WritesJudgement, WritesOrder, IfTranscript, IfProof, IfJudge};
 ghost use Rattle.gl.specs.Proving.{WritesProof};
 
 use crate::judging::run_judgement;
-use crate::orders::{Order, order_named};
 use crate::proving::run_proof;
-use crate::usage::refuse_words;
-use crate::words::{Command, Source};
 use gl_base::limits::Limits;
 use gl_base::shelf::Shelf;
 use gl_base::sink::Sink;
 use gl_base::status::Status;
 use gl_book::{generate, run_book, run_text};
 use gl_decide::Stalls;
+use gl_words::{Command, Order, Source, order_named, refuse_words};
 use std::alloc::Global;
 use std::thread::Threads;
 

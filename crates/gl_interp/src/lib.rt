@@ -7,10 +7,9 @@
 //! 32-bit unit of eight operations meets its specification 3 milliseconds and 20,416 nodes, or 115 and 3,467. Beyond the
 //! circuit of its terms a run makes the two paths of each `if` whose test is symbolic, an edge for each operation on integers
 //! that tells whether the result leaves 128 bits, and the conjunction of the parts' answers for an `equal` of conses;
-//! `docs/BENCHMARKS.md` has more theorems. The tests of the crate `interp_tests` call [`interp`] on worked theorems, and see
-//! each fault but want of memory once.
+//! `docs/BENCHMARKS.md` has more theorems.
 //!
-//! Tests: the crate `interp_tests`.
+//! Tests: those of the crate `gl`.
 #![tactic(auto)]
 
 mod calls;

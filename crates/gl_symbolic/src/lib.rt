@@ -8,7 +8,7 @@
 //! [`hypothesis`] and [`refutation`] are the two runs, each up to the edge that is decided, for a caller that has a store's
 //! own decision.
 //!
-//! Tests: those of the crate `gl`; of parametrised inputs also in `parametrised`.
+//! Tests: those of the crate `gl`.
 #![tactic(auto)]
 
 pub mod certifying_store;

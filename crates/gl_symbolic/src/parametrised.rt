@@ -18,9 +18,6 @@ ghost use Rattle.gl_symbolic.specs.Decisions.{HasRunOut, IsProper, IsReady, IsSh
 ghost use Rattle.gl_symbolic.specs.Parameters.{HasWidth, IsStill, Parametrises, StandsAt, TellsConclusion, moved_by};
 ghost use Rattle.gl_symbolic.specs.Steps.{IsHypothesis};
 
-#[cfg(test)]
-mod tests;
-
 use super::certifying_store::{CertifyingStore, reach};
 use super::condition::condition;
 use super::decision::{Decision, given_up, stopped};

@@ -10,7 +10,7 @@
 //! - Where no object is a choice, its kind is known (`simple`): integers go to the operations of `sym_bits` at full width
 //!   (`operations`, `tests_of_integers`), and T and NIL are a Boolean's edges (`predicates`).
 //!
-//! Tests: the crate `interp_tests`.
+//! Tests: those of the crate `gl`.
 #![tactic(auto)]
 
 mod answers;

@@ -1,6 +1,7 @@
-//! Forms with their terms, events and shapes, and the world that every book begins with.
+//! Forms with their terms, theorems by cases, and the world that every book begins with.
 //!
-//! This crate has no code but its tests, of `gl_translate`, `shape_spec`, `gl_cases` and `event_world`.
+//! This crate has no code but its tests, of `gl_translate`, `gl_cases` and `event_world`. What they do in a book, `.ci/tables`
+//! shows through the built program.
 #![tactic(auto)]
 
 #[cfg(test)]

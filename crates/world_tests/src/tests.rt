@@ -1,8 +1,6 @@
-//! What forms mean, books' worlds and events, with ample memory.
+//! What forms mean, the world that every book begins with, and theorems by cases, with ample memory.
 
 mod cases;
-mod events;
 mod first_world;
 mod reader;
-mod shapes;
 mod terms;

@@ -70,7 +70,97 @@ VALUE undecided size
 DONE proved=0 vacuous=0 refuted=0 undecided=1
 "#;
 
+/// Definitions with long and deep bodies: how many subterms and parentheses there may be, and which of two faults comes first. In
+/// the last one the n `or`s inside one another have 3 * 2^n - 2 subterms.
+const BODIES: &str = r#"
+== b
+(defun f (x y) (list {1998 x }x))=> 0
+DEFUN F
+DONE proved=0 vacuous=0 refuted=0 undecided=0
+== b
+(defun f (x y) (list {1999 x }x))=> 2
+REFUSED 1 1 V12
+DONE proved=0 vacuous=0 refuted=0 undecided=0
+== b
+(defun f (x y) (list* {1999 x }x))=> 0
+DEFUN F
+DONE proved=0 vacuous=0 refuted=0 undecided=0
+== b
+(defun f (x y) (list* {2000 x }x))=> 2
+REFUSED 1 1 V12
+DONE proved=0 vacuous=0 refuted=0 undecided=0
+== b
+(defun f (x y) (+ {1999 x }x))=> 0
+DEFUN F
+DONE proved=0 vacuous=0 refuted=0 undecided=0
+== b
+(defun f (x y) (+ {2000 x }x))=> 2
+REFUSED 1 1 V12
+DONE proved=0 vacuous=0 refuted=0 undecided=0
+== b
+(defun f (x y) (+ {1999 x }w))=> 2
+REFUSED 1 1 V6
+DONE proved=0 vacuous=0 refuted=0 undecided=0
+== b
+(defun f (x y) (+ {2000 x }w))=> 2
+REFUSED 1 1 V12
+DONE proved=0 vacuous=0 refuted=0 undecided=0
+== b
+(defun f (x y) (and {1999 x }x))=> 0
+DEFUN F
+DONE proved=0 vacuous=0 refuted=0 undecided=0
+== b
+(defun f (x y) (and {2000 x }x))=> 2
+REFUSED 1 1 V12
+DONE proved=0 vacuous=0 refuted=0 undecided=0
+== b
+(defun f (x y) (or {1999 x }x))=> 0
+DEFUN F
+DONE proved=0 vacuous=0 refuted=0 undecided=0
+== b
+(defun f (x y) (or {2000 x }x))=> 2
+REFUSED 1 1 V12
+DONE proved=0 vacuous=0 refuted=0 undecided=0
+== b
+(defun f (x y) (append {1999 x }x))=> 0
+DEFUN F
+DONE proved=0 vacuous=0 refuted=0 undecided=0
+== b
+(defun f (x y) (append {2000 x }x))=> 2
+REFUSED 1 1 V12
+DONE proved=0 vacuous=0 refuted=0 undecided=0
+== b
+(defun f (x y) (cond {1998 (x y) }(x y)))=> 0
+DEFUN F
+DONE proved=0 vacuous=0 refuted=0 undecided=0
+== b
+(defun f (x y) (cond {1999 (x y) }(x y)))=> 2
+REFUSED 1 1 V12
+DONE proved=0 vacuous=0 refuted=0 undecided=0
+== b
+(defun f (x y) (+ {3000 w }(foo)))=> 2
+REFUSED 1 1 V6
+DONE proved=0 vacuous=0 refuted=0 undecided=0
+== b
+(defun f (x y) (and {1999 (list) }(list x)))=> 2
+REFUSED 1 1 V12
+DONE proved=0 vacuous=0 refuted=0 undecided=0
+== b
+(defun f (x y) (and {1998 (car x) }(car x)))=> 0
+DEFUN F
+DONE proved=0 vacuous=0 refuted=0 undecided=0
+== b
+(defun f (x y) {990 (let ((v x)) }v{990 )})=> 0
+DEFUN F
+DONE proved=0 vacuous=0 refuted=0 undecided=0
+== b
+(defun f (x y) {15 (or }x{15  y)})=> 0
+DEFUN F
+DONE proved=0 vacuous=0 refuted=0 undecided=0
+"#;
+
 #[test]
 fn books_at_the_ends(rt: HostRuntime) -> Result<(), Fail> {
-    all_give(&rt, ENDS)
+    all_give(&rt, ENDS)?;
+    all_give(&rt, BODIES)
 }

@@ -1,5 +1,5 @@
-//! What no clause says: that a vector of parameters is found with ample room and memory, and what it makes of each
-//! assignment of two variables.
+//! What no clause says: that a vector of parameters is found with ample room and memory, what it makes of each assignment of
+//! two variables, and that the bits which a function leaves no choice are constants or copies of another one.
 
 ghost use Rattle.bdd_store.specs.Nodes.{IsLive};
 
@@ -89,4 +89,72 @@ fn no_room_for_another_node(rt: HostRuntime) {
     let hyp = either(&rt, &mut store);
     assert!(rt; store.count() == 3 && store.is_live(hyp));
     assert!(rt; parameters(rt.alloc(), &mut store, hyp).err() == Some(ParamFault::Full));
+}
+
+/// How many bits a number has.
+const WIDTH: u32 = 65;
+
+/// How many of them the function leaves free.
+const FREE: u32 = 22;
+
+/// The edge that the bits past the free ones are equal to: the sign of a signed number, or false.
+fn rest(rt: &impl Abort, store: &mut Bdd, signed: bool) -> Edge {
+    if signed {
+        variable(rt, store, FREE)
+    } else {
+        store.constant(false)
+    }
+}
+
+/// That this function holds, and that these two are equal.
+fn and_equal(rt: &impl Abort, store: &mut Bdd, hyp: Edge, x: Edge, y: Edge) -> Edge {
+    assert!(rt; store.is_live(x) && store.is_live(y));
+    let differ = bfr_store::differ(store, x, y).expect(rt, "no room for an exclusive or");
+    assert!(rt; store.is_live(hyp) && store.is_live(differ));
+    let equal = store.not(differ);
+    assert!(rt; store.is_live(hyp) && store.is_live(equal));
+    store
+        .and(hyp, equal)
+        .expect(rt, "no room for a conjunction")
+}
+
+/// That the number of the variables has so few bits.
+fn few_bits(rt: &impl Abort, store: &mut Bdd, signed: bool) -> Edge {
+    let mut hyp = store.constant(true);
+    for k in FREE..WIDTH {
+        let bit = variable(rt, store, k);
+        let rest = rest(rt, store, signed);
+        hyp = and_equal(rt, store, hyp, bit, rest);
+    }
+    hyp
+}
+
+/// The variables of the free bits, and that edge for each later one.
+fn narrowed(rt: &impl Abort, alloc: Global, store: &mut Bdd, signed: bool) -> Edges {
+    let mut edges = Edges::new(alloc);
+    for k in 0..WIDTH {
+        let edge = if k < FREE {
+            variable(rt, store, k)
+        } else {
+            rest(rt, store, signed)
+        };
+        edges.push(edge).expect(rt, "no memory");
+    }
+    edges
+}
+
+/// Tries that the function leaves the bits so.
+fn try_narrowed(rt: &impl Abort, alloc: Global, signed: bool) {
+    let mut store = Bdd::new(alloc, 10_000).expect(rt, "no memory");
+    let wanted = narrowed(rt, alloc, &mut store, signed);
+    let hyp = few_bits(rt, &mut store, signed);
+    assert!(rt; store.is_live(hyp) && store.width() == WIDTH);
+    let edges = parameters(alloc, &mut store, hyp).expect(rt, "no parameters");
+    assert!(rt; edges.as_slice() == wanted.as_slice());
+}
+
+#[test]
+fn narrowed_bits_are_constants_or_copies(rt: HostRuntime) {
+    try_narrowed(&rt, rt.alloc(), false);
+    try_narrowed(&rt, rt.alloc(), true);
 }

@@ -1,6 +1,5 @@
 //! Forms and their terms, with ample memory.
 
-mod deep;
 mod objects;
 mod own_list;
 mod rows;

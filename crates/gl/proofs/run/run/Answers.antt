@@ -5,9 +5,9 @@ use Rattle.gl_decide.specs.Bounds.{Bounds}
 use Rattle.gl_decide.specs.Stalls.{StallSeen}
 use Rattle.gl_book.specs.Generated.{generated}
 use Rattle.gl_book.proofs.Ends.{nothing_written, of_no_memory}
-use Rattle.gl.specs.Words.{Source, Book, Generated, Command, Order, Transcript, Proof, Judge, order_of}
+use Rattle.gl_words.specs.Words.{Source, Book, Generated, Command, Order, Transcript, Proof, Judge, order_of}
 use Rattle.gl.specs.Runs.{WritesFrom, IfTranscript, IfProof, IfJudge}
-use Rattle.gl.specs.declared.proof_part.ProofPart.{ProofPart}
+use Rattle.gl_words.specs.declared.proof_part.ProofPart.{ProofPart}
 use Rattle.gl.proofs.ProofTold.{unwritten}
 use Rattle.gl.proofs.run.run.Goals as goal
 
