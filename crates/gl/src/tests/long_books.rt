@@ -70,8 +70,8 @@ VALUE undecided size
 DONE proved=0 vacuous=0 refuted=0 undecided=1
 "#;
 
-/// Definitions with long and deep bodies: how many subterms and parentheses there may be, and which of two faults comes first. In
-/// the last one the n `or`s inside one another have 3 * 2^n - 2 subterms.
+/// Definitions with long and deep bodies: how many subterms and parentheses there may be, and which of two faults comes first. n
+/// `or`s inside one another have 3 * 2^n - 2 subterms. The last one has 450 recursive calls.
 const BODIES: &str = r#"
 == b
 (defun f (x y) (list {1998 x }x))=> 0
@@ -156,6 +156,10 @@ DONE proved=0 vacuous=0 refuted=0 undecided=0
 == b
 (defun f (x y) {15 (or }x{15  y)})=> 0
 DEFUN F
+DONE proved=0 vacuous=0 refuted=0 undecided=0
+== b
+(defun f (x) (if (consp x) (list {450 (f (cdr x)) }x) nil))=> 0
+DEFUN F (ACL2-COUNT X)
 DONE proved=0 vacuous=0 refuted=0 undecided=0
 "#;
 
