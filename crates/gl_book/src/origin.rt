@@ -1,5 +1,9 @@
 //! What a line of a transcript is of.
 
+ghost use Rattle.std.specs.Prelude.{◌≡◌};
+
+use sexp_reader::Form;
+
 /// Where an item of a book stands: its number from 0 among the items of the list, and the line and the column of its form, each
 /// from 1.
 #[derive(Clone, Copy, Debug, PartialEq, Eq)]
@@ -7,6 +11,19 @@ pub struct Spot {
     pub item: u64,
     pub line: u32,
     pub column: u32,
+}
+
+impl Spot {
+    /// Where a form stands, which is the item of this number.
+    pub(crate) fn of(item: u64, form: &Form) -> Spot
+        ensures { result ≡ record { item = item; line = form.now.line; column = form.now.column } }
+    {
+        Spot {
+            item,
+            line: form.line,
+            column: form.column,
+        }
+    }
 }
 
 /// What a line of a transcript is of.

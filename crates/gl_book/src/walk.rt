@@ -297,7 +297,7 @@ fn wait(
     match progress.state.note(alloc, &form.tree, &event) {
         Ok(()) => progress.waiting.push(
             alloc,
-            spot_at(number, form),
+            Spot::of(number, form),
             event,
             progress.state.memoized(),
         ),
@@ -323,7 +323,7 @@ fn follow<R: Threads + Sync, G: Gate>(
 {
     match answer_behind(
         run,
-        spot_at(number, form),
+        Spot::of(number, form),
         &event,
         &progress.state,
         &mut progress.waiting,
@@ -406,7 +406,7 @@ fn answer_now<R: Threads + Sync, O: Observer, G: Gate>(
     }
     progress.counts = progress.counts.with(&answer);
     let at = Answered {
-        spot: spot_at(number, form),
+        spot: Spot::of(number, form),
         world: progress.state.world(),
         memoized: progress.state.memoized(),
         event: &event,
@@ -442,17 +442,6 @@ fn ends_phase(event: &Event) -> bool
         event,
         Event::Defun(_) | Event::Clique(_) | Event::Defconst(_, _)
     )
-}
-
-/// Where a form stands, which is the item of this number.
-fn spot_at(number: u64, form: &Form) -> Spot
-    ensures { result ≡ record { item = number; line = form.now.line; column = form.now.column } }
-{
-    Spot {
-        item: number,
-        line: form.line,
-        column: form.column,
-    }
 }
 
 /// A refusal at a form's place.
