@@ -101,13 +101,6 @@ cases_lines names t (whole.Uncased env) = named_line names (codes "UNDECIDED ") 
 cases_lines names t (whole.Cover v) = open_lines names t (codes " cover") v
 cases_lines names t (whole.Case i v) = open_lines names t (codes " case " ++ decimal i) v
 
--- what leaves one undecided: that an input is of no case, or the part of it that is, and its cause
-abbrev pub cases_words : List (List ℕ) → CasesVerdict → List ℕ
-cases_words names (whole.Uncased env) = codes " uncased"
-cases_words names (whole.Cover v) = codes " cover" ++ open_words names v
-cases_words names (whole.Case i v) = (codes " case " ++ decimal i) ++ open_words names v
-cases_words names _ = []
-
 -- ---- definitions
 -- the name of a variable between words
 abbrev pub about : List (List ℕ) → List ℕ → ℕ → List ℕ → List ℕ
@@ -144,13 +137,6 @@ cause_word cause.Memory = codes "memory"
 
 abbrev pub undecided_line : List ℕ → Cause → List ℕ
 undecided_line word c = word ++ (codes " undecided " ++ (cause_word c ++ 10 ∷ []))
-
--- what leaves an event undecided
-abbrev pub undecided_words : List (List ℕ) → Answer → List ℕ
-undecided_words names (answer.Undecided c) = codes " " ++ cause_word c
-undecided_words names (answer.Decided v) = open_words names v
-undecided_words names (answer.ByCases v) = cases_words names v
-undecided_words names _ = []
 
 abbrev pub value_lines : List (List ℕ) → Answer → List (List ℕ)
 value_lines names (answer.Value x) = (codes "VALUE " ++ (printed names x ++ 10 ∷ [])) ∷ []

@@ -8,7 +8,7 @@ ghost use Rattle.event_world.specs.Seen.{event_seen};
 ghost use Rattle.gl_book.specs.Lines.{named_line, input_lines, part_word, open_words, open_input, open_lines};
 ghost use Rattle.gl_book.specs.Lines.{refuted_lines, verdict_lines, cases_lines, redundant_line, defun_line, constant_lines};
 ghost use Rattle.gl_book.specs.Lines.{value_lines, assert_lines, undecided_line, function_lines, mode_line};
-ghost use Rattle.gl_book.specs.Lines.{theorem_lines, by_cases_lines, event_lines, undecided_words as words_of_undecided, cases_words as words_of_cases};
+ghost use Rattle.gl_book.specs.Lines.{theorem_lines, by_cases_lines, event_lines};
 
 use super::answer::{Answer, Cause};
 use super::cases::CasesVerdict;
@@ -311,47 +311,6 @@ fn add_open(
     add_cause(verdict, texts, &mut words)?;
     add_named(alloc, b"UNDECIDED ", name, &words, texts, lines)?;
     add_cause_input(alloc, verdict, texts, lines)
-}
-
-/// The words for what leaves an event undecided, each behind a blank; none where it is decided.
-pub fn undecided_words(alloc: Global, answer: &Answer, texts: &Texts) -> Result<Vec<u8>, NoMemory>
-    ensures { IfOk result (λ v. v.items ≡ words_of_undecided texts.now answer.now) }
-{
-    let mut words = Vec::new(alloc);
-    match answer {
-        Answer::Undecided(cause) => {
-            add_word(b" ", &mut words)?;
-            add_word(cause_word(*cause).as_bytes(), &mut words)?;
-        }
-        Answer::Decided(verdict) => add_cause(verdict, texts, &mut words)?,
-        Answer::ByCases(verdict) => add_cases_words(alloc, verdict, texts, &mut words)?,
-        _ => {}
-    }
-    Ok(words)
-}
-
-/// Adds the words for what leaves a theorem by cases undecided.
-fn add_cases_words(
-    alloc: Global,
-    verdict: &CasesVerdict,
-    texts: &Texts,
-    words: &mut Vec<u8>,
-) -> Result<(), NoMemory>
-    ensures { OnOk result (words.new.items ≡ words.old.items ++ words_of_cases texts.now verdict.now) }
-{
-    match verdict {
-        CasesVerdict::Uncased(_) => add_word(b" uncased", words),
-        CasesVerdict::Cover(verdict) => {
-            add_word(b" cover", words)?;
-            add_cause(verdict, texts, words)
-        }
-        CasesVerdict::Case(number, verdict) => {
-            let part = format!(in alloc; " case {number}")?;
-            add_word(part.as_bytes(), words)?;
-            add_cause(verdict, texts, words)
-        }
-        _ => Ok(()),
-    }
 }
 
 /// Adds the words for what leaves a theorem undecided.

@@ -96,7 +96,7 @@ fn event_words(alloc: Global, fault: EventFault) -> Result<String, NoMemory>
 }
 
 /// What a transcript has for a code.
-pub fn code_words(alloc: Global, code: RefusalCode) -> Result<String, NoMemory>
+fn words(alloc: Global, code: RefusalCode) -> Result<String, NoMemory>
     ensures { IfOk result (λ s. string_bytes s ≡ code_word code) }
 {
     match code {
@@ -118,7 +118,7 @@ pub fn line_of_refusal(alloc: Global, refusal: Refusal) -> Result<Vec<u8>, NoMem
 {
     let line = refusal.line;
     let column = refusal.column;
-    let code = code_words(alloc, refusal.code)?;
+    let code = words(alloc, refusal.code)?;
     let text = format!(in alloc; "REFUSED {line} {column} {code}\n")?;
     Ok(text.as_bytes().to_vec(alloc)?)
 }
