@@ -1,6 +1,6 @@
 #!/usr/bin/env python3
 """Tests of parts: tokens as the reader takes them, indices of auto-bindings as GL's manual has them, the table of measures on the rows
-of definitions in .ci/probes.rows, and the shipped books' functions, as `--check` evaluates them, on values that ACL2 gave."""
+of definitions in tests/probes.rows, and the shipped books' functions, as `--check` evaluates them, on values that ACL2 gave."""
 
 import re
 import sys
@@ -56,7 +56,7 @@ def failures():
 def measure_failures():
     """A definition of one function that states no measure is admitted where the row says so, and not elsewhere."""
     seen = 0
-    for row in re.split(r"(?m)^== ", (HERE.parent.parent / ".ci" / "probes.rows").read_text())[1:]:
+    for row in re.split(r"(?m)^== ", (HERE.parent.parent / "tests" / "probes.rows").read_text())[1:]:
         book = "\n".join(line[1:] for line in row.split("output:")[0].splitlines() if line.startswith("|"))
         lines = [line[1:] for line in row.split("output:")[-1].splitlines() if line.startswith("|")]
         if not row.startswith("admit-") or book.count("(defun") != 1 or "measure" in book or "mutual" in book or not lines:
