@@ -140,6 +140,11 @@ def swapped(count):
     return f"(+ {' '.join(terms)})"
 
 
+def as_pair(formula):
+    """The formula of a value that is the pair of numerator and denominator here where ACL2's is a ratio."""
+    return f"(let ((ratio {formula})) (if (and (rationalp ratio) (not (integerp ratio))) (cons (numerator ratio) (denominator ratio)) ratio))"
+
+
 B, R = "bitops::", "rtl::"
 # Book: function: its arguments, and the package in which ACL2 has it, or the formula that gives its value.
 FUNCTIONS = {
@@ -151,9 +156,12 @@ FUNCTIONS = {
         "rfix": [anything],
         "pos-fix": [anything],
         "int=": [anything, anything],
-        "expt": [rarely(span(-9, 9)), rarely(span(0, 38))],
+        "reciprocal": [as_pair("(/ {0})"), rarely(span(-120, 120))],
+        "natural-expt": ["(expt {0} (nfix {1}))", rarely(span(-9, 9)), rarely(span(-9, 38))],
+        "expt": [as_pair("(expt {0} {1})"), rarely(span(-9, 9)), rarely(span(-38, 38))],
         "expt2": [rarely(span(-120, 126))],
-        "mod-expt": [rarely(span(-99, 99)), span(0, 40), span(1, 10**6)],
+        "natural-mod-expt": ["(mod (expt {0} (nfix {1})) {2})", rarely(span(-99, 99)), rarely(span(-9, 40)), rarely(span(-99, 10**6))],
+        "mod-expt": [as_pair("(mod-expt {0} {1} {2})"), rarely(span(-99, 99)), rarely(span(-12, 40)), rarely(span(-99, 999))],
         "signum": [any_integer],
         "nonnegative-integer-quotient": [nat(90), nat(60)],
         "ceiling": [any_integer, rarely(signed(40))],
