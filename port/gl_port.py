@@ -1,5 +1,5 @@
 #!/usr/bin/env python3
-"""Ports books of ACL2 that use GL into the book language of `gl`. docs/PORTING.md says what it does."""
+"""Ports books of ACL2 that use GL into the book language of `gl`. port/README.md says what it does."""
 
 import argparse
 import os

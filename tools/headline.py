@@ -370,19 +370,17 @@ class Definitions:
 
 # ---- the page of definitions
 def names_on_page():
-    """The names in `code` on the page of definitions, each with the crate of its section, up to the table of the others."""
+    """The names in `code` on the page of definitions, each with the crate of its section."""
     crates, crate = crates_below(), None
     for line in (TOP / PAGE).read_text().splitlines():
         if line.startswith("#"):
             crate = next((it for it in CODE.findall(line) if it in crates), None)
-        if line.startswith("| crate"):
-            return
         for word in CODE.findall(line):
             yield crate, word
 
 
 def index_rows(definitions):
-    """The rows of the table of those that the page does not explain: crate, module, names."""
+    """The rows of tests/definitions.rows, of those that the page does not explain: crate, module, names."""
     said = set(names_on_page())
     rows = []
     for crate, module, _, units in definitions.in_order():
