@@ -1,4 +1,5 @@
-use Rattle.std.proofs.Common.{rules, ◌++◌, ℤ, subst}
+use Rattle.std.proofs.Common.{◌++◌, ◌∙◌, ℤ, subst}
+use Rattle.std.proofs.Math.Facts.{to_z-of_z}
 use Rattle.std.specs.Prelude.{codes}
 use Rattle.explain_report.specs.Bases.{PutsInBases}
 use Rattle.explain_report.specs.Said.{Says}
@@ -8,6 +9,5 @@ use Rattle.explain_report.proofs.bases.put_cells.Goals as goal
 pub returns : goal.returns
 returns c =
     let text = c.args.text.now in
-    let bases : Says (PutsInBases c.args.integer (text ++ codes "</td><td>#x") (codes "</td><td>#b")) c.text.new.self c.put_in_both.new.report = search rules in
     in_cells text c.args.report.now c.text.new.self c.put_in_both.new.report c.text-2.new.self c.text.ensures
-    (subst (λ (z : ℤ). Says (PutsInBases z (text ++ codes "</td><td>#x") (codes "</td><td>#b")) c.text.new.self c.put_in_both.new.report) c.requires bases) c.text-2.ensures
+    (subst (λ (z : ℤ). Says (PutsInBases z (text ++ codes "</td><td>#x") (codes "</td><td>#b")) c.text.new.self c.put_in_both.new.report) (to_z-of_z c.ranges.integer.sfits ∙ c.requires) c.put_in_both.ensures) c.text-2.ensures
