@@ -3,7 +3,8 @@
 ; binary32, binary64, (bf) is bfloat16 and (ep) the extended format of 80 bits, whose leading bit is written.
 ;
 ; x is an encoding of f: a natural number below 2^(1 + expw + sigw). The classes are NIL of what is none. The fields of what is
-; none are those of the bits that are there. A value as a number is no part of this book, since the universe has no ratios.
+; none are those of the bits that are there. A value as a number is no part of this book, since the universe has no ratios. The bias
+; of an exponent without bits is a ratio in ACL2, as -1/2, and the pair of its numerator and denominator here, as (-1 . 2).
 
 (include-book "books/rtl")
 
@@ -26,7 +27,11 @@
 (defun prec (f) (cadr f))
 (defun expw (f) (caddr f))
 (defun sigw (f) (if (explicitp f) (prec f) (- (prec f) 1)))
-(defun bias (f) (logmask (- (expw f) 1)))
+(defun bias (f)
+  (if (posp (expw f))
+      (logmask (- (expw f) 1))
+    (let ((below (ash 1 (- 1 (ifix (expw f))))))
+      (cons (- 1 below) below))))
 
 (defun encodingp (x f)
   (and (formatp f)
@@ -86,7 +91,9 @@
 ; ---- encodings: a zero and an infinity of a sign, a NaN made quiet
 (defun zencode (sgn f) (ash (loghead 1 sgn) (+ (sigw f) (expw f))))
 (defun iencode (sgn f)
-  (logior (ash (loghead 1 sgn) (+ (expw f) (sigw f)))
-          (ash (greatest-expf f) (sigw f))
-          (if (explicitp f) (ash 1 (- (sigw f) 1)) 0)))
+  (let* ((below (if (explicitp f) (binary-cat 1 1 0 (- (sigw f) 1)) 0))
+         (size (if (explicitp f) (+ 1 (- (sigw f) 1)) (sigw f))))
+    (binary-cat sgn 1
+                (binary-cat (greatest-expf f) (expw f) below size)
+                (+ (expw f) size))))
 (defun qnanize (x f) (logior x (ash 1 (- (prec f) 2))))

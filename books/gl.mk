@@ -9,31 +9,37 @@
 #     make gl-clean         removes what was made
 #
 # The transcript of sub/a.lisp is sub/a.out. A book that fails leaves no sub/a.out, but its transcript as sub/a.failed, and the
-# books that include it are not run. Names in include-book forms count from the folder that make runs in.
+# books that include it are not run. Names in include-book forms count from the folder that make runs in. A book that includes a
+# text which is not there fails, and so does one that has a blank in its name: make knows no such names.
 
 GL ?= gl
 # The books: all below this folder, where nothing else is said.
-GL_BOOKS ?= $(patsubst ./%,%,$(shell find . -name '*.lisp' | sort))
+GL_BOOKS ?= $(patsubst ./%,%,$(shell find . -name '*.lisp' ! -path '*[[:blank:]]*' | sort))
+GL_BLANKS = find . -name '*.lisp' -path '*[[:blank:]]*'
 # Options for each run, as --nodes 4000000.
 GL_FLAGS ?=
 # A book with a vacuous theorem fails, and so does one with an undecided theorem, value or assert. Say `vacuous`, `undecided`, or
 # both, to let them pass. What is refuted or NIL, and a book that is refused, always fails.
 GL_ALLOWS ?=
 
-.PHONY: gl-all gl-books gl-summary gl-clean
+.PHONY: gl-all gl-books gl-blanks gl-again gl-summary gl-clean
 .SUFFIXES:
 
 gl-all:
 	+@$(MAKE) --no-print-directory -k gl-books; status=$$?; $(MAKE) --no-print-directory gl-summary; exit $$status
 
-gl-books: $(GL_BOOKS:.lisp=.out)
+gl-books: $(GL_BOOKS:.lisp=.out) gl-blanks
 	@:
+
+gl-blanks:
+	@! $(GL_BLANKS) | sed 's|^\./||; s|\.lisp$$|: FAILED, a blank in its name|' | grep . >&2
 
 # The transcript goes to a file of another name, which is renamed once it is whole and has passed.
 %.out: %.lisp
 	@rm -f $@ $*.failed; $(GL) $(GL_FLAGS) $< >$@.new; status=$$?; why=; \
 	case $$status in \
 	0) ;; \
+	4) why="$(if $(gl_lacks),there is no $(gl_lacks),status 4)"; echo "$$why" >$@.new ;; \
 	1) why=refuted ;; \
 	2) why=refused ;; \
 	3) case " $(GL_ALLOWS) " in *" undecided "*) ;; *) why=undecided ;; esac ;; \
@@ -49,18 +55,29 @@ gl-books: $(GL_BOOKS:.lisp=.out)
 
 # What a transcript stands on, by the forms (include-book "s") that stand on a line of their own: the transcript of s where s is
 # one of the books, else the text of s and what that includes. Each text has an empty rule, so that one that is gone stops nothing.
+# A text that is not there is told to the book's rule, and the book is run each time; once it is there, all this is made anew.
 define gl_includes
 function walk(out, name,   line, part, text) {
     if ((out, name) in seen) return
     seen[out, name] = 1
+    if ((getline line < name) < 0) {
+        print out ": gl-again"
+        print out ": gl_lacks += " name
+        print "ifneq ($$(wildcard " name "),)"
+        print ".gl-includes.mk: gl-again"
+        print "endif"
+        return
+    }
+    close(name)
     print ".gl-includes.mk: " name
+    print out ": " name
     print name ":"
     while ((getline line < name) > 0)
         if (tolower(line) ~ /^[ \t]*\(include-book[ \t]+"[^" \t]+"[ \t]*\)/) {
             split(line, part, "\"")
             text = part[2] ".lisp"
-            print out ": " (text in own ? part[2] ".out" : text)
-            if (!(text in own)) walk(out, text)
+            if (text in own) print out ": " part[2] ".out"
+            else walk(out, text)
         }
     close(name)
 }
@@ -82,14 +99,24 @@ ifeq ($(filter gl-clean gl-summary,$(MAKECMDGOALS)),)
 include .gl-includes.mk
 endif
 
-# One line for each book that failed, one for each that was not run, and the sums of the last lines of all that passed.
+# One line for each book that failed, with what it failed by first, or else its last line; one for each that was not run; and the
+# sums of the last lines of all that passed. A book that fails by what is undecided alone counts as undecided, and so does what is
+# undecided in it.
 gl-summary:
-	@for book in $(GL_BOOKS:.lisp=); do \
-	if [ -f $$book.failed ]; then echo "failed: $$book: $$(grep -m 1 -e ^REFUSED -e ^REFUTED -e '^ASSERT nil' -e UNDECIDED -e undecided -e ^VACUOUS $$book.failed)"; \
+	@{ for book in $(GL_BOOKS:.lisp=); do \
+	if [ -f $$book.failed ]; then \
+	why=$$(grep -m 1 -e ^REFUSED -e ^REFUTED -e '^ASSERT nil' $$book.failed) && echo "failed: $$book: $$why" || \
+	{ why=$$(grep -m 1 -e ^UNDECIDED -e '^ASSERT undecided' -e '^VALUE undecided' $$book.failed) && echo "undecided: $$book: $$why" && \
+	tail -n 1 $$book.failed | sed 's/^DONE .*=/more undecided=/'; } || \
+	echo "failed: $$book: $$(grep -m 1 ^VACUOUS $$book.failed || tail -n 1 $$book.failed)"; \
 	elif ! [ -f $$book.out ]; then echo "not run: $$book"; \
-	else tail -n 1 $$book.out; fi; done | awk -F '[ =]' '!/^DONE / { print; if (/^failed/) failed++; else left++; next } \
+	else tail -n 1 $$book.out; fi; done; \
+	$(GL_BLANKS) | sed 's|^\./|failed: |; s|\.lisp$$|: a blank in its name|'; } | awk -F '[ =]' \
+	'/^more / { undecided += $$3; next } \
+	!/^DONE / { print; if (/^failed/) failed++; else if (/^undecided/) open++; else left++; next } \
 	{ passed++; proved += $$3; vacuous += $$5; refuted += $$7; undecided += $$9 } \
-	END { printf "books: %d passed, %d failed, %d not run; theorems: %d proved, %d vacuous; undecided %d\n", passed, failed, left, proved, vacuous, undecided }'
+	END { printf "books: %d passed, %d failed, %s%d not run; theorems: %d proved, %d vacuous; undecided %d\n", \
+	passed, failed, open ? open " undecided, " : "", left, proved, vacuous, undecided }'
 
 gl-clean:
 	@rm -f .gl-includes.mk $(GL_BOOKS:.lisp=.out) $(GL_BOOKS:.lisp=.failed)

@@ -1,5 +1,8 @@
 ; Lists, under the names and with the values of ACL2 8.5 and its books std/lists and std/alists. The forms with -eq at
 ; their ends are those with -equal, as they are in ACL2's logic; `member` is a macro of the language, and these are functions.
+;
+; The letters of strings and symbols cannot be looked at in the book language. Where ACL2's value depends on them, it is an integer
+; too wide for a value here, (ash 1 127), so that nothing is decided by it: the verdict is undecided, width.
 
 ; ---- kinds of lists
 (defun listp (x) (or (consp x) (equal x nil)))
@@ -55,8 +58,11 @@
   (if (endp x) y (revappend (cdr x) (cons (car x) y))))
 (defun rev (x)
   (if (consp x) (append (rev (cdr x)) (list (car x))) nil))
-; `reverse` of a list. ACL2's reverses strings too; a string here is no list, and gives NIL.
-(defun reverse (x) (revappend x nil))
+; `reverse` of a list; that of a string depends on its letters, but for the empty one.
+(defun reverse (x)
+  (cond ((not (stringp x)) (revappend x nil))
+        ((equal x "") x)
+        (t (ash 1 127))))
 (defun repeat (n x)
   (if (zp n) nil (cons x (repeat (- n 1) x))))
 (defun make-list-ac (n val ac)
@@ -124,10 +130,13 @@
   (if (endp l)
       nil
     (if (equal x (car l))
-        n
+        (ifix n)
       (position-equal-ac x (cdr l) (+ 1 n)))))
-; The place of x in a list, from 0, or NIL. ACL2's looks into strings too.
-(defun position-equal (x l) (position-equal-ac x l 0))
+; The place of x in a list, from 0, or NIL; that of a character in a string depends on its letters, but for the empty one.
+(defun position-equal (x l)
+  (if (and (stringp l) (characterp x) (not (equal l "")))
+      (ash 1 127)
+    (position-equal-ac x l 0)))
 (defun duplicity (x l)
   (if (atom l)
       0
@@ -173,17 +182,25 @@
         (cdr alist)
       (cons (car alist) (remove1-assoc-equal key (cdr alist))))))
 
-; ---- the order of objects: of atoms, and of all. The letters of strings and symbols cannot be compared here: two strings, and two
-; symbols other than T and NIL, are in order only where they are equal. All else has ACL2's order.
+; ---- the order of objects: of atoms, and of all. That of two different strings, and of two different symbols other than T and NIL,
+; depends on their letters. Two conses, which are no atoms, are in no order of atoms.
 (defun alphorder (x y)
   (cond ((integerp x) (if (integerp y) (<= x y) t))
         ((integerp y) nil)
         ((characterp x)
          (if (characterp y) (<= (char-code x) (char-code y)) t))
         ((characterp y) nil)
-        ((stringp x) (if (stringp y) (equal x y) t))
+        ((stringp x)
+         (cond ((not (stringp y)) t)
+               ((or (equal x y) (equal x "")) t)
+               ((equal y "") nil)
+               (t (ash 1 127))))
         ((stringp y) nil)
-        (t (if (equal x nil) (booleanp y) (equal x y)))))
+        ((symbolp x)
+         (cond ((or (consp y) (equal x y)) t)
+               ((and (booleanp x) (booleanp y)) (equal y t))
+               (t (ash 1 127))))
+        (t nil)))
 (defun lexorder (x y)
   (cond ((atom x) (if (atom y) (alphorder x y) t))
         ((atom y) nil)

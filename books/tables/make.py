@@ -140,6 +140,11 @@ def swapped(count):
     return f"(+ {' '.join(terms)})"
 
 
+def as_pair(formula):
+    """The formula of a value that is the pair of numerator and denominator here where ACL2's is a ratio."""
+    return f"(let ((ratio {formula})) (if (and (rationalp ratio) (not (integerp ratio))) (cons (numerator ratio) (denominator ratio)) ratio))"
+
+
 B, R = "bitops::", "rtl::"
 # Book: function: its arguments, and the package in which ACL2 has it, or the formula that gives its value.
 FUNCTIONS = {
@@ -151,9 +156,12 @@ FUNCTIONS = {
         "rfix": [anything],
         "pos-fix": [anything],
         "int=": [anything, anything],
-        "expt": [rarely(span(-9, 9)), rarely(span(0, 38))],
+        "reciprocal": [as_pair("(/ {0})"), rarely(span(-120, 120))],
+        "natural-expt": ["(expt {0} (nfix {1}))", rarely(span(-9, 9)), rarely(span(-9, 38))],
+        "expt": [as_pair("(expt {0} {1})"), rarely(span(-9, 9)), rarely(span(-38, 38))],
         "expt2": [rarely(span(-120, 126))],
-        "mod-expt": [rarely(span(-99, 99)), span(0, 40), span(1, 10**6)],
+        "natural-mod-expt": ["(mod (expt {0} (nfix {1})) {2})", rarely(span(-99, 99)), rarely(span(-9, 40)), rarely(span(-99, 10**6))],
+        "mod-expt": [as_pair("(mod-expt {0} {1} {2})"), rarely(span(-99, 99)), rarely(span(-12, 40)), rarely(span(-99, 999))],
         "signum": [any_integer],
         "nonnegative-integer-quotient": [nat(90), nat(60)],
         "ceiling": [any_integer, rarely(signed(40))],
@@ -241,13 +249,13 @@ FUNCTIONS = {
         "remove-duplicates-equal": [a_list],
         "no-duplicatesp-equal": [a_list],
         **{it: [a_list, a_list] for it in "subsetp-equal union-equal intersection-equal set-difference-equal pairlis$".split()},
-        "position-equal-ac": [element, a_list, span(0, 9)],
+        "position-equal-ac": [element, a_list, rarely(span(0, 9), 0.2)],
         "acons": [element, element, alist],
         **{it: [element, alist] for it in "assoc assoc-eq rassoc-equal remove-assoc-equal remove1-assoc-equal".split()},
         "strip-cars": [alist],
         "strip-cdrs": [alist],
         "put-assoc-equal": [element, element, alist],
-        "alphorder": [one_of(*ORDERED), one_of(*ORDERED)],
+        "alphorder": [one_of(*ORDERED, "'(1 2)", "'(t . 3)"), one_of(*ORDERED, "'(1 2)", "'(t . 3)")],
         "lexorder": [ordered, ordered],
     },
     "words": {
@@ -302,12 +310,13 @@ FUNCTIONS = {
     "float": {
         **{it: [R] for it in "hp sp dp bf ep".split()},
         "formatp": [R, one_of(*FORMATS, *ODD, *[f"'({e} {p} {w})" for e in ("t", "nil") for p in range(-1, 9) for w in range(-1, 11)])],
-        **{it: [R, one_of(*FORMATS, *[f"'({e} {p} {w})" for e in ("t", "nil") for p in range(2, 14) for w in range(2, 14)])] for it in "explicitp prec expw sigw bias".split()},
+        **{it: [R, one_of(*FORMATS, *[f"'({e} {p} {w})" for e in ("t", "nil") for p in range(2, 14) for w in range(2, 14)])] for it in "explicitp prec expw sigw".split()},
+        "bias": [as_pair("(rtl::bias {0})"), one_of(*FORMATS, *ODD, *[f"'(nil {p} {w})" for p in range(2, 14) for w in ("a", "nil", *range(-4, 14))])],
         "greatest-expf": ["(1- (expt 2 (rtl::expw {0})))", one_of(*FORMATS, *[f"'({e} {p} {w})" for e in ("t", "nil") for p in range(2, 14) for w in range(2, 14)])],
         "leading-bit": ["(rtl::bitn {0} (1- (rtl::prec {1})))", encoding],
         **{it: [R, encoding] for it in "encodingp sgnf expf sigf manf unsupp zerp denormp pseudop normp infp nanp qnanp snanp qnanize".split()},
         "zencode": [R, one_of("0", "1"), one_of(*FORMATS, *[f"'({e} {p} {w})" for e in ("t", "nil") for p in range(2, 14) for w in range(2, 14)])],
-        "iencode": [R, one_of("0", "1"), one_of(*FORMATS, *[f"'({e} {p} {w})" for e in ("t", "nil") for p in range(2, 14) for w in range(2, 14)])],
+        "iencode": [R, rarely(one_of("0", "1")), one_of(*FORMATS, *ODD, *[f"'({e} {p} {w})" for e in ("t", "nil") for p in range(-2, 14) for w in range(-2, 14)])],
     },
 }
 

@@ -32,6 +32,23 @@
               (equal (mod-expt x 3 16) (mod (expt x 3) 16)))
   :g-bindings (auto-bindings (:int x 5)))
 
+; Below 0 a power is a pair where it is no integer: no integer, and another for each exponent.
+(def-gl-thm powers-below-0
+  :hyp (and (unsigned-byte-p 3 n) (unsigned-byte-p 3 k))
+  :concl (and (iff (integerp (expt 2 (- n 4))) (<= 4 n))
+              (iff (equal (expt 2 (- n 4)) (expt 2 (- k 4))) (equal n k))
+              (equal (integerp (mod-expt 2 (- n 4) 3)) (integerp (expt 2 (- n 4))))
+              (equal (expt -1 (- n 4)) (if (evenp n) 1 -1))
+              (equal (expt 0 (- n 4)) (if (equal n 4) 1 0)))
+  :g-bindings (auto-bindings (:nat n 3) (:nat k 3)))
+
+(def-gl-thm reciprocals-of-units
+  :hyp (signed-byte-p 4 x)
+  :concl (and (iff (integerp (reciprocal x)) (<= (abs x) 1))
+              (equal (natural-expt (reciprocal (expt 2 -3)) 2) 0)
+              (equal (natural-mod-expt x 3 7) (mod (natural-expt x 3) 7)))
+  :g-bindings (auto-bindings (:int x 4)))
+
 (def-gl-thm sign-times-size
   :hyp (signed-byte-p 16 x)
   :concl (equal (* (signum x) (abs x)) x)

@@ -7,6 +7,7 @@ ghost use Rattle.sexp_reader.specs.declared.list.Form.{Form as FormSeen};
 ghost use Rattle.book_shelf.specs.declared.finish.ShelfCode.TheVariants as code;
 ghost use Rattle.book_shelf.specs.Included.{included as included_meant, is_book_name, text_named};
 ghost use Rattle.book_shelf.specs.Flat.{IsFlat, Rest, is_among, most_texts};
+ghost use Rattle.book_shelf.specs.Reached.{MayLoad, MayFollow};
 ghost use Rattle.book_shelf.specs.Loads.{Goes, IsCounted, IsNumberedForm, Loads, LoadsBook};
 ghost use Rattle.book_shelf.specs.NumberedItems.{IsNumberedItem};
 ghost use Rattle.gl_logic.specs.Every.{Every};
@@ -43,6 +44,8 @@ pub fn load<S: Shelf>(
     name: &str,
     texts: &mut Texts,
 ) -> Result<Library, LoadEnd>
+    // It opens no text but the book's own and those that are included from there.
+    requires { MayLoad S.may_open (S.holds shelf.old) name.now }
     ensures flat { IfOk result (λ library. IsFlat texts.old texts.new (S.holds shelf.old) name.now library.items library.finish) }
     ensures numbered { IfOk result (λ library. Every (IsNumberedItem (length texts.new)) library.items) }
     ensures texts { Extends texts.old texts.new }
@@ -72,6 +75,7 @@ fn load_book<S: Shelf>(
 ) -> Result<Finish, LoadEnd>
     requires room { length loading.old.taken < most_texts }
     requires untaken { is_among name.now loading.old.taken ≡ false }
+    requires may { MayLoad S.may_open (S.holds shelf.old) name.now }
     ensures lists { IfOk result (λ end. LoadsBook texts.old texts.new (S.holds shelf.old) loading.old.around loading.old.taken loading.old.items name.now loading.new.taken loading.new.items end) }
     ensures around { OnOk result (loading.new.around ≡ loading.old.around) }
     ensures texts { Extends texts.old texts.new }
@@ -104,7 +108,8 @@ fn load_forms<S: Shelf>(
     texts: &mut Texts,
     loading: &mut Loading,
 ) -> Result<Finish, LoadEnd>
-    requires { AllByRecursion (IsNumberedForm (length texts.old)) forms.list }
+    requires numbered { AllByRecursion (IsNumberedForm (length texts.old)) forms.list }
+    requires may { AllByRecursion (MayFollow S.may_open (S.holds shelf.old) texts.old) forms.list }
     ensures lists { IfOk result (λ end. Loads texts.new (S.holds shelf.old) loading.old.around loading.old.taken loading.old.items (Rest forms.list forms.end) loading.new.taken loading.new.items end) }
     ensures around { OnOk result (loading.new.around ≡ loading.old.around) }
     ensures texts { Extends texts.old texts.new }
@@ -129,7 +134,8 @@ fn load_form<S: Shelf>(
     texts: &mut Texts,
     loading: &mut Loading,
 ) -> Result<Option<Finish>, LoadEnd>
-    requires { IsNumberedForm (length texts.old) form }
+    requires numbered { IsNumberedForm (length texts.old) form }
+    requires may { MayFollow S.may_open (S.holds shelf.old) texts.old form }
     ensures goes { IfOk result (λ end. Goes texts.new (S.holds shelf.old) loading.old.around loading.old.taken loading.old.items form loading.new.taken loading.new.items end) }
     ensures around { OnOk result (loading.new.around ≡ loading.old.around) }
     ensures texts { Extends texts.old texts.new }
@@ -163,6 +169,7 @@ fn include<S: Shelf>(
 ) -> Result<Option<Finish>, LoadEnd>
     requires number { book.number < length texts.old }
     requires name { is_book_name (text_of texts.old book.number) ≡ true }
+    requires may { MayLoad S.may_open (S.holds shelf.old) (text_named texts.old book.number) }
     ensures goes { IfOk result (λ end. (form : FormSeen) → included_meant texts.old form.tree ≡ Some book.number → form.line ≡ line → form.column ≡ column → IsNumbered (length texts.old) form.tree
         → Goes texts.new (S.holds shelf.old) loading.old.around loading.old.taken loading.old.items form loading.new.taken loading.new.items end) }
     ensures around { OnOk result (loading.new.around ≡ loading.old.around) }

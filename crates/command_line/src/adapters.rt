@@ -1,6 +1,8 @@
 //! The outside as the program meets it: real files, and standard output.
 
-ghost use Rattle.std.specs.Prelude.{◌≡◌, ◌≤◌, ◌<◌, length, None, false, IfOk};
+ghost use Rattle.std.specs.Prelude.{◌≡◌, ◌≤◌, ◌<◌, length, None, is_some, IfOk};
+ghost use Rattle.std.specs.Io.KnownBytes.{ReadConsumes, WriteAppends};
+ghost use Rattle.command_line.specs.Adapters.{left};
 
 use gl_base::failed::Failed;
 use gl_base::shelf::Shelf;
@@ -10,7 +12,8 @@ use std::io::{ErrorKind, Read, Write};
 use std::marker::Model;
 use std::rt::Files;
 
-/// Files by their paths. It tells no bytes. Contracts see whether a file is open, and the count of faults.
+/// Files by their paths. Nothing is told of what a path names; what is left of the open file is what the standard library tells
+/// of it. Contracts see the open file, and the count of faults.
 #[derive(Drop)]
 pub struct FileShelf<'a, R: Files> {
     rt: &'a R,
@@ -19,18 +22,17 @@ pub struct FileShelf<'a, R: Files> {
 }
 
 impl<'a, R: Files> Model for FileShelf<'a, R> {
-    ghost use Rattle.std.specs.Prelude.{is_some};
     ghost use Rattle.command_line.specs.Adapters.{FilesSeen};
 
-    ghost Value = { FilesSeen };
+    ghost Value = { FilesSeen R.File };
 
-    ghost view = { λ s. record { is_open = is_some s.file; faults = s.faults } };
+    ghost view = { λ s. record { file = s.file; faults = s.faults } };
 }
 
 impl<'a, R: Files> FileShelf<'a, R> {
     /// No file is open.
     pub fn new(rt: &'a R) -> FileShelf<'a, R>
-        ensures { result ≡ record { is_open = false; faults = 0 } }
+        ensures { result ≡ record { file = None; faults = 0 } }
     {
         FileShelf {
             rt,
@@ -41,11 +43,13 @@ impl<'a, R: Files> FileShelf<'a, R> {
 }
 
 impl<'a, R: Files> Shelf for FileShelf<'a, R> {
+    ghost may_open = { λ _. Unit {0} };
+
     ghost holds = { λ _ _. None };
 
-    ghost rest = { λ _. None };
+    ghost rest = { λ s. left R.File.remaining s.file };
 
-    ghost is_open = { λ s. s.is_open };
+    ghost is_open = { λ s. is_some s.file };
 
     ghost faults = { λ s. s.faults };
 
@@ -79,7 +83,8 @@ impl<'a, R: Files> Shelf for FileShelf<'a, R> {
 
 /// Reads once more where a signal came between. Each other error is a fault.
 pub fn read_some<F: Read>(file: &mut F, buf: &mut [u8]) -> Result<usize, Failed>
-    ensures { IfOk result (λ n. n ≤ length buf.new) }
+    ensures within { IfOk result (λ n. n ≤ length buf.new) }
+    ensures given { ReadConsumes (F.remaining file.old) (F.remaining file.new) result buf.new }
 {
     for _ in 0..u64::MAX {
         match file.read(buf) {
@@ -94,7 +99,8 @@ pub fn read_some<F: Read>(file: &mut F, buf: &mut [u8]) -> Result<usize, Failed>
     Err(Failed)
 }
 
-/// A writer, such as standard output. It tells no bytes. Contracts see the writer, and the count of faults.
+/// A writer, such as standard output. It tells the bytes that the writer tells. Contracts see the writer, and the count of
+/// faults.
 #[derive(Drop)]
 pub struct WriterSink<W: Write + Drop> {
     writer: W,
@@ -126,7 +132,7 @@ impl<W: Write + Drop> WriterSink<W> {
 }
 
 impl<W: Write + Drop> Sink for WriterSink<W> {
-    ghost written = { λ _. None };
+    ghost written = { λ s. W.contents s.writer };
 
     ghost faults = { λ s. s.faults };
 
@@ -153,7 +159,8 @@ impl<W: Write + Drop> Sink for WriterSink<W> {
 
 /// Writes once more where a signal came between. Each other error is a fault, and so is a write that takes nothing.
 fn write_some<W: Write>(writer: &mut W, piece: &[u8]) -> Result<usize, Failed>
-    ensures { IfOk result (λ n. (0 < n) × (n ≤ length piece.now)) }
+    ensures within { IfOk result (λ n. (0 < n) × (n ≤ length piece.now)) }
+    ensures taken { WriteAppends (W.contents writer.old) (W.contents writer.new) result piece.now }
 {
     for _ in 0..u64::MAX {
         match writer.write(piece) {

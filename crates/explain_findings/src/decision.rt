@@ -1,5 +1,8 @@
 //! What comes of theorems that are asked.
 
+ghost use Rattle.std.specs.Prelude.{◌≡◌, IfOk};
+ghost use Rattle.explain_findings.specs.Told.{IsTold, IsTruthTold, AreCasesTold, IsAnswerTold};
+
 use crate::forms::printed;
 use crate::values::word_of;
 use explain_report::Report;
@@ -53,14 +56,18 @@ fn lines_of(alloc: Global, texts: &Texts, inputs: &Inputs) -> Result<Vec<Vec<u8>
     Ok(lines)
 }
 
-fn decided(alloc: Global, outcome: Outcome) -> Decision {
+fn decided(alloc: Global, outcome: Outcome) -> Decision
+    ensures { result.outcome ≡ outcome }
+{
     Decision {
         outcome,
         inputs: Vec::new(alloc),
     }
 }
 
-fn refuted(alloc: Global, texts: &Texts, inputs: &Inputs) -> Result<Decision, NoMemory> {
+fn refuted(alloc: Global, texts: &Texts, inputs: &Inputs) -> Result<Decision, NoMemory>
+    ensures { IfOk result (λ d. d.outcome ≡ Outcome.Refuted) }
+{
     Ok(Decision {
         outcome: Outcome::Refuted,
         inputs: lines_of(alloc, texts, inputs)?,
@@ -86,7 +93,9 @@ fn decision_of_verdict(
     alloc: Global,
     texts: &Texts,
     verdict: &Verdict,
-) -> Result<Decision, NoMemory> {
+) -> Result<Decision, NoMemory>
+    ensures { IfOk result (λ d. IsTold verdict.now d.outcome) }
+{
     match verdict {
         Verdict::Proved => Ok(decided(alloc, Outcome::Proved)),
         Verdict::Vacuous => Ok(decided(alloc, Outcome::Vacuous)),
@@ -99,7 +108,9 @@ fn decision_of_cases(
     alloc: Global,
     texts: &Texts,
     verdict: &CasesVerdict,
-) -> Result<Decision, NoMemory> {
+) -> Result<Decision, NoMemory>
+    ensures { IfOk result (λ d. AreCasesTold verdict.now d.outcome) }
+{
     match verdict {
         CasesVerdict::Proved => Ok(decided(alloc, Outcome::Proved)),
         CasesVerdict::Vacuous => Ok(decided(alloc, Outcome::Vacuous)),
@@ -111,7 +122,9 @@ fn decision_of_cases(
     }
 }
 
-fn truth(holds: bool) -> Outcome {
+fn truth(holds: bool) -> Outcome
+    ensures { IsTruthTold holds result }
+{
     if holds {
         Outcome::Proved
     } else {
@@ -119,7 +132,10 @@ fn truth(holds: bool) -> Outcome {
     }
 }
 
-fn decision_of_answer(alloc: Global, texts: &Texts, answer: &Answer) -> Result<Decision, NoMemory> {
+fn decision_of_answer(alloc: Global, texts: &Texts, answer: &Answer) -> Result<Decision, NoMemory>
+    // What is told is what was answered.
+    ensures { IfOk result (λ d. IsAnswerTold answer.now d.outcome) }
+{
     match answer {
         Answer::Decided(verdict) => decision_of_verdict(alloc, texts, verdict),
         Answer::ByCases(verdict) => decision_of_cases(alloc, texts, verdict),

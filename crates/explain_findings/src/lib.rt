@@ -9,7 +9,7 @@
 //! - of what is undecided: `attempts` at `trials`, by `theorem_text` and `reordered` bindings, with a `stopwatch`;
 //! - `advice`, what a verdict means and what to try; `findings`, all that is said of a line.
 //!
-//! Tests: .ci/explain, through the built program.
+//! Tests: tests/explain, through the built program.
 #![tactic(auto)]
 
 mod advice;

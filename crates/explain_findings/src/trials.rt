@@ -1,5 +1,7 @@
 //! What may decide an event that is left undecided, in the order that costs least.
 
+ghost use Rattle.std.specs.Prelude.{◌≡◌, true, false};
+
 use crate::forms::form_text;
 use crate::reordered::{mixed, narrow_first, narrowed, narrowed_hypothesis};
 use crate::theorem_text::{Theorem, by_cases, changed, theorem_of, without_clocks};
@@ -20,6 +22,34 @@ pub(crate) struct Trial {
     pub is_hint: bool,
 }
 
+impl Trial {
+    /// The event itself, or one that says the same: what is found out is an answer to it.
+    fn same(change: Vec<u8>, text: Vec<u8>, mode: Option<Mode>, limits: Limits) -> Trial
+        ensures { result.is_hint ≡ false }
+    {
+        Trial {
+            change,
+            text,
+            mode,
+            limits,
+            is_hint: false,
+        }
+    }
+
+    /// A theorem of narrower widths, whose hypothesis says more.
+    fn narrower(change: Vec<u8>, text: Vec<u8>, limits: Limits) -> Trial
+        ensures { result.is_hint ≡ true }
+    {
+        Trial {
+            change,
+            text,
+            mode: None,
+            limits,
+            is_hint: true,
+        }
+    }
+}
+
 /// Trials in their order, of an event under limits.
 #[derive(Drop)]
 pub(crate) struct Ladder {
@@ -32,13 +62,8 @@ pub(crate) struct Ladder {
 impl Ladder {
     /// Adds another text.
     fn push_text(&mut self, change: Vec<u8>, text: Vec<u8>) -> Result<(), NoMemory> {
-        self.trials.push(Trial {
-            change,
-            text,
-            mode: None,
-            limits: self.limits,
-            is_hint: false,
-        })?;
+        self.trials
+            .push(Trial::same(change, text, None, self.limits))?;
         Ok(())
     }
 
@@ -49,13 +74,9 @@ impl Ladder {
         mode: Option<Mode>,
         limits: Limits,
     ) -> Result<(), NoMemory> {
-        self.trials.push(Trial {
-            change: words.as_bytes().to_vec(self.alloc)?,
-            text: self.event.clone()?,
-            mode,
-            limits,
-            is_hint: false,
-        })?;
+        let change = words.as_bytes().to_vec(self.alloc)?;
+        let text = self.event.clone()?;
+        self.trials.push(Trial::same(change, text, mode, limits))?;
         Ok(())
     }
 
@@ -118,13 +139,8 @@ impl Ladder {
     fn push_narrowed(&mut self, theorem: &Theorem) -> Result<(), NoMemory> {
         let bindings = narrowed(self.alloc, &theorem.bound)?;
         let text = narrowed_text(self.alloc, theorem, &bindings)?;
-        self.trials.push(Trial {
-            change: bindings,
-            text,
-            mode: None,
-            limits: self.limits,
-            is_hint: true,
-        })?;
+        self.trials
+            .push(Trial::narrower(bindings, text, self.limits))?;
         Ok(())
     }
 

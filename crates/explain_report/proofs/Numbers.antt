@@ -1,11 +1,12 @@
 -- Digits of a number that are put one after another.
 use Rattle.std.proofs.Common.{◌≡◌, ◌∙◌, ap, ℕ, ◌+◌, ◌*◌, ◌/◌, ◌%◌, ◌<◌, ◌≤◌, List, [], ◌∷◌, ◌++◌, append_assoc, div-add-mod', length, arith, Option, Some, None, subst, ℤ}
-use Rattle.std.specs.Prelude.{unsigned_abs}
+use Rattle.std.specs.Prelude.{codes, unsigned_abs}
+use Rattle.std.specs.Str.Parse.{signed_digits_value}
 use Rattle.std.proofs.lemmas.Nat.{mod_below}
 use Rattle.std.proofs.Math.Nat.{mod-eq_of_lt}
 use Rattle.std.specs.Char.{digit_value}
 use Rattle.std.proofs.lemmas.Int.Digits.{digits_value_push, digits_push}
-use Rattle.explain_report.specs.Bases.{PutsNumber, PutsInBases, minus, hexadecimal_mark, binary_mark}
+use Rattle.explain_report.specs.Bases.{PutsNumber, PutsInBases, PutsCells, minus}
 use Rattle.explain_report.specs.Said.{Says, Adds}
 
 some : (xs : List ℕ) (x : ℕ) → 0 < length (xs ++ x ∷ [])
@@ -51,22 +52,36 @@ digit_alone base n d old None small v e = tt
 digit_alone base n d None (Some b) small v e = absurd e
 digit_alone base n d (Some a) (Some b) small v e = digit_alone_bytes base n d a b small v e
 
--- the text of an integer, and its digits in two bases
-pub in_bases : (z : ℤ) (text : List ℕ) (a b c d e f g h : Option (List ℕ)) → Adds text a b → Adds hexadecimal_mark b c → Adds (minus z) c d
-    → Says (PutsNumber 16 (unsigned_abs z)) d e → Adds binary_mark e f → Adds (minus z) f g → Says (PutsNumber 2 (unsigned_abs z)) g h → Says (PutsInBases z text) a h
-in_bases z text a b c d e f g None p q r s t u v = tt
-in_bases z text a b c d e f None (Some h) p q r s t u v = absurd v
-in_bases z text a b c d e None (Some g) (Some h) p q r s t u v = absurd u
-in_bases z text a b c d None (Some f) (Some g) (Some h) p q r s t u v = absurd t
-in_bases z text a b c None (Some e) (Some f) (Some g) (Some h) p q r s t u v = absurd s
-in_bases z text a b None (Some d) (Some e) (Some f) (Some g) (Some h) p q r s t u v = absurd r
-in_bases z text a None (Some c) (Some d) (Some e) (Some f) (Some g) (Some h) p q r s t u v = absurd q
-in_bases z text None (Some b) (Some c) (Some d) (Some e) (Some f) (Some g) (Some h) p q r s t u v = absurd p
-in_bases z text (Some a) (Some b) (Some c) (Some d) (Some e) (Some f) (Some g) (Some h) p q r s t u v =
-    let first : d ≡ a ++ text ++ hexadecimal_mark ++ minus z = r ∙ ap (λ xs. xs ++ minus z) (q ∙ ap (λ xs. xs ++ hexadecimal_mark) p) in
-    let second : g ≡ e ++ binary_mark ++ minus z = u ∙ ap (λ xs. xs ++ minus z) t in
+-- what stands in front of an integer, its digits in one base, what stands between, and its digits in the other
+pub in_bases : (z : ℤ) (first front between : List ℕ) (a b c d e f g h : Option (List ℕ)) → Adds first a b → Adds front b c → Adds (minus z) c d
+    → Says (PutsNumber 16 (unsigned_abs z)) d e → Adds between e f → Adds (minus z) f g → Says (PutsNumber 2 (unsigned_abs z)) g h → Says (PutsInBases z (first ++ front) between) a h
+in_bases z first front between a b c d e f g None p q r s t u v = tt
+in_bases z first front between a b c d e f None (Some h) p q r s t u v = absurd v
+in_bases z first front between a b c d e None (Some g) (Some h) p q r s t u v = absurd u
+in_bases z first front between a b c d None (Some f) (Some g) (Some h) p q r s t u v = absurd t
+in_bases z first front between a b c None (Some e) (Some f) (Some g) (Some h) p q r s t u v = absurd s
+in_bases z first front between a b None (Some d) (Some e) (Some f) (Some g) (Some h) p q r s t u v = absurd r
+in_bases z first front between a None (Some c) (Some d) (Some e) (Some f) (Some g) (Some h) p q r s t u v = absurd q
+in_bases z first front between None (Some b) (Some c) (Some d) (Some e) (Some f) (Some g) (Some h) p q r s t u v = absurd p
+in_bases z first front between (Some a) (Some b) (Some c) (Some d) (Some e) (Some f) (Some g) (Some h) p q r s t u v =
+    let both : c ≡ a ++ (first ++ front) = q ∙ (ap (λ xs. xs ++ front) p ∙ append_assoc a first front) in
+    let one : d ≡ a ++ (first ++ front) ++ minus z = r ∙ ap (λ xs. xs ++ minus z) both in
+    let other : g ≡ e ++ between ++ minus z = u ∙ ap (λ xs. xs ++ minus z) t in
     record {
       before = e;
-      hexadecimal = subst (λ xs. PutsNumber 16 (unsigned_abs z) xs e) first s;
-      binary = subst (λ xs. PutsNumber 2 (unsigned_abs z) xs h) second v;
+      hexadecimal = subst (λ xs. PutsNumber 16 (unsigned_abs z) xs e) one s;
+      binary = subst (λ xs. PutsNumber 2 (unsigned_abs z) xs h) other v;
     }
+
+-- the same in cells
+pub in_cells : (text : List ℕ) (a b c d : Option (List ℕ)) → Adds (codes "<td>") a b
+    → Says (PutsInBases (signed_digits_value 10 text) (text ++ codes "</td><td>#x") (codes "</td><td>#b")) b c → Adds (codes "</td>") c d → Says (PutsCells text) a d
+in_cells text a b c None p q r = tt
+in_cells text a b None (Some d) p q r = absurd r
+in_cells text a None (Some c) (Some d) p q r = absurd q
+in_cells text None (Some b) (Some c) (Some d) p q r = absurd p
+in_cells text (Some a) (Some b) (Some c) (Some d) p q r = record {
+  inner = c;
+  bases = subst (λ xs. PutsInBases (signed_digits_value 10 text) (text ++ codes "</td><td>#x") (codes "</td><td>#b") xs c) p q;
+  closed = r;
+}

@@ -1,5 +1,5 @@
 -- Integers in other bases than ten.
-use Rattle.std.specs.Prelude.{◌≡◌, ℕ, ℤ, pos, negsuc, List, [], ◌∷◌, ◌++◌, ◌⊎◌, unsigned_abs}
+use Rattle.std.specs.Prelude.{◌≡◌, ℕ, ℤ, pos, negsuc, List, [], ◌∷◌, ◌++◌, ◌⊎◌, codes, unsigned_abs}
 use Rattle.std.specs.Str.Parse.{IsNumeral, digits_value, signed_digits_value}
 
 -- digits of a base come behind what stands there, and denote a number
@@ -21,12 +21,18 @@ hexadecimal_mark = 32 ∷ 61 ∷ 32 ∷ 35 ∷ 120 ∷ []
 abbrev pub binary_mark : List ℕ
 binary_mark = 32 ∷ 61 ∷ 32 ∷ 35 ∷ 98 ∷ []
 
--- the text of an integer, and behind its marks its minus and its digits in hexadecimal and in binary
-pub record PutsInBases (z : ℤ) (text old new : List ℕ) : Type 0 where
+-- what stands in front of an integer, its minus and its digits in hexadecimal, what stands between, and the same in binary
+pub record PutsInBases (z : ℤ) (front between old new : List ℕ) : Type 0 where
   pub before : List ℕ
-  pub hexadecimal : PutsNumber 16 (unsigned_abs z) (old ++ text ++ hexadecimal_mark ++ minus z) before
-  pub binary : PutsNumber 2 (unsigned_abs z) (before ++ binary_mark ++ minus z) new
+  pub hexadecimal : PutsNumber 16 (unsigned_abs z) (old ++ front ++ minus z) before
+  pub binary : PutsNumber 2 (unsigned_abs z) (before ++ between ++ minus z) new
 
 -- the text of an object alone, or that of an integer and behind it the same integer in two bases
 abbrev pub PutsObject : List ℕ → List ℕ → List ℕ → Type 0
-PutsObject text old new = (new ≡ old ++ text) ⊎ PutsInBases (signed_digits_value 10 text) text old new
+PutsObject text old new = (new ≡ old ++ text) ⊎ PutsInBases (signed_digits_value 10 text) (text ++ hexadecimal_mark) binary_mark old new
+
+-- cells of a table: the text of an integer, and the same integer in two bases
+pub record PutsCells (text old new : List ℕ) : Type 0 where
+  pub inner : List ℕ
+  pub bases : PutsInBases (signed_digits_value 10 text) (text ++ codes "</td><td>#x") (codes "</td><td>#b") (old ++ codes "<td>") inner
+  pub closed : new ≡ inner ++ codes "</td>"

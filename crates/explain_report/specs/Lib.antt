@@ -1,3 +1,4 @@
 pub mod Bases
+pub mod Put
 pub mod Said
 pub mod Shown

@@ -1,9 +1,9 @@
 //! An integer in three bases.
 
-ghost use Rattle.std.specs.Prelude.{◌≡◌, ◌<◌, ◌≤◌, unsigned_abs, IfSome};
+ghost use Rattle.std.specs.Prelude.{◌≡◌, ◌<◌, ◌≤◌, ◌++◌, unsigned_abs, IfSome};
 ghost use Rattle.std.specs.Char.{digit_value};
 ghost use Rattle.std.specs.Str.Parse.{signed_digits_value};
-ghost use Rattle.explain_report.specs.Bases.{PutsNumber, PutsInBases, PutsObject, minus};
+ghost use Rattle.explain_report.specs.Bases.{PutsNumber, PutsInBases, PutsCells, PutsObject, minus};
 ghost use Rattle.explain_report.specs.Said.{Says, Adds};
 
 use crate::html::put_text;
@@ -55,42 +55,50 @@ fn put_minus(report: &mut Report, integer: i128)
     }
 }
 
-fn put_integer(report: &mut Report, integer: i128) {
-    report.say("<td>");
-    report.integer(integer);
-    report.say("</td><td>#x");
+/// Puts two texts, the minus and the hexadecimal digits of an integer, another text, and the minus and the binary digits, of the
+/// latter at least so many.
+fn put_in_both(
+    report: &mut Report,
+    first: &[u8],
+    front: &[u8],
+    between: &[u8],
+    integer: i128,
+    bits: usize,
+)
+    ensures { Says (PutsInBases integer (first.now ++ front.now) between.now) report.old report.new }
+{
+    report.text(first);
+    report.text(front);
     put_minus(report, integer);
     put_digits(report, 16, 1, integer.unsigned_abs());
-    report.say("</td><td>#b");
+    report.text(between);
     put_minus(report, integer);
-    put_digits(report, 2, 1, integer.unsigned_abs());
+    put_digits(report, 2, bits, integer.unsigned_abs());
+}
+
+/// Puts cells of a table with an integer, whose text in decimal this is.
+fn put_cells(report: &mut Report, text: &[u8], integer: i128)
+    requires { integer ≡ signed_digits_value 10 text.now }
+    ensures { Says (PutsCells text.now) report.old report.new }
+{
+    report.text(b"<td>");
+    put_in_both(report, text, b"</td><td>#x", b"</td><td>#b", integer, 1);
+    report.text(b"</td>");
+}
+
+/// Puts one cell of a table with an object that is no integer.
+fn put_object(report: &mut Report, object: &[u8]) {
+    report.say("<td colspan=\"3\">");
+    put_text(report, object);
     report.say("</td>");
 }
 
 /// Cells of a table with an integer in decimal, hexadecimal and binary; one cell with another object.
 pub(crate) fn put_bases(report: &mut Report, object: &[u8]) {
     match integer_of(object) {
-        Some(integer) => put_integer(report, integer),
-        None => {
-            report.say("<td colspan=\"3\">");
-            put_text(report, object);
-            report.say("</td>");
-        }
+        Some(integer) => put_cells(report, object, integer),
+        None => put_object(report, object),
     }
-}
-
-/// Puts an integer's text, and its hexadecimal and binary digits, of the latter at least so many.
-#[tactic(auto, using(crate::proofs::Numbers::in_bases))]
-fn put_in_all(report: &mut Report, text: &[u8], integer: i128, bits: usize)
-    ensures { Says (PutsInBases integer text.now) report.old report.new }
-{
-    report.text(text);
-    report.text(b" = #x");
-    put_minus(report, integer);
-    put_digits(report, 16, 1, integer.unsigned_abs());
-    report.text(b" = #b");
-    put_minus(report, integer);
-    put_digits(report, 2, bits, integer.unsigned_abs());
 }
 
 /// An object; of an integer behind it hexadecimal and binary digits, of the latter at least so many.
@@ -99,7 +107,7 @@ pub fn put_in_bases(report: &mut Report, object: &[u8], bits: usize)
     ensures bases { Says (PutsObject object.now) report.old report.new }
 {
     match integer_of(object) {
-        Some(integer) => put_in_all(report, object, integer, bits),
+        Some(integer) => put_in_both(report, object, b" = #x", b" = #b", integer, bits),
         None => report.text(object),
     }
 }

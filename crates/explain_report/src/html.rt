@@ -1,5 +1,7 @@
 //! The lines of a transcript as a page of HTML that stands alone.
 
+ghost use Rattle.explain_report.specs.Put.{IsPut};
+
 use crate::bases::put_bases;
 use crate::json::parts_of_input;
 use crate::record::{Record, Verdict};
@@ -200,7 +202,9 @@ fn put_event<K: Sink>(
     number: usize,
     record: &Record,
     most: u64,
-) -> Result<(), PutEnd> {
+) -> Result<(), PutEnd>
+    ensures cause { IsPut (K.faults out.old) (K.faults out.new) result }
+{
     let front = front_of_event(alloc, number, record)?;
     let back = back_of_event(alloc, record, most)?;
     let text = record.text.as_slice();
@@ -233,7 +237,9 @@ fn put_group<K: Sink>(
     records: &[Record],
     verdict: Verdict,
     most: u64,
-) -> Result<(), PutEnd> {
+) -> Result<(), PutEnd>
+    ensures cause { IsPut (K.faults out.old) (K.faults out.new) result }
+{
     let count = count_of(records, verdict);
     if count == 0 {
         return Ok(());
@@ -313,7 +319,9 @@ fn put_look<K: Sink>(
     out: &mut K,
     number: usize,
     record: &Record,
-) -> Result<(), PutEnd> {
+) -> Result<(), PutEnd>
+    ensures cause { IsPut (K.faults out.old) (K.faults out.new) result }
+{
     let front = front_of_look(alloc, number, record)?;
     let back = back_of_look(alloc, record)?;
     let text = record.text.as_slice();
@@ -321,7 +329,9 @@ fn put_look<K: Sink>(
 }
 
 /// The events that ask for a look.
-fn put_looks<K: Sink>(alloc: Global, out: &mut K, records: &[Record]) -> Result<(), PutEnd> {
+fn put_looks<K: Sink>(alloc: Global, out: &mut K, records: &[Record]) -> Result<(), PutEnd>
+    ensures cause { IsPut (K.faults out.old) (K.faults out.new) result }
+{
     let mut is_first = true;
     for (i, record) in records.iter().enumerate() {
         if record.verdict().is_trouble() {
@@ -349,7 +359,9 @@ pub fn put_page<K: Sink>(
     out: &mut K,
     title: &[u8],
     records: &[Record],
-) -> Result<(), PutEnd> {
+) -> Result<(), PutEnd>
+    ensures cause { IsPut (K.faults out.old) (K.faults out.new) result }
+{
     put_all(out, &head_of_page(alloc, title, records)?)?;
     put_looks(alloc, out, records)?;
     let most = most_micros(records);

@@ -1,5 +1,7 @@
 //! A line of a transcript as an object of JSON, on a line of its own.
 
+ghost use Rattle.explain_report.specs.Put.{IsPut};
+
 use crate::record::{Record, behind};
 use crate::report::Report;
 use crate::shown::{PutEnd, Style, put_line};
@@ -98,7 +100,9 @@ fn members_behind(alloc: Global, record: &Record) -> Result<Vec<u8>, NoMemory> {
 }
 
 /// Writes the object of a record.
-pub fn put_object<K: Sink>(alloc: Global, out: &mut K, record: &Record) -> Result<(), PutEnd> {
+pub fn put_object<K: Sink>(alloc: Global, out: &mut K, record: &Record) -> Result<(), PutEnd>
+    ensures cause { IsPut (K.faults out.old) (K.faults out.new) result }
+{
     let rest = members_behind(alloc, record)?;
     let text = record.text.as_slice();
     put_line(alloc, out, style_of(text), b"{\"text\":\"", text, &rest)

@@ -6,7 +6,7 @@
 //! - `record`: a line, and what is known of it; `report`: what is said, as bytes that grow;
 //! - `json`, `html` with `bases`, and `summary`: the formats.
 //!
-//! Tests: .ci/explain, through the built program.
+//! Tests: tests/explain, through the built program.
 #![tactic(auto)]
 
 mod bases;

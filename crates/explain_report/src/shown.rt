@@ -2,6 +2,7 @@
 
 ghost use Rattle.std.specs.Prelude.{◌≡◌, ◌<◌, ◌++◌, OnOk};
 ghost use Rattle.gl_base.specs.Outside.{Grows};
+ghost use Rattle.explain_report.specs.Put.{IsPut};
 ghost use Rattle.explain_report.specs.Shown.{shown, shown_byte, in_json, in_html, is_numbered, is_json, is_html, digit, read_back};
 
 use gl_base::failed::Failed;
@@ -28,12 +29,20 @@ pub enum PutEnd {
 }
 
 impl From<Failed> for PutEnd {
+    ghost use Rattle.explain_report.specs.declared.shown.PutEnd.{PutEnd};
+
+    ghost from_gives = { λ _ e. e ≡ PutEnd.Failed };
+
     fn from(_failed: Failed) -> PutEnd {
         PutEnd::Failed
     }
 }
 
 impl From<NoMemory> for PutEnd {
+    ghost use Rattle.explain_report.specs.declared.shown.PutEnd.{PutEnd};
+
+    ghost from_gives = { λ _ e. e ≡ PutEnd.Memory };
+
     fn from(_lack: NoMemory) -> PutEnd {
         PutEnd::Memory
     }
@@ -133,6 +142,7 @@ pub fn put_line<K: Sink>(
     ensures line { OnOk result (Grows (K.written out.old) (K.written out.new) (front.now ++ (shown style line.now ++ back.now))) }
     // from which it can be read back byte for byte.
     ensures read_back { read_back style (shown style line.now) ≡ line.now }
+    ensures cause { IsPut (K.faults out.old) (K.faults out.new) result }
 {
     let mut bytes = Vec::new(alloc);
     append_shown(style, line, &mut bytes)?;

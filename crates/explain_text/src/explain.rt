@@ -24,7 +24,7 @@ use gl_base::limits::Limits;
 use gl_base::shelf::Shelf;
 use gl_base::sink::Sink;
 use gl_base::status::Status;
-use gl_book::run_library;
+use gl_book::{Transcript, run_library};
 use gl_decide::Stalls;
 use gl_logic::{NoMemory, Texts};
 use std::alloc::Global;
@@ -73,8 +73,15 @@ fn run_shown<R: Threads + Sync + Clock, S: Shelf, K: Sink + Drop, E: Sink + Drop
     let Ok(()) = shown.name_running() else {
         return Status::NoMemory;
     };
-    let mut stalls = Stalls::new(alloc);
-    let status = run_library(rt, alloc, library, texts, limits, &mut stalls, &mut shown);
+    let mut transcript = Transcript {
+        sink: shown,
+        stalls: Stalls::new(alloc),
+    };
+    let status = run_library(rt, alloc, library, texts, limits, &mut transcript);
+    let Transcript {
+        sink: mut shown,
+        ..
+    } = transcript;
     shown.wipe_running();
     let Kept {
         outlet,

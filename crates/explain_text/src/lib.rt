@@ -9,7 +9,7 @@
 //! - what is said: `refusal`, by `codes`, `known`, `missing`, `governing`, `earlier` and `excerpt`, into a `report`;
 //! - where it stands: `span`, `elements`, `terms`, `blame`, `items`.
 //!
-//! Tests: .ci/explain, through the built program.
+//! Tests: tests/explain, through the built program.
 #![tactic(auto)]
 
 mod blame;

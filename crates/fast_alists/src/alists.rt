@@ -2,6 +2,7 @@
 
 ghost use Rattle.std.specs.Prelude.{◌≡◌, List, [], None, IfOk, IfSome, IsSome};
 ghost use Rattle.std.specs.Option.{option_map};
+ghost use Rattle.gl_logic.specs.Lists.{IsAtom};
 ghost use Rattle.gl_logic.specs.Object.{Object};
 ghost use Rattle.hons_arena.specs.Held.{IsWhole};
 ghost use Rattle.hons_arena.specs.Ids.{object_at, IsLive};
@@ -68,6 +69,7 @@ impl FastAlists {
         ensures makes { Makes arena.old arena.new (longer_object arena.old.objects key value alist) result }
         ensures agree { Agree arena.new.objects self.new }
         ensures table { TakesOver self.old self.new alist result }
+        ensures begins { IsAtom (object_at arena.old.objects alist) → IfOk result (HasTable self.new) }
     {
         let longer = extend(arena, key, value, alist)?;
         Ok(self.go_over(arena, key, alist, longer)?)
@@ -130,6 +132,7 @@ impl FastAlists {
         ensures table { IfSome result (λ t. IsTable arena.now.objects alist t) }
         ensures agree { Agree arena.now.objects self.new }
         ensures taken { HasTable self.old alist → IsSome result }
+        ensures made { IsAtom (object_at arena.now.objects alist) → IsSome result }
         ensures left { ¬ HasTable self.new alist }
     {
         match self.tables.take(alist) {
@@ -168,6 +171,7 @@ impl FastAlists {
         ensures list { IfOk result (λ id. id ≡ longer.list) }
         ensures agree { Agree arena.now.objects self.new }
         ensures table { TakesOver self.old self.new alist result }
+        ensures begins { IsAtom (object_at arena.now.objects alist) → IfOk result (HasTable self.new) }
     {
         if self.tables.hand_on(alist, longer.list, key, longer.pair)? {
             return Ok(longer.list);

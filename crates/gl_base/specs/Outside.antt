@@ -11,6 +11,10 @@ pub record HasCause {T E : Type 0} (before now : ℕ) (result : Result T E) : Ty
   pub stayed : OnOk result (now ≡ before)
   pub failed : OnErr result (Rose before now)
 
+-- where the bytes are told, they stay
+abbrev pub Stays : Option (List ℕ) → Option (List ℕ) → Type 0
+Stays old new = IfSome old (λ before. new ≡ Some before)
+
 -- where the bytes are told, these come behind them
 abbrev pub Grows : Option (List ℕ) → Option (List ℕ) → List ℕ → Type 0
 Grows old new bytes = IfSome old (λ before. new ≡ Some (before ++ bytes))

@@ -9,7 +9,7 @@ pub struct Limits {
     pub cells: u32,
     /// Nodes of one bit store, and of one symbolic store.
     pub nodes: u32,
-    /// Clauses that one decision by search may learn.
+    /// Clauses that the searches of one run of a theorem may learn together.
     pub clauses: u32,
     /// The widest theorem, in bits of its input, that is scanned.
     pub enum_bits: u8,

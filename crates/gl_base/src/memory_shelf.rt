@@ -46,6 +46,8 @@ impl MemoryShelf {
 }
 
 impl Shelf for MemoryShelf {
+    ghost may_open = { λ _. Unit {0} };
+
     ghost holds = { λ s name. text_named s.reading.texts name };
 
     ghost rest = { λ s. s.reading.rest };
@@ -56,7 +58,7 @@ impl Shelf for MemoryShelf {
 
     /// Fails exactly where the call is one of those that are to fail, or no text has the name. No text is then open.
     fn open(&mut self, name: &str) -> Result<(), Failed>
-        ensures rest { OnOk result (self.new.reading.rest ≡ text_named self.old.reading.texts name.now) }
+        ensures rest { OnOk result (IfSome (text_named self.old.reading.texts name.now) (λ bytes. self.new.reading.rest ≡ Some bytes)) }
         ensures open { is_some self.new.reading.rest ≡ is_ok result }
         ensures kept { (other : List ℕ) → text_named self.new.reading.texts other ≡ text_named self.old.reading.texts other }
         ensures cause { HasCause self.old.calls.faults self.new.calls.faults result }

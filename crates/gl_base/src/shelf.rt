@@ -1,4 +1,4 @@
-ghost use Rattle.std.specs.Prelude.{◌≡◌, ◌≤◌, ◌<◌, ◌↔◌, ℕ, Bool, true, is_ok, List, [], Option, length, take, IfOk, IfSome, OnOk, IsTrue};
+ghost use Rattle.std.specs.Prelude.{◌≡◌, ◌≤◌, ◌<◌, ◌↔◌, ℕ, Bool, true, is_ok, List, [], Option, length, take, Some, IfOk, IfSome, OnOk, IsTrue};
 ghost use Rattle.gl_base.specs.Outside.{HasCause, Takes};
 
 use crate::failed::Failed;
@@ -8,6 +8,10 @@ use crate::failed::Failed;
 /// A shelf may tell its bytes, as one in memory does, or tell nothing, as one of real files does: what is said of
 /// bytes is said where they are told.
 pub trait Shelf {
+    /// The texts that may be opened, by their names. Who hands out a shelf says here what it is for: a function that is
+    /// generic over shelves can open a text only where its own contract asks for that.
+    ghost may_open: { List ℕ → Type 0 };
+
     /// The bytes of the text with this name, where told.
     ghost holds: { Self → List ℕ → Option (List ℕ) };
 
@@ -23,7 +27,8 @@ pub trait Shelf {
 
     /// Opens the text with this name, at its first byte, in place of the one that was open.
     fn open(&mut self, name: &str) -> Result<(), Failed>
-        ensures rest { OnOk result (rest self.new ≡ holds self.old name.now) }
+        requires { may_open name.now }
+        ensures rest { OnOk result (IfSome (holds self.old name.now) (λ bytes. rest self.new ≡ Some bytes)) }
         ensures open { is_open self.new ≡ is_ok result }
         ensures kept { (other : List ℕ) → holds self.new other ≡ holds self.old other }
         ensures cause { HasCause (faults self.old) (faults self.new) result };

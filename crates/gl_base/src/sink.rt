@@ -1,5 +1,5 @@
 ghost use Rattle.std.specs.Prelude.{◌≡◌, ◌≤◌, ◌<◌, ℕ, List, Option, length, take, IfOk, OnOk, OnErr};
-ghost use Rattle.gl_base.specs.Outside.{HasCause, Grows, GrowsByFront};
+ghost use Rattle.gl_base.specs.Outside.{HasCause, Grows, GrowsByFront, Stays};
 
 use crate::failed::Failed;
 
@@ -20,12 +20,12 @@ pub trait Sink {
         requires { 0 < length piece.now }
         ensures within { IfOk result (λ n. (0 < n) × (n ≤ length piece.now)) }
         ensures bytes { IfOk result (λ n. Grows (written self.old) (written self.new) (take n piece.now)) }
-        ensures err { OnErr result (written self.new ≡ written self.old) }
+        ensures err { OnErr result (Stays (written self.old) (written self.new)) }
         ensures cause { HasCause (faults self.old) (faults self.new) result };
 
     /// Hands on what was taken.
     fn flush(&mut self) -> Result<(), Failed>
-        ensures same { written self.new ≡ written self.old }
+        ensures same { Stays (written self.old) (written self.new) }
         ensures cause { HasCause (faults self.old) (faults self.new) result };
 }
 

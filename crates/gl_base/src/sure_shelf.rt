@@ -35,6 +35,8 @@ impl SureShelf {
 }
 
 impl Shelf for SureShelf {
+    ghost may_open = { λ _. Unit {0} };
+
     ghost holds = { λ s name. Some (unwrap_or (text_named s.texts name) []) };
 
     ghost rest = { λ s. s.rest };
@@ -45,7 +47,6 @@ impl Shelf for SureShelf {
 
     /// Never fails.
     fn open(&mut self, name: &str) -> Result<(), Failed>
-        ensures rest { OnOk result (self.new.rest ≡ Some (unwrap_or (text_named self.old.texts name.now) [])) }
         ensures open { is_some self.new.rest ≡ is_ok result }
         ensures kept { (other : List ℕ) → Some (unwrap_or (text_named self.new.texts other) []) ≡ Some (unwrap_or (text_named self.old.texts other) []) }
         ensures sure { IsOk result }

@@ -27,3 +27,4 @@ pub mod Crosses
 pub mod Ways
 pub mod Alone
 pub mod Lasts
+pub mod SomeLines

@@ -5,7 +5,7 @@ use Rattle.std.proofs.lemmas.List.{take_all, take-append-drop}
 use Rattle.std.proofs.lemmas.List.Folds.{concat-append}
 use Rattle.std.proofs.lemmas.List.Concat.{flat_map-append}
 use Rattle.std.proofs.Math.Seq.{take-append_seam, get_or-append-add}
-use Rattle.gl_base.specs.Outside.{Grows}
+use Rattle.gl_base.specs.Outside.{Grows, Stays}
 use Rattle.gl_base.proofs.Growth.{grows-then}
 use Rattle.gl_book.specs.Transcript.{told}
 use Rattle.gl_book.specs.Stops.{told_before}
@@ -19,6 +19,11 @@ grows_nothing (Some old) = ap Some (sym (append-nil old))
 
 pub grows_same : (a b c : Option (List ℕ)) (bytes : List ℕ) → Grows a b bytes → c ≡ b → Grows a c bytes
 grows_same a b c bytes g e = subst (λ (o : Option (List ℕ)). Grows a o bytes) (sym e) g
+
+-- what was taken stays
+pub grows_stays : (a b c : Option (List ℕ)) (bytes : List ℕ) → Grows a b bytes → Stays b c → Grows a c bytes
+grows_stays None b c bytes g s = tt
+grows_stays (Some old) b c bytes g s = subst (λ (o : Option (List ℕ)). Stays o c) g s
 
 pub grows_is : (a b : Option (List ℕ)) (xs ys : List ℕ) → Grows a b xs → xs ≡ ys → Grows a b ys
 grows_is a b xs ys g e = subst (Grows a b) e g

@@ -8,6 +8,7 @@ ghost use Rattle.gl_book.specs.Stops.{IsCounted};
 
 use super::answer::Answer;
 use super::counts::Counts;
+use super::observer::Observer;
 use super::one_run::Run;
 use super::phase::phase_answers;
 use super::progress::Progress;
@@ -15,34 +16,40 @@ use super::put_event::put_job;
 use super::stop::Stop;
 use super::waiting::Waiting;
 use book_state::State;
-use gl_base::sink::Sink;
-use gl_decide::{Gate, Stalls};
-use gl_logic::{NoMemory, Texts};
+use gl_decide::Gate;
+use gl_logic::{NoMemory, Texts, World};
 use std::mem;
 use std::thread::Threads;
 
 /// Answers the jobs that wait, in the world at the end of their phase, and writes their lines in the order of the book,
 /// where not the last line alone is written. None wait afterwards.
-pub(crate) fn end_phase<R: Threads + Sync, K: Sink, G: Gate>(
+pub(crate) fn end_phase<R: Threads + Sync, O: Observer, G: Gate>(
     run: &Run<'_, R, G>,
     progress: &mut Progress,
     texts: &Texts,
-    stalls: &mut Stalls,
-    out: &mut K,
+    out: &mut O,
 ) -> Result<(), Stop>
     requires ready { All (CanBeAnswered progress.old.state.world.definitions) (jobs_of progress.old.waiting) }
     requires room { HasRoomFor (length (jobs_of progress.old.waiting)) progress.old.counts }
     ensures ok { OnOk result (EndsPhase texts.now (bounds_of run.now.limits.now) run.now.last_only
-        progress.old (K.written out.old) stalls.old progress.new (K.written out.new) stalls.new) }
+        progress.old (O.written out.old) (O.stalls out.old) progress.new (O.written out.new) (O.stalls out.new)) }
     ensures front { OnErr result (EndsPhaseByFront texts.now (bounds_of run.now.limits.now) run.now.last_only
-        progress.old (K.written out.old) stalls.old (K.written out.new) stalls.new) }
-    ensures cause { IsCounted (K.faults out.old) (K.faults out.new) result }
+        progress.old (O.written out.old) (O.stalls out.old) (O.written out.new) (O.stalls out.new)) }
+    ensures cause { IsCounted (O.faults out.old) (O.faults out.new) result }
 {
     let Ok(answers) = answers_at(run, &progress.state, &progress.waiting) else {
         return Err(Stop::Memory);
     };
     let waiting = mem::replace(&mut progress.waiting, Waiting::new(run.alloc));
-    progress.counts = put_answers(run, &waiting, answers, progress.counts, texts, stalls, out)?;
+    progress.counts = put_answers(
+        run,
+        progress.state.world(),
+        &waiting,
+        answers,
+        progress.counts,
+        texts,
+        out,
+    )?;
     Ok(())
 }
 
@@ -61,30 +68,31 @@ fn answers_at<R: Threads + Sync, G: Gate>(
 
 /// Writes the lines of the jobs with their answers, each with those behind it, where not the last line alone is written,
 /// and keeps each answer's stall right before its lines. The counts with the answers.
-fn put_answers<R: Threads + Sync, K: Sink, G: Gate>(
+fn put_answers<R: Threads + Sync, O: Observer, G: Gate>(
     run: &Run<'_, R, G>,
+    world: &World,
     waiting: &Waiting,
     answers: Vec<Answer>,
     start: Counts,
     texts: &Texts,
-    stalls: &mut Stalls,
-    out: &mut K,
+    out: &mut O,
 ) -> Result<Counts, Stop>
+    requires ready { All (CanBeAnswered world.now.definitions) (jobs_of waiting.now) }
     requires many { length answers.items ≡ length (jobs_of waiting.now) }
     requires room { HasRoomFor (length (jobs_of waiting.now)) start }
-    ensures writes { OnOk result (WritesPhase texts.now run.now.last_only (jobs_of waiting.now) answers.items (K.written out.old) (K.written out.new)) }
-    ensures keeps { OnOk result (KeepsPhase answers.items stalls.old stalls.new) }
+    ensures writes { OnOk result (WritesPhase texts.now run.now.last_only (jobs_of waiting.now) answers.items (O.written out.old) (O.written out.new)) }
+    ensures keeps { OnOk result (KeepsPhase answers.items (O.stalls out.old) (O.stalls out.new)) }
     ensures counts { IfOk result (λ c. c ≡ counts_after start answers.items) }
-    ensures front { OnErr result (WritesPhaseFront texts.now run.now.last_only (jobs_of waiting.now) answers.items (K.written out.old) (K.written out.new)) }
-    ensures keeps_front { OnErr result (KeepsPhaseFront answers.items stalls.old stalls.new) }
-    ensures cause { IsCounted (K.faults out.old) (K.faults out.new) result }
+    ensures front { OnErr result (WritesPhaseFront texts.now run.now.last_only (jobs_of waiting.now) answers.items (O.written out.old) (O.written out.new)) }
+    ensures keeps_front { OnErr result (KeepsPhaseFront answers.items (O.stalls out.old) (O.stalls out.new)) }
+    ensures cause { IsCounted (O.faults out.old) (O.faults out.new) result }
 {
     let mut counts = start;
     let mut i = 0;
     for answer in answers {
         let job = waiting.at(i);
         counts = counts.with(&answer);
-        put_job(run.alloc, job, answer, texts, run.last_only, stalls, out)?;
+        put_job(run.alloc, job, world, answer, texts, run.last_only, out)?;
         i += 1;
     }
     Ok(counts)

@@ -4,10 +4,11 @@
 //! - a large book made from a number: `generator`;
 //! - jobs, whose answers may come later: `waiting`, a list of `job`; their answers by any number of workers, `phase`, by
 //!   `task`, `piece` and `pieces`, and `gather`, from tasks back to jobs;
-//! - answers to what is written: `walk` over all forms and the marks of included books, by `one_run`, `progress`,
-//!   `put_event`, `marks`, and `ending`, where a phase ends; `lines`, `measure_words`, `refusal`, `counts`, `line_list`,
-//!   `put_lines`, `stop`; `run`, by `opening`, what each run begins with;
-//! - what is left of an answer then: `settle`;
+//! - answers to an `observer`, to whom a walk tells each as it decides it, and then its lines, with what each is of, its `origin`:
+//!   `walk` over all forms and the marks of included books, by `one_run`, `progress`, `put_event`, `marks`, and `ending`, where a
+//!   phase ends; `lines`, `measure_words`, `refusal`, `counts`, `line_list`, `put_lines`, `stop`; `run`, by `opening`, what each
+//!   run begins with;
+//! - the observer that writes a `transcript` and keeps its stalls, by `settle`, what is left of an answer then;
 //! - the last theorem of a text, without deciding one: `last`, by `last_step` and `untried`, and the lines of a verdict on it,
 //!   `verdict_text`.
 //!
@@ -30,8 +31,10 @@ mod line_list;
 mod lines;
 mod marks;
 mod measure_words;
+mod observer;
 mod one_run;
 mod opening;
+mod origin;
 mod phase;
 mod piece;
 mod pieces;
@@ -43,6 +46,7 @@ mod run;
 mod settle;
 mod stop;
 mod task;
+mod transcript;
 mod untried;
 mod verdict_text;
 mod waiting;
@@ -52,8 +56,14 @@ pub use answer::{Answer, Cause, answer_of};
 pub use cases::CasesVerdict;
 pub use generator::generate;
 pub use last::{Last, last_theorem};
+pub use line_list::Lines;
+pub use observer::{Answered, Observer};
 pub use one_run::Run;
+pub use origin::{LineOf, Origin, Spot};
+pub use put_lines::put_told;
+pub use refusal::{Refusal, RefusalCode};
 pub use run::{every_text_has_a_transcript, run_book, run_library, run_text, run_text_gated};
-pub use settle::keep_stall;
-pub use verdict_text::verdict_lines;
+pub use settle::{keep_stall, settle};
+pub use transcript::Transcript;
+pub use verdict_text::{lines_of_verdict, verdict_lines};
 pub use walk::every_walk_goes_on;

@@ -385,6 +385,7 @@ fn add_input(
 ) -> Result<(), NoMemory>
     ensures { OnOk result (lines.new ≡ lines.old ++ input_lines texts.now input.now) }
 {
+    lines.turn_to_input();
     for i in 0..input.len() {
         let (variable, object) = input.at(i);
         add_variable(alloc, variable, object, texts, lines)?;
@@ -421,7 +422,8 @@ pub(crate) fn add_named(
     let mut bytes = Vec::new(alloc);
     bytes.extend_from_slice(before)?;
     bytes.extend_from_slice(texts.text(name))?;
+    let name_end = bytes.len();
     bytes.extend_from_slice(after)?;
     bytes.push(b'\n')?;
-    lines.push(bytes)
+    lines.push_named(bytes, before.len(), name_end)
 }

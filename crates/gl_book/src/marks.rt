@@ -6,10 +6,11 @@ ghost use Rattle.gl_book.specs.Stops.{IsCounted, WritesBefore, WritesBeforeFront
 
 use super::line_list::Lines;
 use super::lines::add_named;
+use super::observer::Observer;
+use super::origin::Origin;
 use super::put_event::put_behind;
 use super::stop::Stop;
 use book_shelf::Mark;
-use gl_base::sink::Sink;
 use gl_logic::{NoMemory, Texts};
 use std::alloc::Global;
 
@@ -30,18 +31,21 @@ pub(crate) fn add_mark(
 }
 
 /// Writes the line of a mark, where not the last line alone is written.
-pub(crate) fn put_mark<K: Sink>(
+pub(crate) fn put_mark<O: Observer>(
     alloc: Global,
+    number: u64,
     mark: Mark,
     texts: &Texts,
     last_only: bool,
-    out: &mut K,
+    out: &mut O,
 ) -> Result<(), Stop>
-    ensures ok { OnOk result (WritesBefore last_only (mark_line texts.now mark ∷ []) (K.written out.old) (K.written out.new)) }
-    ensures front { OnErr result (WritesBeforeFront last_only (mark_line texts.now mark ∷ []) (K.written out.old) (K.written out.new)) }
-    ensures cause { IsCounted (K.faults out.old) (K.faults out.new) result }
+    ensures ok { OnOk result (WritesBefore last_only (mark_line texts.now mark ∷ []) (O.written out.old) (O.written out.new)) }
+    ensures front { OnErr result (WritesBeforeFront last_only (mark_line texts.now mark ∷ []) (O.written out.old) (O.written out.new)) }
+    ensures cause { IsCounted (O.faults out.old) (O.faults out.new) result }
+    ensures unstalled { O.stalls out.new ≡ O.stalls out.old }
 {
     let mut lines = Lines::new(alloc);
+    lines.turn_to(Origin::Mark(number));
     let Ok(()) = add_mark(alloc, mark, texts, &mut lines) else {
         return Err(Stop::Memory);
     };

@@ -10,6 +10,7 @@ use super::job::Job;
 use super::line_list::Lines;
 use super::lines::add_event_lines;
 use super::marks::add_mark;
+use super::origin::{Origin, Spot};
 use book_shelf::Mark;
 use book_state::copy_of;
 use event_world::Event;
@@ -48,8 +49,14 @@ impl Waiting {
         &self.jobs[i as usize]
     }
 
-    /// Puts an event last, with the functions whose calls are kept at its place. It is lost where memory runs out.
-    pub fn push(&mut self, alloc: Global, event: Event, memoized: &FnSet) -> Result<(), NoMemory>
+    /// Puts an event last, with its spot and the functions whose calls are kept at its place. It is lost where memory runs out.
+    pub fn push(
+        &mut self,
+        alloc: Global,
+        spot: Spot,
+        event: Event,
+        memoized: &FnSet,
+    ) -> Result<(), NoMemory>
         ensures ok { OnOk result (jobs_of self.new ≡ jobs_of self.old ++ new_job (event_seen event) memoized.now ∷ []) }
         ensures err { OnErr result (jobs_of self.new ≡ jobs_of self.old) }
     {
@@ -58,6 +65,7 @@ impl Waiting {
             return Err(NoMemory);
         };
         self.put_last(Job {
+            spot,
             event,
             memoized,
             behind: Lines::new(alloc),
@@ -68,6 +76,7 @@ impl Waiting {
     pub fn follow(
         &mut self,
         alloc: Global,
+        spot: Spot,
         event: &Event,
         answer: &Answer,
         texts: &Texts,
@@ -77,6 +86,7 @@ impl Waiting {
         let Some(mut job) = self.jobs.pop() else {
             return Ok(());
         };
+        job.behind.turn_to(Origin::Event(spot));
         match add_event_lines(alloc, event, answer, texts, &mut job.behind) {
             Ok(()) => self.put_last(job),
             Err(fault) => {
@@ -87,12 +97,19 @@ impl Waiting {
     }
 
     /// Puts the line of a mark behind the last job. The job is lost where memory runs out.
-    pub fn follow_mark(&mut self, alloc: Global, mark: Mark, texts: &Texts) -> Result<(), NoMemory>
+    pub fn follow_mark(
+        &mut self,
+        alloc: Global,
+        number: u64,
+        mark: Mark,
+        texts: &Texts,
+    ) -> Result<(), NoMemory>
         ensures { OnOk result (IsFollowed (jobs_of self.old) (mark_line texts.now mark ∷ []) (jobs_of self.new)) }
     {
         let Some(mut job) = self.jobs.pop() else {
             return Ok(());
         };
+        job.behind.turn_to(Origin::Mark(number));
         match add_mark(alloc, mark, texts, &mut job.behind) {
             Ok(()) => self.put_last(job),
             Err(fault) => {

@@ -9,7 +9,6 @@ ghost use Rattle.event_world.specs.NextState.{BookState};
 ghost use Rattle.event_world.specs.Seen.{event_seen};
 ghost use Rattle.event_world.specs.Suits.{Suits};
 ghost use Rattle.gl_decide.specs.Bounds.{Bounds, bounds_of};
-ghost use Rattle.gl_decide.specs.Stalls.{StallSeen};
 ghost use Rattle.book_state.specs.Answerable.{IsAnswerable};
 ghost use Rattle.gl_book.specs.Answers.{IsProperAnswer};
 ghost use Rattle.gl_book.specs.Courses.{ComesToEnd, HasRoomFor, LeadsAlong, LeadsPast, LeadsPastToFront, course_from, place_at};
@@ -28,7 +27,9 @@ use super::counts::Counts;
 use super::ending::end_phase;
 use super::line_list::Lines;
 use super::marks::put_mark;
+use super::observer::{Answered, Observer};
 use super::one_run::Run;
+use super::origin::Spot;
 use super::progress::Progress;
 use super::put_event::put_event;
 use super::put_lines::put_told;
@@ -39,9 +40,8 @@ use book_shelf::{Finish, Item, Library, Mark, ShelfCode};
 use book_state::State;
 use event_world::{Event, EventFault};
 use gl_base::limits::Limits;
-use gl_base::sink::Sink;
 use gl_base::status::Status;
-use gl_decide::{Gate, Stalls};
+use gl_decide::Gate;
 use gl_logic::{NoMemory, Texts, Tree};
 use sexp_reader::Form;
 use std::alloc::Global;
@@ -54,91 +54,106 @@ use std::thread::Threads;
 /// With one worker the lines of each event are written before the next form is looked at. With more, values, asserts and
 /// theorems wait for the end of their phase, which is an event that changes definitions or constants, a refusal, or the
 /// end of the list. A mark ends no phase.
-pub fn walk<R: Threads + Sync, K: Sink, G: Gate>(
+pub fn walk<R: Threads + Sync, O: Observer, G: Gate>(
     run: &Run<'_, R, G>,
     book: &Library,
     state: State,
     texts: &mut Texts,
-    stalls: &mut Stalls,
-    out: &mut K,
+    out: &mut O,
 ) -> Result<Status, Stop>
     requires empty { with_name texts.old [] ≡ texts.old }
     requires can_go_on { CanGoOn state }
     ensures ok { IfOk result (WritesWalk texts.old (bounds_of run.now.limits.now) state book.now run.now.last_only
-        (K.written out.old) (K.written out.new) stalls.old stalls.new) }
+        (O.written out.old) (O.written out.new) (O.stalls out.old) (O.stalls out.new)) }
     ensures front { OnErr result (WritesWalkFront texts.old (bounds_of run.now.limits.now) state book.now run.now.last_only
-        (K.written out.old) (K.written out.new) stalls.old stalls.new) }
+        (O.written out.old) (O.written out.new) (O.stalls out.old) (O.stalls out.new)) }
     ensures texts { texts.new ≡ texts.old }
-    ensures cause { IsCounted (K.faults out.old) (K.faults out.new) result }
+    ensures cause { IsCounted (O.faults out.old) (O.faults out.new) result }
 {
     let mut progress = Progress {
         state,
         counts: Counts::none(),
         waiting: Waiting::new(run.alloc),
     };
-    let ended = take_items(run, book, &mut progress, texts, stalls, out);
+    let ended = take_items(run, book, &mut progress, texts, out);
     let counts = progress.counts;
-    drop(progress);
     match ended {
-        Ok(refusal) => close(run.alloc, refusal, counts, run.last_only, out),
-        Err(stop) => Err(stop),
+        Ok(refusal) => {
+            tell_refusal(refusal, &progress.state, out);
+            drop(progress);
+            close(run.alloc, refusal, counts, run.last_only, out)
+        }
+        Err(stop) => {
+            drop(progress);
+            Err(stop)
+        }
+    }
+}
+
+/// Tells a refusal, where there is one.
+fn tell_refusal<O: Observer>(refusal: Option<Refusal>, state: &State, out: &mut O)
+    ensures unstalled { O.stalls out.new ≡ O.stalls out.old }
+    ensures unwritten { O.written out.new ≡ O.written out.old }
+    ensures unfailed { O.faults out.new ≡ O.faults out.old }
+{
+    if let Some(refusal) = refusal {
+        out.refused(&refusal, state);
     }
 }
 
 /// Takes the items of a book in, up to the first that is refused, and ends the last phase. The refusal, which the end of the
 /// list may be.
-fn take_items<R: Threads + Sync, K: Sink, G: Gate>(
+fn take_items<R: Threads + Sync, O: Observer, G: Gate>(
     run: &Run<'_, R, G>,
     book: &Library,
     progress: &mut Progress,
     texts: &mut Texts,
-    stalls: &mut Stalls,
-    out: &mut K,
+    out: &mut O,
 ) -> Result<Option<Refusal>, Stop>
     requires empty { with_name texts.old [] ≡ texts.old }
     requires can_go_on { CanGoOn progress.old.state }
     requires uncounted { progress.old.counts ≡ counts_of [] }
     requires none { jobs_of progress.old.waiting ≡ [] }
     ensures ok { IfOk result (ComesToEnd texts.old (bounds_of run.now.limits.now) run.now.last_only
-        (course_from book.now (place_at progress.old (K.written out.old) stalls.old)) (place_at progress.new (K.written out.new) stalls.new)) }
+        (course_from book.now (place_at progress.old (O.written out.old) (O.stalls out.old))) (place_at progress.new (O.written out.new) (O.stalls out.new))) }
     ensures front { OnErr result (WritesWalkFront texts.old (bounds_of run.now.limits.now) progress.old.state book.now run.now.last_only
-        (K.written out.old) (K.written out.new) stalls.old stalls.new) }
+        (O.written out.old) (O.written out.new) (O.stalls out.old) (O.stalls out.new)) }
     ensures texts { texts.new ≡ texts.old }
-    ensures cause { IsCounted (K.faults out.old) (K.faults out.new) result }
+    ensures cause { IsCounted (O.faults out.old) (O.faults out.new) result }
 {
     for i in 0..book.items.len() {
         let next = book.items.at(i);
-        let refusal = take_item(run, next, progress, texts, stalls, out)?;
+        let refusal = take_item(run, i, next, progress, texts, out)?;
         if let Some(refusal) = refusal {
             return Ok(Some(refusal));
         }
     }
-    end_phase(run, progress, texts, stalls, out)?;
+    end_phase(run, progress, texts, out)?;
     Ok(refusal_of(book.finish))
 }
 
 /// Takes the next item in. Its refusal, where it is refused; no job waits then.
-fn take_item<R: Threads + Sync, K: Sink, G: Gate>(
+fn take_item<R: Threads + Sync, O: Observer, G: Gate>(
     run: &Run<'_, R, G>,
+    number: u64,
     next: &Item,
     progress: &mut Progress,
     texts: &mut Texts,
-    stalls: &mut Stalls,
-    out: &mut K,
+    out: &mut O,
 ) -> Result<Option<Refusal>, Stop>
     requires empty { with_name texts.old [] ≡ texts.old }
     requires ready { All (CanBeAnswered progress.old.state.world.definitions) (jobs_of progress.old.waiting) }
     requires room { HasRoomFor (length (jobs_of progress.old.waiting) + 1) progress.old.counts }
     ensures ok { IfOk result (λ r. LeadsPast texts.old (bounds_of run.now.limits.now) run.now.last_only next.now
-        (place_at progress.old (K.written out.old) stalls.old) r (place_at progress.new (K.written out.new) stalls.new)) }
+        (place_at progress.old (O.written out.old) (O.stalls out.old)) r (place_at progress.new (O.written out.new) (O.stalls out.new))) }
     ensures front { OnErr result (LeadsPastToFront texts.old (bounds_of run.now.limits.now) run.now.last_only next.now
-        (place_at progress.old (K.written out.old) stalls.old) (K.written out.new) stalls.new) }
+        (place_at progress.old (O.written out.old) (O.stalls out.old)) (O.written out.new) (O.stalls out.new)) }
     ensures texts { texts.new ≡ texts.old }
-    ensures cause { IsCounted (K.faults out.old) (K.faults out.new) result }
+    ensures cause { IsCounted (O.faults out.old) (O.faults out.new) result }
 {
     match next {
-        Item::Form(form) => take_form(run, form, progress, texts, stalls, out),
-        Item::Mark(mark) => match take_mark(run, *mark, progress, texts, out) {
+        Item::Form(form) => take_form(run, number, form, progress, texts, out),
+        Item::Mark(mark) => match take_mark(run, number, *mark, progress, texts, out) {
             Ok(()) => Ok(None),
             Err(stop) => Err(stop),
         },
@@ -146,53 +161,54 @@ fn take_item<R: Threads + Sync, K: Sink, G: Gate>(
 }
 
 /// Takes a mark in: its line is written at once, or comes behind those of the last job that waits.
-fn take_mark<R: Threads + Sync, K: Sink, G: Gate>(
+fn take_mark<R: Threads + Sync, O: Observer, G: Gate>(
     run: &Run<'_, R, G>,
+    number: u64,
     mark: Mark,
     progress: &mut Progress,
     texts: &Texts,
-    out: &mut K,
+    out: &mut O,
 ) -> Result<(), Stop>
-    ensures ok { OnOk result ((stalls : List StallSeen) → LeadsPast texts.now (bounds_of run.now.limits.now) run.now.last_only (item.Mark mark)
-        (place_at progress.old (K.written out.old) stalls) None (place_at progress.new (K.written out.new) stalls)) }
-    ensures front { OnErr result ((stalls : List StallSeen) → LeadsPastToFront texts.now (bounds_of run.now.limits.now) run.now.last_only (item.Mark mark)
-        (place_at progress.old (K.written out.old) stalls) (K.written out.new) stalls) }
-    ensures cause { IsCounted (K.faults out.old) (K.faults out.new) result }
+    ensures ok { OnOk result (LeadsPast texts.now (bounds_of run.now.limits.now) run.now.last_only (item.Mark mark)
+        (place_at progress.old (O.written out.old) (O.stalls out.old)) None (place_at progress.new (O.written out.new) (O.stalls out.new))) }
+    ensures front { OnErr result (LeadsPastToFront texts.now (bounds_of run.now.limits.now) run.now.last_only (item.Mark mark)
+        (place_at progress.old (O.written out.old) (O.stalls out.old)) (O.written out.new) (O.stalls out.new)) }
+    ensures cause { IsCounted (O.faults out.old) (O.faults out.new) result }
 {
     if progress.waiting.len() > 0 {
-        return match progress.waiting.follow_mark(run.alloc, mark, texts) {
+        return match progress.waiting.follow_mark(run.alloc, number, mark, texts) {
             Ok(()) => Ok(()),
             Err(_) => Err(Stop::Memory),
         };
     }
-    put_mark(run.alloc, mark, texts, run.last_only, out)
+    put_mark(run.alloc, number, mark, texts, run.last_only, out)
 }
 
 /// Takes the next form in. Its refusal, where it is refused; no job waits then.
-fn take_form<R: Threads + Sync, K: Sink, G: Gate>(
+fn take_form<R: Threads + Sync, O: Observer, G: Gate>(
     run: &Run<'_, R, G>,
+    number: u64,
     form: &Form,
     progress: &mut Progress,
     texts: &mut Texts,
-    stalls: &mut Stalls,
-    out: &mut K,
+    out: &mut O,
 ) -> Result<Option<Refusal>, Stop>
     requires empty { with_name texts.old [] ≡ texts.old }
     requires ready { All (CanBeAnswered progress.old.state.world.definitions) (jobs_of progress.old.waiting) }
     requires room { HasRoomFor (length (jobs_of progress.old.waiting) + 1) progress.old.counts }
     ensures ok { IfOk result (λ r. LeadsPast texts.old (bounds_of run.now.limits.now) run.now.last_only (item.Form form.now)
-        (place_at progress.old (K.written out.old) stalls.old) r (place_at progress.new (K.written out.new) stalls.new)) }
+        (place_at progress.old (O.written out.old) (O.stalls out.old)) r (place_at progress.new (O.written out.new) (O.stalls out.new))) }
     ensures front { OnErr result (LeadsPastToFront texts.old (bounds_of run.now.limits.now) run.now.last_only (item.Form form.now)
-        (place_at progress.old (K.written out.old) stalls.old) (K.written out.new) stalls.new) }
+        (place_at progress.old (O.written out.old) (O.stalls out.old)) (O.written out.new) (O.stalls out.new)) }
     ensures texts { texts.new ≡ texts.old }
-    ensures cause { IsCounted (K.faults out.old) (K.faults out.new) result }
+    ensures cause { IsCounted (O.faults out.old) (O.faults out.new) result }
 {
     match progress.state.event(run.alloc, &form.tree, texts) {
-        Ok(event) => take_event(run, form, event, progress, texts, stalls, out),
+        Ok(event) => take_event(run, number, form, event, progress, texts, out),
         Err(fault) => match fault {
             EventFault::Memory => Err(Stop::Memory),
             _ => {
-                end_phase(run, progress, texts, stalls, out)?;
+                end_phase(run, progress, texts, out)?;
                 Ok(Some(refusal_at(form, RefusalCode::Event(fault))))
             }
         },
@@ -200,32 +216,32 @@ fn take_form<R: Threads + Sync, K: Sink, G: Gate>(
 }
 
 /// Takes the event of the next form in. The form's refusal, where it is a constant without a value; no job waits then.
-fn take_event<R: Threads + Sync, K: Sink, G: Gate>(
+fn take_event<R: Threads + Sync, O: Observer, G: Gate>(
     run: &Run<'_, R, G>,
+    number: u64,
     form: &Form,
     event: Event,
     progress: &mut Progress,
     texts: &Texts,
-    stalls: &mut Stalls,
-    out: &mut K,
+    out: &mut O,
 ) -> Result<Option<Refusal>, Stop>
     requires next { IsNext texts.now progress.old.state form.now.tree (event_seen event) }
     requires ready { All (CanBeAnswered progress.old.state.world.definitions) (jobs_of progress.old.waiting) }
     requires room { HasRoomFor (length (jobs_of progress.old.waiting) + 1) progress.old.counts }
     ensures ok { IfOk result (λ r. LeadsPast texts.now (bounds_of run.now.limits.now) run.now.last_only (item.Form form.now)
-        (place_at progress.old (K.written out.old) stalls.old) r (place_at progress.new (K.written out.new) stalls.new)) }
+        (place_at progress.old (O.written out.old) (O.stalls out.old)) r (place_at progress.new (O.written out.new) (O.stalls out.new))) }
     ensures front { OnErr result (LeadsPastToFront texts.now (bounds_of run.now.limits.now) run.now.last_only (item.Form form.now)
-        (place_at progress.old (K.written out.old) stalls.old) (K.written out.new) stalls.new) }
-    ensures cause { IsCounted (K.faults out.old) (K.faults out.new) result }
+        (place_at progress.old (O.written out.old) (O.stalls out.old)) (O.written out.new) (O.stalls out.new)) }
+    ensures cause { IsCounted (O.faults out.old) (O.faults out.new) result }
 {
     if stays(run.limits, &progress.waiting, &event) {
-        return match take_along(run, form, event, progress, texts) {
+        return match take_along(run, number, form, event, progress, texts) {
             Ok(()) => Ok(None),
             Err(_) => Err(Stop::Memory),
         };
     }
-    match end_phase(run, progress, texts, stalls, out) {
-        Ok(()) => answer_now(run, form, event, progress, texts, stalls, out),
+    match end_phase(run, progress, texts, out) {
+        Ok(()) => answer_now(run, number, form, event, progress, texts, out),
         Err(stop) => {
             drop(event);
             Err(stop)
@@ -249,6 +265,7 @@ fn stays(limits: &Limits, waiting: &Waiting, event: &Event) -> bool
 /// Takes an event in before its phase ends: a job waits, and another event is answered.
 fn take_along<R: Threads + Sync, G: Gate>(
     run: &Run<'_, R, G>,
+    number: u64,
     form: &Form,
     event: Event,
     progress: &mut Progress,
@@ -259,22 +276,31 @@ fn take_along<R: Threads + Sync, G: Gate>(
     ensures { OnOk result (LeadsAlong texts.now (bounds_of run.now.limits.now) run.now.last_only (item.Form form.now) progress.old progress.new) }
 {
     if is_job(&event) {
-        wait(run.alloc, form, event, progress)
+        wait(run.alloc, number, form, event, progress)
     } else {
-        follow(run, form, event, progress, texts)
+        follow(run, number, form, event, progress, texts)
     }
 }
 
 /// Lets a job wait for the end of its phase.
-fn wait(alloc: Global, form: &Form, event: Event, progress: &mut Progress) -> Result<(), NoMemory>
+fn wait(
+    alloc: Global,
+    number: u64,
+    form: &Form,
+    event: Event,
+    progress: &mut Progress,
+) -> Result<(), NoMemory>
     requires job { is_job_seen (event_seen event) ≡ true }
     requires suits { Suits progress.old.state.world (event_seen event) }
     ensures { OnOk result (Waits form.now.tree (event_seen event) progress.old progress.new) }
 {
     match progress.state.note(alloc, &form.tree, &event) {
-        Ok(()) => progress
-            .waiting
-            .push(alloc, event, progress.state.memoized()),
+        Ok(()) => progress.waiting.push(
+            alloc,
+            Spot::of(number, form),
+            event,
+            progress.state.memoized(),
+        ),
         Err(fault) => {
             drop(event);
             Err(fault)
@@ -285,6 +311,7 @@ fn wait(alloc: Global, form: &Form, event: Event, progress: &mut Progress) -> Re
 /// Answers an event that is no job and ends no phase, while jobs wait, and takes it in.
 fn follow<R: Threads + Sync, G: Gate>(
     run: &Run<'_, R, G>,
+    number: u64,
     form: &Form,
     event: Event,
     progress: &mut Progress,
@@ -294,7 +321,14 @@ fn follow<R: Threads + Sync, G: Gate>(
     requires answerable { IsAnswerable progress.old.state.world.definitions progress.old.state.memoized (event_seen event) }
     ensures { OnOk result (Follows texts.now (bounds_of run.now.limits.now) form.now.tree (event_seen event) progress.old progress.new) }
 {
-    match answer_behind(run, &event, &progress.state, &mut progress.waiting, texts) {
+    match answer_behind(
+        run,
+        Spot::of(number, form),
+        &event,
+        &progress.state,
+        &mut progress.waiting,
+        texts,
+    ) {
         Ok(()) => progress
             .state
             .take(run.alloc, &form.tree, event, Tree::nil()),
@@ -308,6 +342,7 @@ fn follow<R: Threads + Sync, G: Gate>(
 /// Answers an event of a state, and puts its lines behind those of the last job.
 fn answer_behind<R: Threads + Sync, G: Gate>(
     run: &Run<'_, R, G>,
+    spot: Spot,
     event: &Event,
     state: &State,
     waiting: &mut Waiting,
@@ -317,7 +352,7 @@ fn answer_behind<R: Threads + Sync, G: Gate>(
     ensures { OnOk result (IsPutBehind texts.now (bounds_of run.now.limits.now) state.now (event_seen event.now) (jobs_of waiting.old) (jobs_of waiting.new)) }
 {
     let answer = answer_to(run, state, event);
-    let put = waiting.follow(run.alloc, event, &answer, texts);
+    let put = waiting.follow(run.alloc, spot, event, &answer, texts);
     drop(answer);
     put
 }
@@ -342,23 +377,23 @@ fn answer_to<R: Threads + Sync, G: Gate>(
 }
 
 /// Answers an event while no job waits, writes its lines, and takes it in.
-fn answer_now<R: Threads + Sync, K: Sink, G: Gate>(
+fn answer_now<R: Threads + Sync, O: Observer, G: Gate>(
     run: &Run<'_, R, G>,
+    number: u64,
     form: &Form,
     event: Event,
     progress: &mut Progress,
     texts: &Texts,
-    stalls: &mut Stalls,
-    out: &mut K,
+    out: &mut O,
 ) -> Result<Option<Refusal>, Stop>
     requires next { IsNext texts.now progress.old.state form.now.tree (event_seen event) }
     requires none { jobs_of progress.old.waiting ≡ [] }
     requires room { HasRoomFor 1 progress.old.counts }
     ensures ok { IfOk result (λ r. LeadsPast texts.now (bounds_of run.now.limits.now) run.now.last_only (item.Form form.now)
-        (place_at progress.old (K.written out.old) stalls.old) r (place_at progress.new (K.written out.new) stalls.new)) }
+        (place_at progress.old (O.written out.old) (O.stalls out.old)) r (place_at progress.new (O.written out.new) (O.stalls out.new))) }
     ensures front { OnErr result (LeadsPastToFront texts.now (bounds_of run.now.limits.now) run.now.last_only (item.Form form.now)
-        (place_at progress.old (K.written out.old) stalls.old) (K.written out.new) stalls.new) }
-    ensures cause { IsCounted (K.faults out.old) (K.faults out.new) result }
+        (place_at progress.old (O.written out.old) (O.stalls out.old)) (O.written out.new) (O.stalls out.new)) }
+    ensures cause { IsCounted (O.faults out.old) (O.faults out.new) result }
 {
     let answer = answer_to(run, &progress.state, &event);
     if let Some(cause) = refused_cause(&event, &answer) {
@@ -370,7 +405,13 @@ fn answer_now<R: Threads + Sync, K: Sink, G: Gate>(
         };
     }
     progress.counts = progress.counts.with(&answer);
-    let value = match put_event(run.alloc, &event, answer, texts, run.last_only, stalls, out) {
+    let at = Answered {
+        spot: Spot::of(number, form),
+        world: progress.state.world(),
+        memoized: progress.state.memoized(),
+        event: &event,
+    };
+    let value = match put_event(run.alloc, at, answer, texts, run.last_only, out) {
         Ok(value) => value,
         Err(stop) => {
             drop(event);
@@ -451,17 +492,18 @@ pub(crate) fn refused_cause(event: &Event, answer: &Answer) -> Option<Cause>
 }
 
 /// Writes the lines that end a transcript, or the last one alone, and flushes. Answers the status.
-pub fn close<K: Sink>(
+pub fn close<O: Observer>(
     alloc: Global,
     refusal: Option<Refusal>,
     counts: Counts,
     last_only: bool,
-    out: &mut K,
+    out: &mut O,
 ) -> Result<Status, Stop>
-    ensures ok { OnOk result (WritesLines last_only (closing_lines counts refusal) (K.written out.old) (K.written out.new)) }
+    ensures ok { OnOk result (WritesLines last_only (closing_lines counts refusal) (O.written out.old) (O.written out.new)) }
     ensures status { IfOk result (λ s. s ≡ closing_status counts refusal) }
-    ensures front { OnErr result (WritesLinesFront last_only (closing_lines counts refusal) (K.written out.old) (K.written out.new)) }
-    ensures cause { IsCounted (K.faults out.old) (K.faults out.new) result }
+    ensures front { OnErr result (WritesLinesFront last_only (closing_lines counts refusal) (O.written out.old) (O.written out.new)) }
+    ensures cause { IsCounted (O.faults out.old) (O.faults out.new) result }
+    ensures unstalled { O.stalls out.new ≡ O.stalls out.old }
 {
     let Ok(lines) = lines_that_close(alloc, refusal, counts) else {
         return Err(Stop::Memory);

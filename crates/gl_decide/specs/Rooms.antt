@@ -26,7 +26,7 @@ abbrev pub IsFullAfter : {B : Type 0} → Ghosts B → SobsSeen B → Verdict �
 IsFullAfter g s (Nodes stall) = IsFull g s
 IsFullAfter g s _ = Unit {0}
 
--- after Clauses the last decision's book is there, has learned so many clauses, and the empty one is not among them
+-- after Clauses the store's decisions have learned so many clauses, and the last one's book is there without the empty one
 abbrev pub IsGivenUpAfter : ℕ → SatSeen → Verdict → Type 0
 IsGivenUpAfter clauses s (Clauses stall) = IsGivenUp clauses s
 IsGivenUpAfter clauses s _ = Unit {0}

@@ -36,8 +36,8 @@ use std::thread::Threads;
 /// input of a theorem of at most `limits.enum_bits` indices is tried. A wider one is tried in the modes behind its own: of
 /// mode Bdd in mode Param and then in mode Sat, of mode Param in mode Sat. What they leave undecided is Nodes or Clauses.
 ///
-/// The stores of the run in the theorem's mode stay in the room: full ones after Nodes; after Clauses the book of a search
-/// that has learned `limits.clauses` clauses; after Proved and Vacuous of a wider theorem in mode Sat the book that shows it.
+/// The stores of the run in the theorem's mode stay in the room: full ones after Nodes; after Clauses one whose searches have
+/// learned `limits.clauses` clauses together; after Proved and Vacuous of a wider theorem in mode Sat the book that shows it.
 pub fn decide_theorem<R: Threads + Sync>(
     rt: &R,
     alloc: Global,

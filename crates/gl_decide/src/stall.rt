@@ -15,7 +15,7 @@ use std::snapshot::Snapshot;
 pub enum StallCause {
     /// The table of symbolic objects or its bit store holds as many nodes as it may.
     Nodes(u32),
-    /// The search has learned as many clauses as it may.
+    /// The searches have learned as many clauses as they may together.
     Clauses(u32),
 }
 

@@ -93,6 +93,10 @@ module _ (ds : List Definition) (fs : List Frame) where
   pub falls_both : (hs : List Frame) (a b : Bor Term) (env : EnvId) (n : ℕ) (x : Sob) (c saved : Edge) (rest : Path) → hs ≡ frame.Other c b env n saved rest ∷ fs → Falls ds (frame.Test a b env n ∷ fs) (focus.Give x) hs (focus.Visit a env n)
   falls_both hs a b env n x c saved rest e = subst (λ ks. Falls ds (frame.Test a b env n ∷ fs) (focus.Give x) ks (focus.Visit a env n)) (sym e) (omega arith)
 
+  -- both branches are done at once
+  pub falls_merged : (a b : Bor Term) (env : EnvId) (n : ℕ) (x r : Sob) → Falls ds (frame.Test a b env n ∷ fs) (focus.Give x) fs (focus.Give r)
+  falls_merged a b env n x r = omega arith
+
   -- a work is done
   pub falls_prim : (p : Primitive) (w : Work) (args : Vec Sob Global) (env : EnvId) (n : ℕ) → w ≡ work.Prim p → 0 + frames_turns ds fs < turns_left ds fs (focus.Run w args env n)
   falls_prim p w args env n e = subst (λ k. 0 + frames_turns ds fs < turns_left ds fs (focus.Run k args env n)) (sym e) (omega arith)

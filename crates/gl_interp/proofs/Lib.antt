@@ -7,6 +7,7 @@ pub mod CellsOfCalls
 pub mod ConstantWalks
 pub mod Copies
 pub mod Falling
+pub mod FlatTurns
 pub mod GiveTurns
 pub mod InputParts
 pub mod Machines

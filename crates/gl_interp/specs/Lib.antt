@@ -6,6 +6,7 @@ pub mod Constants
 pub mod Environments
 pub mod Envs
 pub mod Faults
+pub mod FlatValues
 pub mod Placed
 pub mod Running
 pub mod Shapes

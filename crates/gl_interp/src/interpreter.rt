@@ -96,6 +96,7 @@ pub fn interp<B: Bits>(
                     match give(
                         alloc,
                         objs,
+                        machine,
                         &envs,
                         path,
                         &mut onward,

@@ -17,6 +17,7 @@ mod constants;
 pub mod env;
 mod envs;
 pub mod fault;
+mod flats;
 mod frame;
 pub mod inputs;
 pub mod interpreter;

@@ -5,6 +5,7 @@ ghost use Rattle.gl_logic.specs.Assignments.{value_at};
 ghost use Rattle.gl_logic.specs.Definition.{Definition};
 ghost use Rattle.sym_objects.specs.Seen.{IsWhole};
 ghost use Rattle.sym_prims.specs.Applying.{Leaves};
+ghost use Rattle.gl_interp.specs.Causes.{Rests};
 ghost use Rattle.gl_interp.specs.Branches.{IsPartOf, IsSplit};
 ghost use Rattle.gl_interp.specs.Running.{AreTerms, IsWitnessed, Ready, Turn};
 ghost use Rattle.gl_interp.specs.TurnFaults.{HasPlainCause};
@@ -12,10 +13,12 @@ ghost use Rattle.gl_interp.specs.TurnsLeft.{Falls};
 
 use super::envs::{EnvId, Envs};
 use super::fault::GlFault;
+use super::flats::merged;
 use super::frame::{Focus, Frame, Path, Work};
 use super::store_calls::{copy_of, narrow, value};
 use bfr_store::{Bits, Edge};
 use gl_logic::{NoMemory, Term};
+use lisp_eval::Machine;
 use std::alloc::Global;
 use sym_objects::{Sob, Sobs, Stack};
 use sym_prims::store_calls::{complement, conjunction, is_always};
@@ -51,6 +54,7 @@ pub(crate) fn next<'a, B: Bits>(
 pub(crate) fn give<'a, B: Bits>(
     alloc: Global,
     objs: &mut Sobs<B>,
+    machine: &mut Machine,
     envs: &Envs,
     start: Edge,
     path: &mut Path,
@@ -64,10 +68,11 @@ pub(crate) fn give<'a, B: Bits>(
     ensures terms { IfOk result (λ f. (ds : List Definition) → AreTerms ds (frame.entry ∷ frames.old) (Focus.Give object) → AreTerms ds frames.new f) }
     ensures falls { IfOk result (λ f. (ds : List Definition) → Falls ds (frame.entry ∷ frames.old) (Focus.Give object) frames.new f) }
     ensures cause { IfErr result (HasPlainCause B.Meaning objs.new) }
+    ensures rests { Rests machine.old machine.new }
 {
     match frame {
         Frame::Test(a, b, env, clock) => branch(
-            alloc, objs, envs, start, path, object, a, b, env, clock, frames,
+            alloc, objs, machine, envs, start, path, object, a, b, env, clock, frames,
         ),
         Frame::Other(test, b, env, clock, saved, rest) => {
             frames.push(Frame::Join(test, object, saved))?;
@@ -85,10 +90,12 @@ pub(crate) fn give<'a, B: Bits>(
     }
 }
 
-/// Goes into the branches that an assignment of the path reaches.
+/// Goes into the branches that an assignment of the path reaches. Branches without calls are done at once: they need no path,
+/// and no decision is taken.
 fn branch<'a, B: Bits>(
     alloc: Global,
     objs: &mut Sobs<B>,
+    machine: &mut Machine,
     envs: &Envs,
     start: Edge,
     path: &mut Path,
@@ -105,8 +112,12 @@ fn branch<'a, B: Bits>(
     ensures terms { IfOk result (λ f. (ds : List Definition) → AreTerms ds (Frame.Test a.entry b.entry env clock ∷ frames.old) (Focus.Give object) → AreTerms ds frames.new f) }
     ensures falls { IfOk result (λ f. (ds : List Definition) → Falls ds (Frame.Test a.entry b.entry env clock ∷ frames.old) (Focus.Give object) frames.new f) }
     ensures cause { IfErr result (HasPlainCause B.Meaning objs.new) }
+    ensures rests { Rests machine.old machine.new }
 {
     let test = objs.truth(alloc, object)?;
+    if let Some(x) = merged(alloc, objs, machine, envs, test, a, b, env)? {
+        return Ok(Focus::Give(x));
+    }
     match split(alloc, objs, path, test)? {
         Branches::First => Ok(Focus::Visit(a, env, clock)),
         Branches::Second => Ok(Focus::Visit(b, env, clock)),

@@ -82,7 +82,7 @@ pub(crate) fn visit<'a, B: Bits>(
 }
 
 /// NIL.
-fn nil<B: Bits>(objs: &mut Sobs<B>) -> Result<Sob, GlFault>
+pub(crate) fn nil<B: Bits>(objs: &mut Sobs<B>) -> Result<Sob, GlFault>
     requires { IsWhole B.Meaning objs.old }
     ensures leaves { Leaves B.Meaning objs.old objs.new }
     ensures live { IfOk result (λ r. IsLive objs.new r) }

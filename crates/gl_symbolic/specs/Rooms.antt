@@ -28,7 +28,7 @@ IsUnplaced thm (decision.Cells part.Hyp a) = length a ≡ width_of thm.bindings
 IsUnplaced thm decision.Memory = Unit {0}
 IsUnplaced thm _ = ⊥
 
--- where the store gave up, its book is there, has learned so many clauses, and the empty one is not among them
+-- where the store gave up, its decisions have learned so many clauses, and the last one's book is there without the empty one
 abbrev pub GivesUpWell : ℕ → SatSeen → Decision → Type 0
 GivesUpWell clauses s decision.Spent = IsGivenUp clauses s
 GivesUpWell clauses s _ = Unit {0}

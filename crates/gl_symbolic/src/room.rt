@@ -35,7 +35,7 @@ pub enum Room {
 /// Decides a theorem in its mode, with a machine and stores of its own. The decision, and the stores as it leaves them.
 ///
 /// On Full the table of symbolic objects or its bit store holds `limits.nodes` nodes. On Spent the mode is Sat, and the
-/// last decision has learned `limits.clauses` clauses.
+/// store's decisions have learned `limits.clauses` clauses together.
 pub fn decide_in_mode(alloc: Global, world: &World, thm: &Thm, limits: &Limits) -> (Decision, Room)
     requires hyp { IsTermOf world.now.definitions (term_of thm.now.hyp) }
     requires concl { IsTermOf world.now.definitions (term_of thm.now.concl) }
@@ -197,7 +197,7 @@ fn by_search(
         return (Decision::Memory, Room::Empty);
     };
     let decision = decide_symbolically(alloc, &mut objs, machine, world, thm, mode);
-    // a store that gave up has learned all its clauses
+    // the decisions of a store that gave up have learned all its clauses
     let _spent = is_spent(&mut objs);
     (decision, Room::Sat(objs))
 }
@@ -206,7 +206,7 @@ fn by_search(
 fn is_spent(objs: &mut Sobs<AigSat>) -> bool
     ensures same { objs.new ≡ objs.old }
     ensures spent { result ≡ objs.old.store.spent }
-    ensures well { IsSpentWell objs.old.store.spent objs.old.store.clauses objs.old.store.book }
+    ensures well { IsSpentWell objs.old.store.spent objs.old.store.clauses objs.old.store.learned objs.old.store.book }
 {
     objs.store().is_spent()
 }

@@ -35,6 +35,7 @@ fn line_behind(text: &[u8], limit: usize) -> u32
 /// Reads the text with this name from its first byte to its last, or to the byte behind those that a text may have. Every read
 /// takes a byte at least or ends the loop, and the first call of the shelf that fails ends it.
 pub fn read_text<S: Shelf>(alloc: Global, shelf: &mut S, name: &str) -> Result<Vec<u8>, TextEnd>
+    requires { S.may_open name.now }
     // Where the shelf tells its bytes, these are all of them.
     ensures text { IfOk result (λ bytes. IfSome (S.holds shelf.old name.now) (λ text. bytes.items ≡ text)) }
     ensures within { IfOk result (λ bytes. vec_len bytes ≤ MOST_TEXT) }

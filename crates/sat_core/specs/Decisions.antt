@@ -1,5 +1,5 @@
 -- What a decision by search answers, and what stands behind the answer: the book of its clauses.
-use Rattle.std.specs.Prelude.{ℕ, ◌+◌, ◌*◌, Bool, true, false, ◌≡◌, ◌≢◌, ◌≤◌, ◌<◌, ◌⊎◌, ◌↔◌, ◌++◌, ◌∷◌, [], List, length, All, Option, None, Some}
+use Rattle.std.specs.Prelude.{ℕ, ◌+◌, ◌-◌, ◌*◌, Bool, true, false, ◌≡◌, ◌≢◌, ◌≤◌, ◌<◌, ◌⊎◌, ◌↔◌, ◌++◌, ◌∷◌, [], List, length, All, Option, None, Some}
 use Rattle.bfr_store.specs.declared.edge.Edge.{Edge}
 use Rattle.bfr_store.specs.declared.edge.Decision.{Decision}
 use Rattle.bfr_store.specs.declared.edge.Decision.TheVariants.{Never, Sometimes, Spent}
@@ -10,11 +10,12 @@ use Rattle.cnf_rup.specs.Books.{BookSeen, IsBook, first_clauses, holds_empty, lo
 use Rattle.cnf_rup.specs.Literals.{IsUpTo}
 use Rattle.cnf_rup.specs.Cnfs.{IsCnfOf, IsTrueWhereSatisfied}
 
--- the graph; how many clauses a decision may learn; the book of the last decision, until it is taken; whether that decision
--- was given up
+-- the graph; how many clauses all decisions together may learn, and how many those that answered have learned; the book of
+-- the last decision, until it is taken; whether that decision was given up
 pub record SatSeen : Type 0 where
   pub graph : Graph
   pub clauses : ℕ
+  pub learned : ℕ
   pub book : Option BookSeen
   pub spent : Bool
 
@@ -53,10 +54,11 @@ pub record IsDecidedBy (nodes : List AigNode) (e : Edge) (clauses : ℕ) (b : Bo
   pub sometimes : d ≡ Sometimes → (learned_in b < clauses) ⊎ (learned_in b ≡ 0)
   pub spent : (d ≡ Spent) ↔ ((learned_in b ≡ clauses) × (d ≢ Never) × (d ≢ Sometimes))
 
--- the book of the last decision is there, it is that of this edge, and the decision is by it
-abbrev pub IsDecided : SatSeen → Edge → Decision → Type 0
-IsDecided s e d = (b : BookSeen) × (s.book ≡ Some b) × IsDecidedBy s.graph.nodes e s.clauses b d
+-- the book of the last decision is there, it is that of this edge, and the decision is by it, with the clauses that the ones
+-- before it have left; what it learned is added to what they learned
+abbrev pub IsDecided : ℕ → SatSeen → Edge → Decision → Type 0
+IsDecided before s e d = (b : BookSeen) × (s.book ≡ Some b) × (s.learned ≡ before + learned_in b) × IsDecidedBy s.graph.nodes e (s.clauses - before) b d
 
--- where the last decision was given up, its book has learned all clauses, and the empty one is not among them
-abbrev pub IsSpentWell : Bool → ℕ → Option BookSeen → Type 0
-IsSpentWell spent clauses book = spent ≡ true → (b : BookSeen) × (book ≡ Some b) × (learned_in b ≡ clauses) × (holds_empty b.entries ≡ false)
+-- where the last decision was given up, the decisions have learned all clauses, and the empty one is not in the last book
+abbrev pub IsSpentWell : Bool → ℕ → ℕ → Option BookSeen → Type 0
+IsSpentWell spent clauses learned book = spent ≡ true → (b : BookSeen) × (book ≡ Some b) × (learned ≡ clauses) × (holds_empty b.entries ≡ false)

@@ -9,6 +9,9 @@
 //! - an assignment makes it true: only where the graph says so of the assignment that is handed out;
 //! - given up: exactly where as many clauses were learned as the store allows, without an answer.
 //!
+//! What the store allows is for all its decisions together: each begins with what those before it have left. All that a book
+//! learns counts, the clauses of conflicts, resolvents, and unit clauses; a clause that is learned anew counts once more.
+//!
 //! The book is there for the next call that takes it, after whatever answer.
 //!
 //! Before any search the assignment that was found last is tried on the graph, and those that are all false and all true.

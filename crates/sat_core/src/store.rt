@@ -1,8 +1,9 @@
-//! The store: a graph, and the book of the last decision.
+//! The store: a graph, the book of the last decision, and how many clauses all decisions have learned.
 
 ghost use Rattle.std.specs.Prelude.{◌≡◌, ◌≢◌, ◌≤◌, ◌<◌, ◌+◌, ◌&&◌, ◌↔◌, ◌∷◌, [], ℕ, Bool, true, false, not, cond, length, Option, Some, None, IsTrue, IfOk, OnErr};
 ghost use Rattle.bfr_store.specs.Keeps.{Makes, MakesVariable};
 ghost use Rattle.gl_logic.specs.Assignments.{value_at};
+ghost use Rattle.sat_core.specs.Decisions.{learned_in};
 
 use super::decide::decide_edge;
 use aig_store::Aig;
@@ -17,8 +18,10 @@ use std::marker::Model;
 pub struct AigSat {
     alloc: Global,
     aig: Aig,
-    /// How many clauses a decision may learn.
+    /// How many clauses all decisions together may learn.
     clauses: u32,
+    /// How many clauses the decisions that answered have learned.
+    learned: u32,
     /// The book of the last decision, until it is taken.
     book: Option<ClauseBook>,
     /// Whether the last decision was given up.
@@ -35,9 +38,9 @@ impl Model for AigSat {
 
     ghost Value = { SatSeen };
 
-    ghost view = { λ s. record { graph = s.aig; clauses = s.clauses; book = s.book; spent = s.spent } };
+    ghost view = { λ s. record { graph = s.aig; clauses = s.clauses; learned = s.learned; book = s.book; spent = s.spent } };
 
-    ghost invariant = { λ s. (s.clauses ≤ 1000000000) × IsSpentWell s.spent s.clauses s.book };
+    ghost invariant = { λ s. (s.clauses ≤ 1000000000) × (s.learned ≤ s.clauses) × IsSpentWell s.spent s.clauses s.learned s.book };
 }
 
 impl AigSat {
@@ -45,16 +48,17 @@ impl AigSat {
     ghost use Rattle.aig_store.specs.Nodes.{IsLive};
     ghost use Rattle.sat_core.specs.Decisions.{IsSpentWell};
 
-    /// A store with no variable, with room for this many nodes, whose decisions learn at most this many clauses each.
+    /// A store with no variable, with room for this many nodes, whose decisions together learn at most this many clauses.
     pub fn new(alloc: Global, limit: u32, clauses: u32) -> Result<AigSat, NoMemory>
         requires limit { limit ≤ 1000000000 }
         requires clauses { clauses ≤ 1000000000 }
-        ensures { IfOk result (λ s. s ≡ record { graph = record { nodes = Constant ∷ []; limit = limit; width = 0 }; clauses = clauses; book = None; spent = false }) }
+        ensures { IfOk result (λ s. s ≡ record { graph = record { nodes = Constant ∷ []; limit = limit; width = 0 }; clauses = clauses; learned = 0; book = None; spent = false }) }
     {
         Ok(AigSat {
             alloc,
             aig: Aig::new(alloc, limit)?,
             clauses,
+            learned: 0,
             book: None,
             spent: false,
             last: Vec::new(alloc),
@@ -69,10 +73,11 @@ impl AigSat {
         self.aig.is_live(e)
     }
 
-    /// Whether the last decision was given up. Then it has learned all its clauses, without the empty one.
+    /// Whether the last decision was given up. Then the decisions have learned all clauses that they may, and the last one not
+    /// the empty one.
     pub fn is_spent(&self) -> bool
         ensures spent { result ≡ self.now.spent }
-        ensures well { IsSpentWell self.now.spent self.now.clauses self.now.book }
+        ensures well { IsSpentWell self.now.spent self.now.clauses self.now.learned self.now.book }
     {
         self.spent
     }
@@ -92,6 +97,13 @@ impl AigSat {
         self.spent = false;
         self.book.take()
     }
+}
+
+/// How many clauses the book has learned.
+fn learned_in(book: &ClauseBook) -> u32
+    ensures { result ≡ learned_in book.now }
+{
+    book.count() - book.first_count()
 }
 
 /// Keeps the assignment that was found, for the next decision. Where memory is refused less of it is kept.
@@ -172,19 +184,21 @@ impl Bits for AigSat {
     }
 
     // As the trait says. The graph stays. Where it answers, the book is that of this decision, and says what the answer stands
-    // on; where memory is refused there is no book.
+    // on; what it learned is counted. Where memory is refused there is no book, and the count is as before.
     fn decide(&mut self, e: Edge, out: &mut Assignment) -> Result<Decision, NoMemory>
         requires live { IsLive self.old.graph e }
         requires width { length out.old ≡ self.old.graph.width }
         ensures graph { self.new.graph ≡ self.old.graph }
         ensures clauses { self.new.clauses ≡ self.old.clauses }
-        ensures decided { IfOk result (λ d. IsDecided self.new e d) }
+        ensures decided { IfOk result (λ d. IsDecided self.old.learned self.new e d) }
+        ensures within { self.new.learned ≤ self.new.clauses }
         ensures never { result ≡ Ok Decision.Never → (a : ℕ → Bool) → truth_of self.old.graph.nodes e a ≡ false }
         ensures sometimes { result ≡ Ok Decision.Sometimes → truth_of self.old.graph.nodes e (value_at out.new) ≡ true }
         ensures spent { IsTrue self.new.spent ↔ (result ≡ Ok Decision.Spent) }
         ensures bits { length out.new ≡ length out.old }
         ensures untouched { result ≢ Ok Decision.Sometimes → out.new ≡ out.old }
         ensures refused { OnErr result (self.new.book ≡ None) }
+        ensures uncounted { OnErr result (self.new.learned ≡ self.old.learned) }
     {
         self.spent = false;
         self.propagations = 0;
@@ -193,11 +207,12 @@ impl Bits for AigSat {
             self.alloc,
             &mut self.aig,
             e,
-            self.clauses,
+            self.clauses - self.learned,
             &self.last,
             &mut self.propagations,
             out,
         )?;
+        self.learned += learned_in(&book);
         self.book = Some(book);
         match decision {
             Decision::Never => {}

@@ -45,6 +45,7 @@ fn beyond(text: &[u8], limit: usize) -> (u32, u32)
 /// Reads the text with this name from its first byte to its last. Every read takes a byte at least or
 /// ends the loop, and the first call of the shelf that fails ends it.
 pub fn read_book<S: Shelf>(alloc: Global, shelf: &mut S, name: &str) -> Result<Vec<u8>, ReadEnd>
+    requires { S.may_open name.now }
     // Where the shelf tells its bytes, these are all of them.
     ensures whole { IfOk result (λ bytes. IfSome (S.holds shelf.old name.now) (λ text. bytes.items ≡ text)) }
     ensures within { IfOk result (λ bytes. vec_len bytes ≤ MOST_BYTES) }
@@ -65,7 +66,8 @@ fn read_at_most<S: Shelf>(
     name: &str,
     limit: usize,
 ) -> Result<Vec<u8>, ReadEnd>
-    requires { limit + 1 < 2 ^ 32 }
+    requires limit { limit + 1 < 2 ^ 32 }
+    requires may { S.may_open name.now }
     ensures whole { IfOk result (λ bytes. IfSome (S.holds shelf.old name.now) (λ text. bytes.items ≡ text)) }
     ensures within { IfOk result (λ bytes. vec_len bytes ≤ limit) }
     ensures long { IfErr result (IsLongAt limit (S.holds shelf.old name.now)) }

@@ -79,7 +79,9 @@ fn compare<S: Shelf>(
     name: &str,
     want: &str,
     whole: bool,
-) {
+)
+    requires { S.may_open name.now }
+{
     let mut bytes = Vec::new(alloc);
     let ended = shelf.open(name).is_ok() && read_pieces(rt, shelf, &mut bytes);
     check(

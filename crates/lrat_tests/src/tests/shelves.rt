@@ -15,7 +15,9 @@ fn shelf(alloc: Global, byte: u8, count: usize, fails: Vec<u64>) -> Result<Memor
 }
 
 /// How many bytes are read of a text.
-fn length_read<S: Shelf>(alloc: Global, shelf: &mut S, name: &str) -> Result<usize, TextEnd> {
+fn length_read<S: Shelf>(alloc: Global, shelf: &mut S, name: &str) -> Result<usize, TextEnd>
+    requires { S.may_open name.now }
+{
     match read_text(alloc, shelf, name) {
         Ok(bytes) => Ok(bytes.len()),
         Err(end) => Err(end),

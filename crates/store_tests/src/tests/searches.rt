@@ -248,10 +248,10 @@ fn try_edge(rt: &impl Abort, alloc: Global, store: &mut AigSat, row: (Edge, Deci
     assert!(rt; well, "{e:?}");
 }
 
-/// Edges that need no search, a decision that is given up, and the ones after it.
+/// Edges that need no search, a decision that is given up, and the ones after it: all decisions learn three clauses at most.
 #[test]
 fn answers_and_books(rt: HostRuntime) {
-    let mut store = AigSat::new(rt.alloc(), 1_000, 1).expect(&rt, "no memory");
+    let mut store = AigSat::new(rt.alloc(), 1_000, 3).expect(&rt, "no memory");
     assert!(rt; store.take_book().is_none() && store.limit() == 1_000);
     let high = store.constant(true);
     let x = variable(&rt, &mut store, 0);
@@ -269,8 +269,12 @@ fn answers_and_books(rt: HostRuntime) {
         (both, Decision::Sometimes, 0, true),
         (neither, Decision::Sometimes, 0, false),
         (low, Decision::Never, 1, false),
-        (hard, Decision::Spent, 1, true),
         (both, Decision::Sometimes, 0, true),
+        (hard, Decision::Spent, 2, true),
+        (neither, Decision::Sometimes, 0, false),
+        (both, Decision::Spent, 0, false),
+        (low, Decision::Spent, 0, false),
+        (high, Decision::Sometimes, 0, false),
     ] {
         try_edge(&rt, rt.alloc(), &mut store, row);
     }

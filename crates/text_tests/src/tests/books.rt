@@ -71,7 +71,9 @@ fn shelf(alloc: Global, byte: u8, count: usize, fails: Vec<u64>) -> Result<Memor
 }
 
 /// How many bytes are read of a book.
-fn length_read<S: Shelf>(alloc: Global, shelf: &mut S, name: &str) -> Result<usize, ReadEnd> {
+fn length_read<S: Shelf>(alloc: Global, shelf: &mut S, name: &str) -> Result<usize, ReadEnd>
+    requires { S.may_open name.now }
+{
     match read_book(alloc, shelf, name) {
         Ok(bytes) => Ok(bytes.len()),
         Err(end) => Err(end),
@@ -150,6 +152,8 @@ struct ByteByByte<S: Shelf + Drop> {
 }
 
 impl<S: Shelf + Drop> Shelf for ByteByByte<S> {
+    ghost may_open = { S.may_open };
+
     ghost holds = { λ s name. S.holds s.inner name };
 
     ghost rest = { λ s. S.rest s.inner };

@@ -2,7 +2,8 @@ use Rattle.std.proofs.Common.{◌≡◌, ◌∙◌, ◌<◌, ap, sym, subst, len
 use Rattle.std.specs.Prelude.{slice_get}
 use Rattle.std.specs.Vec.Iter.{into_iter_items}
 use Rattle.std.proofs.lemmas.Option.{slice_get_within}
-use Rattle.gl_book.specs.Phases.{job_seen, jobs_of}
+use Rattle.gl_book.specs.Phases.{CanBeAnswered, job_seen, jobs_of}
+use Rattle.gl_book.proofs.Phases.{all_at}
 use Rattle.gl_book.specs.Stops.{HasRoom, counts_with}
 use Rattle.gl_book.proofs.Joined.{on_err}
 use Rattle.gl_book.proofs.Puts.{counts_next, get_of_drop, rest_of_drop, room_after, stalls_front, stalls_more, writes_front, writes_more}
@@ -28,7 +29,7 @@ returns-in_err-put_job-clause-keeps_front g c =
     let answers = c.args.answers.items in
     let i = c.loop-answer.i in
     let at : slice_get answers i ≡ Some c.in-Some.answer = get_of_drop answers i c.in-Some.answer (into_iter_items c.next.new.self) (sym c.loop-answer.invariant.rest ∙ c.in-Some.ensures.steps.0) in
-    on_err c.from_residual.result (stalls_front answers i c.in-Some.answer c.args.stalls.now c.loop-answer.stalls c.put_job.new.stalls at c.loop-answer.invariant.keeps c.in_err-put_job.ensures.kept_front)
+    on_err c.from_residual.result (stalls_front answers i c.in-Some.answer (g.O.Observer.stalls c.args.out.now) (g.O.Observer.stalls c.loop-answer.out) (g.O.Observer.stalls c.put_job.new.out) at c.loop-answer.invariant.keeps c.in_err-put_job.ensures.kept_front)
 
 pub loop-answer-preserved : goal.loop-answer-preserved
 loop-answer-preserved g c =
@@ -44,6 +45,10 @@ loop-answer-preserved g c =
       rest = rest_of_drop answers i a left apart;
       faults = c.in_ok-put_job.ensures.cause ∙ c.loop-answer.invariant.faults;
       writes = writes_more c.args.texts.now c.args.run.now.last_only (jobs_of c.args.waiting.now) answers i (job_seen c.at-job.result.now) a c.at-job.ensures at _ _ _ c.loop-answer.invariant.writes c.in_ok-put_job.ensures.ok;
-      keeps = stalls_more answers i a c.args.stalls.now c.loop-answer.stalls c.put_job.new.stalls at c.loop-answer.invariant.keeps c.in_ok-put_job.ensures.kept;
+      keeps = stalls_more answers i a (g.O.Observer.stalls c.args.out.now) (g.O.Observer.stalls c.loop-answer.out) (g.O.Observer.stalls c.put_job.new.out) at c.loop-answer.invariant.keeps c.in_ok-put_job.ensures.kept;
       counts = c.with-counts.ensures ∙ (ap (λ k. counts_with k a) c.loop-answer.invariant.counts ∙ sym (counts_next c.args.start answers i a at));
     }
+
+pub put_job-requires : goal.put_job-requires
+put_job-requires g c =
+    all_at (CanBeAnswered c.args.world.now.definitions) (jobs_of c.args.waiting.now) c.loop-answer.i (job_seen c.at-job.result.now) c.requires.ready c.at-job.ensures

@@ -13,8 +13,8 @@ invariant-loop-answer g l = record {
   counted : into_iter_len l.answer-iterator ≡ length (into_iter_items l.answer-iterator);
   within : l.i ≤ length l.fn.answers.items;
   rest : into_iter_items l.answer-iterator ≡ drop l.i l.fn.answers.items;
-  faults : g.K.Sink.faults l.out ≡ g.K.Sink.faults l.fn.out;
-  writes : Grows (g.K.Sink.written l.fn.out) (g.K.Sink.written l.out) (told_before l.run.last_only (phase_lines l.texts (take l.i (jobs_of l.waiting)) (take l.i l.fn.answers.items)));
-  keeps : l.stalls ≡ l.fn.stalls ++ flat_map stalls_of (take l.i l.fn.answers.items);
+  faults : g.O.Observer.faults l.out ≡ g.O.Observer.faults l.fn.out;
+  writes : Grows (g.O.Observer.written l.fn.out) (g.O.Observer.written l.out) (told_before l.run.last_only (phase_lines l.texts (take l.i (jobs_of l.waiting)) (take l.i l.fn.answers.items)));
+  keeps : g.O.Observer.stalls l.out ≡ g.O.Observer.stalls l.fn.out ++ flat_map stalls_of (take l.i l.fn.answers.items);
   counts : l.counts ≡ counts_after l.fn.start (take l.i l.fn.answers.items);
 }

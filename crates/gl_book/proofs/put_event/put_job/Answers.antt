@@ -1,4 +1,4 @@
-use Rattle.std.proofs.Common.{sym, subst, ℕ, take, List}
+use Rattle.std.proofs.Common.{◌∙◌, sym, subst, ℕ, take, List}
 use Rattle.gl_base.specs.Outside.{Grows}
 use Rattle.gl_base.proofs.Growth.{grows-then}
 use Rattle.event_world.specs.Seen.{event_seen}
@@ -16,8 +16,8 @@ returns-in_err-put_event-clause-front g c =
     let last = c.args.last_only in
     let xs = event_lines c.args.texts.now (event_seen c.args.job.now.event) c.args.answer in
     let ys = c.args.job.now.behind in
-    let old = g.K.Sink.written c.args.out.now in
-    let new = g.K.Sink.written c.put_event.new.out in
+    let old = g.O.Observer.written c.args.out.now in
+    let new = g.O.Observer.written c.put_event.new.out in
     on_err _ (subst (λ (bs : List ℕ). (n : ℕ) × Grows old new (take n bs)) (sym (told_before_split last xs ys)) (front_first old new new (told_before last xs) (told_before last ys) c.in_err-put_event.ensures.front))
 
 pub returns-clause-ok : goal.returns-clause-ok
@@ -25,9 +25,9 @@ returns-clause-ok g c =
     let last = c.args.last_only in
     let xs = event_lines c.args.texts.now (event_seen c.args.job.now.event) c.args.answer in
     let ys = c.args.job.now.behind in
-    let old = g.K.Sink.written c.args.out.now in
-    let mid = g.K.Sink.written c.put_event.new.out in
-    let new = g.K.Sink.written c.put_behind.new.out in
+    let old = g.O.Observer.written c.args.out.now in
+    let mid = g.O.Observer.written c.put_event.new.out in
+    let new = g.O.Observer.written c.put_behind.new.out in
     ok_then c.put_behind.result c.put_behind.ensures.ok (λ h. subst (λ (bs : List ℕ). Grows old new bs) (sym (told_before_split last xs ys)) (grows-then old mid new (told_before last xs) (told_before last ys) c.in_ok-put_event.ensures.ok h))
 
 pub returns-clause-front : goal.returns-clause-front
@@ -35,10 +35,10 @@ returns-clause-front g c =
     let last = c.args.last_only in
     let xs = event_lines c.args.texts.now (event_seen c.args.job.now.event) c.args.answer in
     let ys = c.args.job.now.behind in
-    let old = g.K.Sink.written c.args.out.now in
-    let mid = g.K.Sink.written c.put_event.new.out in
-    let new = g.K.Sink.written c.put_behind.new.out in
+    let old = g.O.Observer.written c.args.out.now in
+    let mid = g.O.Observer.written c.put_event.new.out in
+    let new = g.O.Observer.written c.put_behind.new.out in
     err_then c.put_behind.result c.put_behind.ensures.front (λ h. subst (λ (bs : List ℕ). (n : ℕ) × Grows old new (take n bs)) (sym (told_before_split last xs ys)) (front_second old mid new (told_before last xs) (told_before last ys) c.in_ok-put_event.ensures.ok h))
 
 pub returns-clause-kept_front : goal.returns-clause-kept_front
-returns-clause-kept_front g c = on_err c.put_behind.result (kept_whole (stalls_of c.args.answer) c.args.stalls.now c.put_event.new.stalls c.in_ok-put_event.ensures.kept)
+returns-clause-kept_front g c = on_err c.put_behind.result (kept_whole (stalls_of c.args.answer) (g.O.Observer.stalls c.args.out.now) (g.O.Observer.stalls c.put_behind.new.out) (c.put_behind.ensures.unstalled ∙ c.in_ok-put_event.ensures.kept))

@@ -5,4 +5,4 @@ use Rattle.gl_book.proofs.put_lines.put_lines.Given as goal
 
 abbrev pub invariant-loop-i : goal.invariant-loop-i
 invariant-loop-i g l =
-    (g.K.Sink.faults l.out ≡ g.K.Sink.faults l.fn.out) × Grows (g.K.Sink.written l.fn.out) (g.K.Sink.written l.out) (concat (take l.i l.lines))
+    (g.O.Observer.faults l.out ≡ g.O.Observer.faults l.fn.out) × Grows (g.O.Observer.written l.fn.out) (g.O.Observer.written l.out) (concat (take l.i l.lines)) × (g.O.Observer.stalls l.out ≡ g.O.Observer.stalls l.fn.out)

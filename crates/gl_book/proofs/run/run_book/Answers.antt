@@ -23,7 +23,7 @@ returns-in-Ok-load-clause-written g c = λ _.
     of_list bounds c.in-Ok.field-0.texts names (g.S.Shelf.holds c.args.shelf.now) c.args.name.now book.items book.finish _ _ _ _ c.status_of_run.result c.in-Ok.ensures.opens c.in-Ok-load.ensures.flat written
 
 pub returns-in_default-clause-written : goal.returns-in_default-clause-written
-returns-in_default-clause-written g c = λ _. of_no_memory (bounds_of c.args.limits.now) (g.S.Shelf.holds c.args.shelf.now) c.args.name.now _ _ c.args.stalls.now c.args.stalls.now refl refl
+returns-in_default-clause-written g c = λ _. of_no_memory (bounds_of c.args.limits.now) (g.S.Shelf.holds c.args.shelf.now) c.args.name.now _ _ (g.O.Observer.stalls c.args.out.now) (g.O.Observer.stalls c.args.out.now) refl refl
 
 pub returns-in-Memory-clause-written : goal.returns-in-Memory-clause-written
-returns-in-Memory-clause-written g c = λ _. of_no_memory (bounds_of c.args.limits.now) (g.S.Shelf.holds c.args.shelf.now) c.args.name.now _ _ c.args.stalls.now c.args.stalls.now refl refl
+returns-in-Memory-clause-written g c = λ _. of_no_memory (bounds_of c.args.limits.now) (g.S.Shelf.holds c.args.shelf.now) c.args.name.now _ _ (g.O.Observer.stalls c.args.out.now) (g.O.Observer.stalls c.args.out.now) refl refl

@@ -13,4 +13,4 @@ returns-clause-written g c =
     (ends_with (bounds_of c.args.run.now.limits.now) c.args.text.now c.args.run.now.last_only _ _ _ _ c.write_text.result c.write_text.ensures.written)
 
 pub returns-in-Some-clause-written : goal.returns-in-Some-clause-written
-returns-in-Some-clause-written g c = c.refuse_long.ensures.written (bounds_of c.args.run.now.limits.now) c.args.text.now c.args.stalls.now (rw c.in-Some.is at c.too_long.ensures)
+returns-in-Some-clause-written g c = c.refuse_long.ensures.written (bounds_of c.args.run.now.limits.now) c.args.text.now (rw c.in-Some.is at c.too_long.ensures)

@@ -20,7 +20,7 @@ returns-clause-written g c =
     walked (IsTranscript bounds text) c.args.run.now.last_only _ _ _ _ o.texts bounds book o.state told c.walk-written.result c.walk-written.ensures.ok c.walk-written.ensures.front
 
 pub returns-in_default-clause-written : goal.returns-in_default-clause-written
-returns-in_default-clause-written g c = record { ends = nothing_written (bounds_of c.args.run.now.limits.now) c.args.text.now c.args.run.now.last_only _ _ c.args.stalls.now c.args.stalls.now refl refl; reported = tt }
+returns-in_default-clause-written g c = record { ends = nothing_written (bounds_of c.args.run.now.limits.now) c.args.text.now c.args.run.now.last_only _ _ (g.O.Observer.stalls c.args.out.now) (g.O.Observer.stalls c.args.out.now) refl refl; reported = tt }
 
 pub returns-in_default-alone-clause-written : goal.returns-in_default-alone-clause-written
-returns-in_default-alone-clause-written g c = record { ends = nothing_written (bounds_of c.args.run.now.limits.now) c.args.text.now c.args.run.now.last_only _ _ c.args.stalls.now c.args.stalls.now refl refl; reported = tt }
+returns-in_default-alone-clause-written g c = record { ends = nothing_written (bounds_of c.args.run.now.limits.now) c.args.text.now c.args.run.now.last_only _ _ (g.O.Observer.stalls c.args.out.now) (g.O.Observer.stalls c.args.out.now) refl refl; reported = tt }

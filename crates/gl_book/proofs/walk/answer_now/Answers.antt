@@ -15,7 +15,7 @@ use Rattle.gl_book.proofs.walk.answer_now.Goals as goal
 
 pub returns-in-Memory-clause-front : goal.returns-in-Memory-clause-front
 returns-in-Memory-clause-front g c =
-    nothing_past c.args.texts.now (bounds_of c.args.run.now.limits.now) c.args.run.now.last_only (item.Form c.args.form.now) (place_at c.args.progress.now (g.K.Sink.written c.args.out.now) c.args.stalls.now)
+    nothing_past c.args.texts.now (bounds_of c.args.run.now.limits.now) c.args.run.now.last_only (item.Form c.args.form.now) (place_at c.args.progress.now (g.O.Observer.written c.args.out.now) (g.O.Observer.stalls c.args.out.now))
 
 pub returns-in_default-cause : goal.returns-in_default-cause
 returns-in_default-cause g c =
@@ -23,7 +23,7 @@ returns-in_default-cause g c =
     let bounds = bounds_of c.args.run.now.limits.now in
     let last = c.args.run.now.last_only in
     let form = c.args.form.now in
-    let here = place_at c.args.progress.now (g.K.Sink.written c.args.out.now) c.args.stalls.now in
+    let here = place_at c.args.progress.now (g.O.Observer.written c.args.out.now) (g.O.Observer.stalls c.args.out.now) in
     let past =
     refused_past names bounds last form (event_seen c.args.event) c.args.progress.now c.requires.next.meant here.written here.stalls c.requires.none c.answer_to-answer.result c.answer_to-answer.ensures c.in-Some.cause
     (sym c.refused_cause.ensures ∙ c.in-Some.is) c.in_default-cause.not-Memory in
@@ -31,7 +31,7 @@ returns-in_default-cause g c =
 
 pub returns-in-Err-clause-front : goal.returns-in-Err-clause-front
 returns-in-Err-clause-front g c =
-    goes_past_front c.args.texts.now (bounds_of c.args.run.now.limits.now) c.args.run.now.last_only c.args.form.now (event_seen c.args.event) c.args.progress.now c.requires.next.meant (g.K.Sink.written c.args.out.now) c.args.stalls.now c.requires.none
+    goes_past_front c.args.texts.now (bounds_of c.args.run.now.limits.now) c.args.run.now.last_only c.args.form.now (event_seen c.args.event) c.args.progress.now c.requires.next.meant (g.O.Observer.written c.args.out.now) (g.O.Observer.stalls c.args.out.now) c.requires.none
     c.answer_to-answer.result c.answer_to-answer.ensures _ _ (sym c.refused_cause.ensures ∙ c.in_default.is) c.in-Err.ensures.front c.in-Err.ensures.kept_front
 
 pub returns-in-Err-take-clause-front : goal.returns-in-Err-take-clause-front
@@ -39,16 +39,16 @@ returns-in-Err-take-clause-front g c =
     let e = event_seen c.args.event in
     let a = c.answer_to-answer.result in
     let last = c.args.run.now.last_only in
-    let written = g.K.Sink.written c.args.out.now in
-    let now = g.K.Sink.written c.put_event.new.out in
-    goes_past_front c.args.texts.now (bounds_of c.args.run.now.limits.now) last c.args.form.now e c.args.progress.now c.requires.next.meant written c.args.stalls.now c.requires.none
-    a c.answer_to-answer.ensures now c.put_event.new.stalls (sym c.refused_cause.ensures ∙ c.in_default.is)
-    (whole_front written now now (told_before last (event_lines c.args.texts.now e a)) c.in-Ok.ensures.ok refl) (kept_whole (stalls_of a) c.args.stalls.now c.put_event.new.stalls c.in-Ok.ensures.kept)
+    let written = g.O.Observer.written c.args.out.now in
+    let now = g.O.Observer.written c.put_event.new.out in
+    goes_past_front c.args.texts.now (bounds_of c.args.run.now.limits.now) last c.args.form.now e c.args.progress.now c.requires.next.meant written (g.O.Observer.stalls c.args.out.now) c.requires.none
+    a c.answer_to-answer.ensures now (g.O.Observer.stalls c.put_event.new.out) (sym c.refused_cause.ensures ∙ c.in_default.is)
+    (whole_front written now now (told_before last (event_lines c.args.texts.now e a)) c.in-Ok.ensures.ok refl) (kept_whole (stalls_of a) (g.O.Observer.stalls c.args.out.now) (g.O.Observer.stalls c.put_event.new.out) c.in-Ok.ensures.kept)
 
 pub returns-in-Ok-take-clause-ok : goal.returns-in-Ok-take-clause-ok
 returns-in-Ok-take-clause-ok g c =
     let e = event_seen c.args.event in
     let old = c.args.progress.now in
-    goes_past c.args.texts.now (bounds_of c.args.run.now.limits.now) c.args.run.now.last_only c.args.form.now e old c.requires.next.meant (g.K.Sink.written c.args.out.now) c.args.stalls.now c.requires.none
-    c.answer_to-answer.result c.answer_to-answer.ensures (record { state = c.take.new.self; counts = c.with-progress.result; waiting = old.waiting }) (g.K.Sink.written c.put_event.new.out) c.put_event.new.stalls
+    goes_past c.args.texts.now (bounds_of c.args.run.now.limits.now) c.args.run.now.last_only c.args.form.now e old c.requires.next.meant (g.O.Observer.written c.args.out.now) (g.O.Observer.stalls c.args.out.now) c.requires.none
+    c.answer_to-answer.result c.answer_to-answer.ensures (record { state = c.take.new.self; counts = c.with-progress.result; waiting = old.waiting }) (g.O.Observer.written c.put_event.new.out) (g.O.Observer.stalls c.put_event.new.out)
     (sym c.refused_cause.ensures ∙ c.in_default.is) (c.in-Ok-take.ensures ∙ ap (next_state old.state c.args.form.now.tree e) c.in-Ok.ensures.value) c.requires.none c.with-progress.ensures c.in-Ok.ensures.ok c.in-Ok.ensures.kept

@@ -10,11 +10,11 @@ use Rattle.gl_book.proofs.Ways.{front_past, nothing_past, phase_leads, phase_lea
 use Rattle.gl_book.proofs.walk.take_event.Goals as goal
 
 pub returns-in-Ok-clause-ok : goal.returns-in-Ok-clause-ok
-returns-in-Ok-clause-ok g c = c.in-Ok.ensures (g.K.Sink.written c.args.out.now) c.args.stalls.now
+returns-in-Ok-clause-ok g c = c.in-Ok.ensures (g.O.Observer.written c.args.out.now) (g.O.Observer.stalls c.args.out.now)
 
 pub returns-in-Err-clause-front : goal.returns-in-Err-clause-front
 returns-in-Err-clause-front g c =
-    nothing_past c.args.texts.now (bounds_of c.args.run.now.limits.now) c.args.run.now.last_only (item.Form c.args.form.now) (place_at c.args.progress.now (g.K.Sink.written c.args.out.now) c.args.stalls.now)
+    nothing_past c.args.texts.now (bounds_of c.args.run.now.limits.now) c.args.run.now.last_only (item.Form c.args.form.now) (place_at c.args.progress.now (g.O.Observer.written c.args.out.now) (g.O.Observer.stalls c.args.out.now))
 
 pub answer_now-requires-clause-next : goal.answer_now-requires-clause-next
 answer_now-requires-clause-next g c κs within = subst (λ (st : BookState). IsNext c.args.texts.now st c.args.form.now.tree (event_seen c.args.event)) (sym c.in-Ok-end_phase.ensures.ok.state) c.requires.next

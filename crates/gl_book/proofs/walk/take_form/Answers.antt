@@ -15,14 +15,14 @@ returns-in-Ok-clause-front g c =
     let last = c.args.run.now.last_only in
     let form = c.args.form.now in
     let old = c.args.progress.now in
-    let written = g.K.Sink.written c.args.out.now in
-    let stalls = c.args.stalls.now in
+    let written = g.O.Observer.written c.args.out.now in
+    let stalls = (g.O.Observer.stalls c.args.out.now) in
     let here = place_at old written stalls in
-    err_then c.take_event.result c.take_event.ensures.front (λ h. subst (λ (ns : List (List ℕ)). LeadsPastToFront ns bounds last (item.Form form) here (g.K.Sink.written c.take_event.new.out) c.take_event.new.stalls) c.event.ensures.texts h)
+    err_then c.take_event.result c.take_event.ensures.front (λ h. subst (λ (ns : List (List ℕ)). LeadsPastToFront ns bounds last (item.Form form) here (g.O.Observer.written c.take_event.new.out) (g.O.Observer.stalls c.take_event.new.out)) c.event.ensures.texts h)
 
 pub returns-in-Memory-clause-front : goal.returns-in-Memory-clause-front
 returns-in-Memory-clause-front g c =
-    nothing_past c.args.texts.now (bounds_of c.args.run.now.limits.now) c.args.run.now.last_only (item.Form c.args.form.now) (place_at c.args.progress.now (g.K.Sink.written c.args.out.now) c.args.stalls.now)
+    nothing_past c.args.texts.now (bounds_of c.args.run.now.limits.now) c.args.run.now.last_only (item.Form c.args.form.now) (place_at c.args.progress.now (g.O.Observer.written c.args.out.now) (g.O.Observer.stalls c.args.out.now))
 
 pub returns-in_err-end_phase-in_default : goal.returns-in_err-end_phase-in_default
 returns-in_err-end_phase-in_default g c =
@@ -31,11 +31,11 @@ returns-in_err-end_phase-in_default g c =
     let last = c.args.run.now.last_only in
     let form = c.args.form.now in
     let old = c.args.progress.now in
-    let written = g.K.Sink.written c.args.out.now in
-    let stalls = c.args.stalls.now in
+    let written = g.O.Observer.written c.args.out.now in
+    let stalls = (g.O.Observer.stalls c.args.out.now) in
     let here = place_at old written stalls in
-    let now = g.K.Sink.written c.end_phase.new.out in
-    let after = c.end_phase.new.stalls in
+    let now = g.O.Observer.written c.end_phase.new.out in
+    let after = (g.O.Observer.stalls c.end_phase.new.out) in
     let ends : EndsPhaseByFront names bounds last old written stalls now after = subst (λ (ns : List (List ℕ)). EndsPhaseByFront ns bounds last old written stalls now after) c.event.ensures.texts c.in_err-end_phase-in_default.ensures.front in
     record {
       ok = search rules;
@@ -51,11 +51,11 @@ returns-in_ok-end_phase-in_default g c =
     let last = c.args.run.now.last_only in
     let form = c.args.form.now in
     let old = c.args.progress.now in
-    let written = g.K.Sink.written c.args.out.now in
-    let stalls = c.args.stalls.now in
+    let written = g.O.Observer.written c.args.out.now in
+    let stalls = (g.O.Observer.stalls c.args.out.now) in
     let here = place_at old written stalls in
-    let now = g.K.Sink.written c.end_phase.new.out in
-    let after = c.end_phase.new.stalls in
+    let now = g.O.Observer.written c.end_phase.new.out in
+    let after = (g.O.Observer.stalls c.end_phase.new.out) in
     let new = c.end_phase.new.progress in
     let ends : EndsPhase names bounds last old written stalls new now after = subst (λ (ns : List (List ℕ)). EndsPhase ns bounds last old written stalls new now after) c.event.ensures.texts c.in_ok-end_phase-in_default.ensures.ok in
     let leads = phase_leads names bounds last old written now stalls after new ends in

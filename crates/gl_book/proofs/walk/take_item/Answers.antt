@@ -7,6 +7,6 @@ use Rattle.gl_book.proofs.walk.take_item.Goals as goal
 pub returns-in-Err-clause-front : goal.returns-in-Err-clause-front
 returns-in-Err-clause-front g c =
     let bounds = bounds_of c.args.run.now.limits.now in
-    let stalls = c.args.stalls.now in
-    let here = place_at c.args.progress.now (g.K.Sink.written c.args.out.now) stalls in
-    subst (λ (x : Item). LeadsPastToFront c.args.texts.now bounds c.args.run.now.last_only x here (g.K.Sink.written c.take_mark.new.out) stalls) (sym c.in-Mark.is) (c.in-Err.ensures.front stalls)
+    let stalls = (g.O.Observer.stalls c.args.out.now) in
+    let here = place_at c.args.progress.now (g.O.Observer.written c.args.out.now) stalls in
+    subst (λ (x : Item). LeadsPastToFront c.args.texts.now bounds c.args.run.now.last_only x here (g.O.Observer.written c.take_mark.new.out) (g.O.Observer.stalls c.take_mark.new.out)) (sym c.in-Mark.is) c.in-Err.ensures.front

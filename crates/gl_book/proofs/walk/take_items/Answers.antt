@@ -13,7 +13,7 @@ pub loop-i-init : goal.loop-i-init
 loop-i-init g c = record {
   faults = refl;
   texts = refl;
-  stands = begins_at c.args.texts.now (bounds_of c.args.run.now.limits.now) c.args.run.now.last_only c.args.book.now (place_at c.args.progress.now (g.K.Sink.written c.args.out.now) c.args.stalls.now) c.requires.can_go_on c.requires.uncounted c.requires.none;
+  stands = begins_at c.args.texts.now (bounds_of c.args.run.now.limits.now) c.args.run.now.last_only c.args.book.now (place_at c.args.progress.now (g.O.Observer.written c.args.out.now) (g.O.Observer.stalls c.args.out.now)) c.requires.can_go_on c.requires.uncounted c.requires.none;
 }
 
 pub take_item-requires-clause-empty : goal.take_item-requires-clause-empty
@@ -30,17 +30,17 @@ take_item-requires-clause-room g c κs within =
 pub returns-in_err-refusal-clause-front : goal.returns-in_err-refusal-clause-front
 returns-in_err-refusal-clause-front g c =
     let bounds = bounds_of c.args.run.now.limits.now in
-    let here = place_at c.loop-i.progress (g.K.Sink.written c.loop-i.out) c.loop-i.stalls in
-    let front = subst (λ (ns : List (List ℕ)). LeadsPastToFront ns bounds c.args.run.now.last_only c.at-next.result.now here (g.K.Sink.written c.take_item.new.out) c.take_item.new.stalls) c.loop-i.invariant.texts c.in_err-refusal.ensures.front in
+    let here = place_at c.loop-i.progress (g.O.Observer.written c.loop-i.out) (g.O.Observer.stalls c.loop-i.out) in
+    let front = subst (λ (ns : List (List ℕ)). LeadsPastToFront ns bounds c.args.run.now.last_only c.at-next.result.now here (g.O.Observer.written c.take_item.new.out) (g.O.Observer.stalls c.take_item.new.out)) c.loop-i.invariant.texts c.in_err-refusal.ensures.front in
     on_err c.from_residual.result (front _ _ c.at-next.ensures c.loop-i.invariant.stands)
 
 pub returns-in-Some-clause-ok : goal.returns-in-Some-clause-ok
 returns-in-Some-clause-ok g c =
     let bounds = bounds_of c.args.run.now.limits.now in
     let last = c.args.run.now.last_only in
-    let here = place_at c.loop-i.progress (g.K.Sink.written c.loop-i.out) c.loop-i.stalls in
+    let here = place_at c.loop-i.progress (g.O.Observer.written c.loop-i.out) (g.O.Observer.stalls c.loop-i.out) in
     let next = c.at-next.result.now in
-    let q = place_at c.take_item.new.progress (g.K.Sink.written c.take_item.new.out) c.take_item.new.stalls in
+    let q = place_at c.take_item.new.progress (g.O.Observer.written c.take_item.new.out) (g.O.Observer.stalls c.take_item.new.out) in
     let told = subst (λ (o : Option Refusal). LeadsPast c.loop-i.texts bounds last next here o q) c.in-Some.is c.in_ok-refusal.ensures.ok in
     let past = subst (λ (ns : List (List ℕ)). LeadsPast ns bounds last next here (Some c.in-Some.refusal) q) c.loop-i.invariant.texts told in
     (c.loop-i.i, past _ _ c.at-next.ensures c.loop-i.invariant.stands)
@@ -57,10 +57,10 @@ returns-in_err-end_phase-clause-front g c =
     let bounds = bounds_of c.args.run.now.limits.now in
     let last = c.args.run.now.last_only in
     let old = c.loop-i.progress in
-    let written = g.K.Sink.written c.loop-i.out in
-    let stalls = c.loop-i.stalls in
-    let now = g.K.Sink.written c.end_phase.new.out in
-    let after = c.end_phase.new.stalls in
+    let written = g.O.Observer.written c.loop-i.out in
+    let stalls = g.O.Observer.stalls c.loop-i.out in
+    let now = g.O.Observer.written c.end_phase.new.out in
+    let after = g.O.Observer.stalls c.end_phase.new.out in
     let ended = subst (λ (ns : List (List ℕ)). EndsPhaseByFront ns bounds last old written stalls now after) c.loop-i.invariant.texts c.in_err-end_phase.ensures.front in
     on_err c.from_residual-in_err-end_phase.result (phase_leads_front names bounds last old written now stalls after ended _ _ c.loop-i.invariant.stands)
 
@@ -70,12 +70,12 @@ returns-clause-ok g c =
     let bounds = bounds_of c.args.run.now.limits.now in
     let last = c.args.run.now.last_only in
     let old = c.loop-i.progress in
-    let written = g.K.Sink.written c.loop-i.out in
-    let stalls = c.loop-i.stalls in
-    let now = g.K.Sink.written c.end_phase.new.out in
-    let after = c.end_phase.new.stalls in
+    let written = g.O.Observer.written c.loop-i.out in
+    let stalls = g.O.Observer.stalls c.loop-i.out in
+    let now = g.O.Observer.written c.end_phase.new.out in
+    let after = g.O.Observer.stalls c.end_phase.new.out in
     let new = c.end_phase.new.progress in
-    let course = course_from c.args.book.now (place_at c.args.progress.now (g.K.Sink.written c.args.out.now) c.args.stalls.now) in
+    let course = course_from c.args.book.now (place_at c.args.progress.now (g.O.Observer.written c.args.out.now) (g.O.Observer.stalls c.args.out.now)) in
     let q = place_at new now after in
     let ended = subst (λ (ns : List (List ℕ)). EndsPhase ns bounds last old written stalls new now after) c.loop-i.invariant.texts c.in_ok-end_phase.ensures.ok in
     let s = phase_leads names bounds last old written now stalls after new ended course c.loop-i.i c.loop-i.invariant.stands in

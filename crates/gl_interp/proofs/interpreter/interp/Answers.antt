@@ -82,7 +82,7 @@ loop-focus-preserved g c =
     let ds = c.args.world.now.definitions in
     let task : Task = record { world = c.args.world.now; machine = c.args.machine.now; clock = c.args.clock; term = term_of c.args.term.now; env = c.args.env.now; path = c.args.path } in
     let l = c.loop-focus in
-    running_plain g.B.Meaning c.args.objs.now task l.objs _ l.machine _ l.envs _ l.onward _ l.frames _ _ l.focus _ _ l.invariant c.in-Some.ensures c.in-Give.is c.in-Ok-give.ensures.leaves (rests_none l.machine) (c.in-Ok-give.ensures.turn ds) (c.in-Ok-give.ensures.terms ds)
+    running_plain g.B.Meaning c.args.objs.now task l.objs _ l.machine _ l.envs _ l.onward _ l.frames _ _ l.focus _ _ l.invariant c.in-Some.ensures c.in-Give.is c.in-Ok-give.ensures.leaves c.in-Ok-give.ensures.rests (c.in-Ok-give.ensures.turn ds) (c.in-Ok-give.ensures.terms ds)
 
 pub loop-focus-smaller : goal.loop-focus-smaller
 loop-focus-smaller g c = falls_turn c.args.world.now.definitions c.loop-focus.frames _ _ c.loop-focus.focus _ _ c.in-Some.ensures c.in-Give.is (c.in-Ok-give.ensures.falls c.args.world.now.definitions)
