@@ -1,7 +1,6 @@
 ; A whole book: which definitions, constants and shipped books its theorems need, and its text; and the comparison of the text with ACL2.
 
 (in-package "GLPORT")
-
 (defun shape-form (shape)
   (case (car shape)
     (:int (let* ((l (cdr shape)) (by (if (cdr l) (- (second l) (first l)) 1)))
@@ -14,14 +13,10 @@
              (loop while (eq (car rest) :cons) do (push (shape-form (second rest)) items) (setq rest (third rest)))
              (if (equal rest '(:const nil)) (format nil "(~{~a~^ ~})" (nreverse items)) (format nil "(~{~a~^ ~} . ~a)" (nreverse items) (shape-form rest)))))
     (:ite (format nil "(:g-ite (:g-boolean . ~a) ~a . ~a)" (second shape) (shape-form (third shape)) (shape-form (fourth shape))))))
-
 (defun bindings-text (bindings)
   (format nil "(~{~a~^ ~})" (loop for (v . shape) in bindings collect (format nil "(~a ~a)" (variable-token v) (shape-form shape)))))
-
 (defun hypothesis (theorem)
-  (let ((hyp (theorem-hyp theorem)))
-    (dolist (c (reverse (theorem-front theorem)) hyp) (setq hyp (list "if" c hyp ''nil)))))
-
+  (let ((hyp (theorem-hyp theorem))) (dolist (c (reverse (theorem-front theorem)) hyp) (setq hyp (list "if" c hyp ''nil)))))
 (defun theorem-text (theorem)
   (let* ((*variable-names* (make-names)) (hyp (form-of (hypothesis theorem))) (concl (form-of (theorem-concl theorem)))
          (bindings (bindings-text (theorem-bindings theorem))))
@@ -41,7 +36,6 @@
                     (part ":cov-bindings" (concatenate 'string "`" bindings))))
         (format nil "(def-gl-thm ~a~a~a~a)" (theorem-token theorem) (part ":hyp" (laid hyp)) (part ":concl" (laid concl))
                 (part ":g-bindings" (concatenate 'string "`" bindings)))))))
-
 (defun hide-parameters (theorem)
   "Gives each parameter a token that stands nowhere else in the book."
   (dolist (v (theorem-param-names theorem))
@@ -50,33 +44,26 @@
             unless (or (gethash c (names-taken *function-names*)) (gethash c (names-taken *data-names*)) (gethash c (names-taken *variable-names*)) (language-word-p c))
             do (take-name v (list c) *variable-names*) (return)
             finally (refuse "the parameter ~(~a~) stands elsewhere too" v)))))
-
 (defun all-words (term visit)
   "Visits each name of the language that a term calls."
   (cond ((or (atom term) (quoted-p term)))
         ((eq (car term) :let) (dolist (b (second term)) (all-words (cdr b) visit)) (all-words (third term) visit))
         (t (funcall visit (car term)) (dolist (x (cdr term)) (all-words x visit)))))
-
 (defparameter *macros* (split "if quote and or cond case let let* list list* + * - 1+ 1- <= > >= /= append logand logior logxor member first second third fourth
   fifth rest the mbe declare defun defconst mutual-recursion def-gl-thm def-gl-param-thm memoize unmemoize value-triple assert-event include-book in-package
   gl-bdd-mode gl-param-mode gl-satlink-mode g-int g-boolean auto-bindings logcount-nat caar cadr cdar cddr caaar caadr cadar caddr cdaar cdadr cddar cdddr
   caaaar caaadr caadar caaddr cadaar cadadr caddar cadddr cdaaar cdaadr cdadar cdaddr cddaar cddadr cdddar cddddr otherwise"))
-
 (defun language-word-p (name) (or (member name *macros* :test #'string=) (member name *own* :test #'(lambda (a b) (string-equal a (symbol-name b))))))
-
 (defun names-of-book (book)
-  (let ((table (make-hash-table :test 'equal)) names (*text-constants* nil))
+  (let (names)
     (dolist (form (read-forms (file-text (concatenate 'string *top* "books/" book ".lisp"))))
       (when (string= (word (car form)) "defun") (push (word (second form)) names)))
-    (clrhash table)
     names))
-
 (defun place-text (place)
   (destructuring-bind ((file . line) . path) place
     (if path
         (format nil "~a" (let ((full (path-text (car path)))) (if (eql (mismatch *system-folder* full) (length *system-folder*)) (subseq full (length *system-folder*)) (file-namestring full))))
-      (format nil "~a:~a" file line))))
-
+      (format nil "~a~@[:~a~]" file line))))
 (defun book-text (title theorems)
   "The text of a book with the theorems, which are in their order."
   (setq *function-names* (make-names) *data-names* (make-names) *constants* nil)
@@ -101,7 +88,8 @@
     (dolist (h *helpers*) (setf (gethash (car h) (names-taken *function-names*)) t))
     (dolist (b (if (member "rtl" shipped :test #'string=) (cons "bitops" shipped) shipped))
       (dolist (name (names-of-book b)) (setf (gethash name (names-taken *function-names*)) t)))
-    (setq needed (sort needed #'(lambda (a b) (< (definition-number a) (definition-number b)))))
+    (setq needed (sort needed #'(lambda (a b) (or (< (definition-number a) (definition-number b))
+                                                  (and (= (definition-number a) (definition-number b)) (< (definition-age a) (definition-age b)))))))
     (dolist (d needed) (token-of d))
     (dolist (th theorems)
       (setf (theorem-token th)
@@ -116,25 +104,25 @@
           (write-definitions (remove-if-not #'(lambda (d) (member d (reached-alone (theorem-definitions th) (list th)))) needed))
           (let ((wanted (and (theorem-mode th) (search "AIG" (symbol-name (theorem-mode th))) t)))
             (unless (eq wanted mode)
-              (push (if wanted (format nil "~%(gl-satlink-mode)") (format nil "~%(gl-bdd-mode)")) parts)
-              (setq mode wanted)))
+              (push (if wanted (format nil "~%(gl-satlink-mode)") (format nil "~%(gl-bdd-mode)")) parts) (setq mode wanted)))
           (push (format nil "~%; ~a~a~{~a~}~%~a" (place-text (list (theorem-place th)))
                         (if (theorem-uncovered th) (format nil "~%; Cover does not see that the hypothesis keeps ~a within its shape: the verdict will be 'uncovered'." (string-downcase (symbol-name (theorem-uncovered th)))) "")
-                        (assumptions th)
-                        (theorem-text th))
+                        (assumptions th) (theorem-text th))
                 parts))))
     (with-output-to-string (out)
-      (format out "; From ~a by gl_port.~%" title)
-      (dolist (b shipped) (format out "~%(include-book \"books/~a\")" b))
+      (format out "; From ~a by gl_port.~%" title) (dolist (b shipped) (format out "~%(include-book \"books/~a\")" b))
       (when shipped (terpri out))
       (dolist (h (reverse *helpers*))
         (when (member (car h) words :test #'string=)
           (when (string= (car h) "beyond-the-language")
             (format out "~%; What the language does not have leaves 128 bits: where it is reached, the verdict is 'width'."))
-          (format out "~%~a~%" (third h))))
+          (format out "~%~a~%" (if (string= (car h) "symbol<") (format nil (third h) (wrapped (object-text (symbols-in-order)))) (third h)))))
       (loop for (x . name) in *constants* do (format out "~%(defconst ~a~% '~a)~%" name (wrapped (object-text x))))
       (dolist (p (reverse parts)) (format out "~a~%" p)))))
-
+(defun symbols-in-order ()
+  "Each symbol that the book's objects have, with its place in ACL2's order."
+  (let ((all (list* t nil (loop for x being the hash-keys of (names-by-thing *data-names*) collect x))))
+    (loop for x in (sort all #'(lambda (a b) (acl2::symbol< a b))) for k from 1 collect (cons x k))))
 (defun wrapped (text)
   "A long object's text with its lines broken at blanks outside of strings."
   (let ((at 0))
@@ -145,10 +133,8 @@
                (if (and (char= c #\Space) (not quoted) (> at 120) (not (char= (char text (1- i)) #\\)))
                    (progn (format out "~%  ") (setq at 2))
                  (princ c out))))))
-
 (defun shipped-name-p (word book)
   (loop for value being the hash-values of (shipped-table) thereis (and (equal (cdr value) word) (equal (car value) book))))
-
 (defun reached-alone (definitions theorems)
   "Those of the definitions that the theorems reach, as their terms are written."
   (let (found)
@@ -158,7 +144,6 @@
       (dolist (th theorems)
         (dolist (x (list* (theorem-hyp th) (theorem-concl th) (theorem-param-hyp th) (theorem-front th))) (all-words x #'visit))))
     (intersection found (union definitions found))))
-
 (defun assumptions (th)
   (let (words)
     (labels ((note (f) (when (member f '("power" "power-of-2" "quotient" "beyond-the-language") :test #'equal) (pushnew f words :test #'string=))))
@@ -168,15 +153,12 @@
             (loop for c in (theorem-changes th) when (stringp c) collect (format nil "~%; ~a." c)))))
 
 ; ---- the comparison
-
 (defun text-object (x)
   "The object of ACL2 as the written book has it."
   (cond ((consp x) (cons (text-object (car x)) (text-object (cdr x))))
         ((or (null x) (eq x t) (not (symbolp x))) x)
         (t (let ((token (string-upcase (symbol-token x)))) (if (keywordp x) (intern (subseq token 1) "KEYWORD") (intern token "BOOKTEXT"))))))
-
 (defun keyword-part (form key) (second (member key form)))
-
 (defun compare (text theorems)
   "How many values of the written book agree with ACL2's, and what does not."
   (let ((table (make-hash-table :test 'equal)) (forms (read-forms text)) (*text-constants* nil) (agree 0) (wrong nil) (bare nil))
@@ -184,13 +166,10 @@
     (flet ((row (what term env value truth)
              (multiple-value-bind (mine done) (value-within 2000000 term env table)
                (when done
-                 (if (if truth (eq (null mine) (null value)) (equal mine value))
-                     (incf agree)
-                   (pushnew what wrong :test #'string=))
+                 (if (if truth (eq (null mine) (null value)) (equal mine value)) (incf agree) (pushnew what wrong :test #'string=))
                  t))))
       (loop for d being the hash-keys of *rows* using (hash-value rows)
-            for token = (gethash d (names-by-thing *function-names*))
-            when token
+            for token = (gethash d (names-by-thing *function-names*)) when token
             do (let ((n (loop for (args . value) in rows
                               count (row (format nil "~a of ~a" token (place-text (definition-place d)))
                                          (cons token (mapcar #'(lambda (x) (list 'quote (text-object x))) args)) nil (text-object value) nil))))
@@ -202,7 +181,6 @@
             (let ((env (loop for (v . x) in (first r) for token = (cdr (assoc v (theorem-variables th)))
                              collect (cons (intern (string-upcase token) "BOOKTEXT") (text-object x)))))
               (when (row (format nil "the hypothesis of ~a" (theorem-token th)) hyp env (second r) t) (incf n))
-              (when (cddr r)
-                (when (row (format nil "the conclusion of ~a" (theorem-token th)) concl env (third r) t) (incf n)))))
+              (when (cddr r) (when (row (format nil "the conclusion of ~a" (theorem-token th)) concl env (third r) t) (incf n)))))
           (when (zerop n) (push (theorem-token th) bare)))))
     (values agree wrong bare)))

@@ -5,6 +5,8 @@
 ; Every spelling of a symbol, a number and a character that ACL2 reads.
 (defconst *mask* #ux_FF_00)
 (defconst *add* 3)
+(defconst *e-acute* (code-char 233))
+(defconst *acute* (coerce (list *e-acute*) 'string))
 (defun |lower case| (acl2::x)
   (logand acl2::x #.*mask*))
 (defun kind-of (c)
@@ -12,7 +14,7 @@
 (defun operate (op x)
   (case op (#.*add* (+ x 1)) ((4 5) (list '#.*mask* "a \\ \" b")) (otherwise x)))
 (defun spelled (x) (case x (1 '|a|) (2 'a) (3 '|A b;|) (4 '|12|) (5 '||) (6 :|k|) (7 '*c*) (8 '|T|) (otherwise '|t|)))
-(defun foreign (c) (case c (#.(code-char 233) 1) (#\e 2) (otherwise 3)))
+(defun foreign (c) (case c (#.*e-acute* 1) (#\e 2) (otherwise 3)))
 #+(and acl2 (not no-such-feature))
 (gl::def-gl-thm bars-and-bases
   :hyp (unsigned-byte-p 16 |X|)
@@ -35,4 +37,4 @@
 (gl::def-gl-thm letters-above-126 ; refuted
   :hyp (booleanp b) :concl (equal (foreign (if b (code-char 233) #\e)) 2) :g-bindings (gl::auto-bindings (:bool b)))
 (gl::def-gl-thm a-string-of-them ; not ported
-  :hyp (booleanp b) :concl (equal (if b '#.(coerce (list (code-char 233)) 'string) "e") "e") :g-bindings (gl::auto-bindings (:bool b)))
+  :hyp (booleanp b) :concl (equal (if b *acute* "e") "e") :g-bindings (gl::auto-bindings (:bool b)))

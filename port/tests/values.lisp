@@ -3,9 +3,8 @@
 (include-book "std/util/bstar" :dir :system)
 (include-book "std/util/define" :dir :system)
 (include-book "std/basic/defs" :dir :system)
-(include-book "centaur/fty/bitstruct" :dir :system)
 
-; Forms that are easily taken for others: b*, mbe, flet, case, bit structures.
+; Forms that are easily taken for others: b*, mbe, flet, case.
 (defun alu (op x)
   (b* ((op (mod op 4))
        ((when (< op 2)))
@@ -51,25 +50,17 @@
        :exec x))
 (gl::def-gl-thm the-logic-counts ; refuted
   :hyp (unsigned-byte-p 4 x) :concl (equal (logical x) x) :g-bindings (gl::auto-bindings (:nat x 4)))
-(defun tested (x) (if (mbt* (natp x)) 1 2))
-(gl::def-gl-thm tests-that-are-believed ; refuted
+(defun tested (x) (if (mbt (natp x)) 1 2))
+(defun believed (x) (if (mbt* (natp x)) 1 2))
+(gl::def-gl-thm tests-in-the-logic ; refuted
   :hyp (booleanp b) :concl (equal (tested (if b -1 1)) 1) :g-bindings (gl::auto-bindings (:bool b)))
+(gl::def-gl-thm tests-that-are-believed ; refuted
+  :hyp (booleanp b) :concl (equal (believed (if b -1 1)) (tested (if b -1 1))) :g-bindings (gl::auto-bindings (:bool b)))
 (gl::def-gl-thm a-string-reversed ; refuted
   :hyp (booleanp b) :concl (if b (not (equal (reverse "abc") "cba")) t) :g-bindings (gl::auto-bindings (:bool b)))
 (gl::def-gl-thm a-string-reversed-there ; not ported
   :hyp (booleanp b) :concl (equal (reverse (if b "abc" "cba")) nil) :g-bindings (gl::auto-bindings (:bool b)))
-(gl::def-gl-thm symbols-in-order ; not ported
-  :hyp (booleanp b) :concl (alphorder (if b 'a 'b) 'a) :g-bindings (gl::auto-bindings (:bool b)))
+(gl::def-gl-thm symbols-in-order ; refuted
+  :hyp (booleanp b) :concl (alphorder (if b 'ab 'b) 'ac) :g-bindings (gl::auto-bindings (:bool b)))
 (gl::def-gl-thm numbers-in-order ; refuted
   :hyp (unsigned-byte-p 3 x) :concl (lexorder (list x) (list 5)) :g-bindings (gl::auto-bindings (:nat x 3)))
-(fty::defbitstruct flags ((carry bitp) (zero bitp)))
-(fty::defbitstruct status :parents (acl2::top) :short "A status" ((mode (unsigned-byte 3)) (flags flags) (level (signed-byte 3) "a level")))
-(fty::defbitstruct offset 4 :signedp t)
-(gl::def-gl-thm fields
-  :hyp (unsigned-byte-p 8 x)
-  :concl (and (equal (status->mode x) (mod x 8)) (equal (flags->zero (status->flags x)) (logand 1 (ash x -4))) (<= (status->level x) 3))
-  :g-bindings (gl::auto-bindings (:nat x 8)))
-(gl::def-gl-thm a-field-with-a-sign ; refuted
-  :hyp (unsigned-byte-p 8 x) :concl (<= 0 (status->level x)) :g-bindings (gl::auto-bindings (:nat x 8)))
-(gl::def-gl-thm a-structure-with-a-sign ; refuted
-  :hyp (unsigned-byte-p 4 x) :concl (equal (offset-fix x) x) :g-bindings (gl::auto-bindings (:nat x 4)))

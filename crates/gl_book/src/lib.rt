@@ -63,7 +63,7 @@ pub use origin::{LineOf, Origin, Spot};
 pub use put_lines::put_told;
 pub use refusal::{Refusal, RefusalCode};
 pub use run::{every_text_has_a_transcript, run_book, run_library, run_text, run_text_gated};
-pub use settle::{keep_stall, settle};
+pub use settle::keep_stall;
 pub use transcript::Transcript;
 pub use verdict_text::{lines_of_verdict, verdict_lines};
 pub use walk::every_walk_goes_on;
