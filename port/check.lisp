@@ -99,7 +99,7 @@
   (let ((head (word (car form))))
     (cond ((string= head "defun") (setf (gethash (word (second form)) table) (cons (third form) (meaning (car (last form))))))
           ((string= head "mutual-recursion") (dolist (f (cdr form)) (define-from f table)))
-          ((string= head "defconst") (push (cons (second form) (run (meaning (third form)) nil table)) *text-constants*)))))
+          ((string= head "defconst") (push (cons (second form) (value-within 1000000000 (meaning (third form)) nil table)) *text-constants*)))))
 (defun load-language ()
   (setq *language* (make-hash-table :test 'equal)) (load-primitives)
   (let* ((text (file-text (concatenate 'string *top* "docs/LANGUAGE.md")))

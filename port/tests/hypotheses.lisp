@@ -37,7 +37,7 @@
   :hyp (and (rationalp x) (<= 0 x) (<= x 15))
   :concl (integerp x)
   :g-bindings (gl::auto-bindings (:nat x 4)))
-(gl::def-gl-thm a-bound-that-is-no-integers ; refuted
+(gl::def-gl-thm a-bound-that-is-not-seen ; not covered
   :hyp (and (integerp x) (< 0 x) (< (* 2 x) 9))
   :concl (< x 4)
   :g-bindings (gl::auto-bindings (:int x 5)))
