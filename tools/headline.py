@@ -117,11 +117,11 @@ class Module:
 
     @staticmethod
     def end_of(lines, at, name):
-        """Where the unit ends that begins at a line: it has what is deeper, and the equations of its name."""
+        """Where the unit ends that begins at a line: it has what is deeper, what closes a bracket, and the equations of its name."""
         end = at + 1
         for number in range(at + 1, len(lines)):
             line = lines[number]
-            if line.startswith(" ") or (name and re.match(rf"{re.escape(name)} (?!:)", line)):
+            if line.startswith((" ", "}", "]", ")")) or (name and re.match(rf"{re.escape(name)} (?!:)", line)):
                 end = number + 1
             elif line.strip() and (not line.startswith("--") or line.startswith("-- ----")):
                 break

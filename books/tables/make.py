@@ -1,5 +1,6 @@
 #!/usr/bin/env python3
-"""Makes the tables of values: for each function of books/*.lisp at least 200 argument lists, and the value that ACL2 gives each.
+"""Makes the tables of values: for each function of books/*.lisp at least 200 argument lists, and the value that ACL2 gives each; and
+behind them, for each function that ACL2 has, 8 argument lists more of corners: numbers below 0, other objects, small sizes.
 
     make.py [BOOK..]        writes BOOK.tsv beside this script, by the command acl2 (ACL2 8.5 and its books)
 
@@ -331,6 +332,31 @@ def arguments(name, makers):
     return [key[0] for key in found]
 
 
+# Corners, whose values on the way stay within 128 bits, and of lists also those that no letters decide.
+CORNERS = ["nil", "t", "'a", '"ab"', r"#\b", "'(1 2)", "'(t . 3)", "-9", "-3", "-1", "0", "1", "2", "8"]
+OF_LISTS = ["nil", "t", "5", "-1", "0", "3", "'(1 2)", "'(nil)", "'((5 . 1) 3 (1))", "'(nil . 5)", "'((5 . 1) . 7)", "'(3 . 4)"]
+OF_FORMATS = ["'(nil 11 5)", "'(t 64 15)", "'(nil 1 2)", "'(nil 5 1)", "'(nil 0 0)", "'(t 1 5)", "nil", "3", "'a", "'(nil -3 4)", "'(nil a 3)", "'(t 3 -2)"]
+
+
+def corner_lists(book, name):
+    """Argument lists of corners, as texts. The last argument of a function of the book float is a format."""
+    text = (HERE.parent / f"{book}.lisp").read_text()
+    arity = len(re.search(rf"^\(defun {re.escape(name)} \(([^)]*)\)", text, re.M)[1].split())
+    sets = [OF_LISTS if book == "lists" else CORNERS] * arity
+    if book == "float" and arity:
+        sets[-1] = OF_FORMATS
+    it, found = random.Random(f"corners of {name}"), {}
+    for _ in range(99 if arity else 0):
+        found.setdefault(" ".join(it.choice(corners) for corners in sets))
+    return list(found)[:8]
+
+
+def is_of_acl2(spec):
+    """Whether a function is ACL2's own, but for a ratio as a pair."""
+    how = next((it for it in spec if isinstance(it, str)), "")
+    return "(" not in how or how.startswith("(let ((ratio ")
+
+
 def parts(text):
     """The forms of a text of forms."""
     return re.findall(r"""'?\((?:[^()"#]|"[^"]*"|#\\.|\((?:[^()"#]|"[^"]*"|#\\.|\([^()]*\))*\))*\)|'?"[^"]*"|'?#\\.|[^\s()]+""", text)
@@ -364,12 +390,14 @@ def main():
     for book in sys.argv[1:] or FUNCTIONS:
         rows = [row(name, spec, text) for name, spec in FUNCTIONS[book].items()
                 for text in arguments(name, [it for it in spec if not isinstance(it, str)])]
+        first = len(rows)
+        rows += [row(name, spec, text) for name, spec in FUNCTIONS[book].items() if is_of_acl2(spec) for text in corner_lists(book, name)]
         values = ask([theirs for _, theirs in rows])
         lines, counts = [], dict.fromkeys(FUNCTIONS[book], 0)
         for number, (ours, theirs) in enumerate(rows):
             name = ours[1:].split()[0].rstrip(")")
             is_wrong = book in ("arithmetic", "bitops", "rtl") and str(-(2**63)) in ours
-            if number in values and fits(values[number]) and not is_wrong and counts[name] < ROWS:
+            if number in values and fits(values[number]) and not is_wrong and (counts[name] < ROWS or number >= first):
                 lines.append(f"{ours}\t{values[number]}\n")
                 counts[name] += 1
         for name, count in counts.items():

@@ -1,5 +1,5 @@
 -- The states of a book, its events taken in once more without deciding a theorem.
-use Rattle.std.specs.Prelude.{◌≡◌, ℕ, ◌-◌, ◌≤◌, min, max, List, [], ◌∷◌, length, take, drop, Option, Some, None, slice_get, MatchOption, Ok, Err}
+use Rattle.std.specs.Prelude.{◌≡◌, ℕ, ◌-◌, ◌≤◌, min, List, [], ◌∷◌, length, take, drop, Option, Some, None, slice_get, MatchOption, Ok, Err}
 use Rattle.std.specs.Coded.{Coded, code_by, coded×, coded_ℕ}
 use Rattle.gl_logic.specs.Object.{Object}
 use Rattle.book_shelf.specs.declared.item.Item.{Item}
@@ -72,9 +72,8 @@ TakesItem names bounds s (item.Form form) t refused = TakesForm names bounds s f
 TakesItem names bounds s (item.Mark m) t None = t ≡ s
 TakesItem names bounds s (item.Mark m) t (Some f) = ⊥
 
--- items are taken in up to a number and not beyond it, or to the end of the list, or up to the first that is refused
+-- items are taken in up to a number, or to the end of the list, or up to the first that is refused
 pub record GoesOn (names : List (List ℕ)) (bounds : Bounds) (items : List Item) (end : ℕ) (old new : Reached) (refused : Option Refused) : Type 0 where
   pub forward : old.next ≤ new.next
-  pub within : new.next ≤ max old.next end
   pub behind : IsBehind names (take (new.next - old.next) (drop old.next items)) old.state new.state
   pub stops : MatchOption refused (min end (length items) ≤ new.next) (λ r. (r.item ≡ new.next) × IsRefusedItem names bounds new.state (slice_get items new.next) r.fault)

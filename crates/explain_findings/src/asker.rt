@@ -1,10 +1,11 @@
 //! Questions to the library: forms that are made here, and what comes of them in a state.
 
 use crate::decision::{Decision, decision_of};
-use crate::events::event_in_mode;
+use crate::events::in_mode;
 use crate::reading::form_of;
 use crate::values::{Value, value_of};
 use book_state::State;
+use event_world::EventFault;
 use gl_base::limits::Limits;
 use gl_book::{Answer, answer_of};
 use gl_logic::{NoMemory, Texts, Tree};
@@ -32,12 +33,16 @@ fn answer_in<R: Threads + Sync>(
     texts: &mut Texts,
     form: &Tree,
 ) -> Result<Option<Answer>, NoMemory> {
-    match event_in_mode(alloc, state, mode, texts, form)? {
-        Some(event) => {
+    let _empty = texts.id_of(b"")?;
+    texts.is_table();
+    match state.event(alloc, form, texts) {
+        Ok(event) => {
+            let event = in_mode(event, mode);
             let answer = answer_of(rt, alloc, state.world(), state.memoized(), &event, limits);
             Ok(Some(answer))
         }
-        None => Ok(None),
+        Err(EventFault::Memory) => Err(NoMemory),
+        Err(_) => Ok(None),
     }
 }
 

@@ -1,8 +1,5 @@
 //! What comes of theorems that are asked.
 
-ghost use Rattle.std.specs.Prelude.{◌≡◌, IfOk};
-ghost use Rattle.explain_findings.specs.Told.{IsTold, IsTruthTold, AreCasesTold, IsAnswerTold};
-
 use crate::forms::printed;
 use crate::values::word_of;
 use explain_report::Report;
@@ -56,18 +53,14 @@ fn lines_of(alloc: Global, texts: &Texts, inputs: &Inputs) -> Result<Vec<Vec<u8>
     Ok(lines)
 }
 
-fn decided(alloc: Global, outcome: Outcome) -> Decision
-    ensures { result.outcome ≡ outcome }
-{
+fn decided(alloc: Global, outcome: Outcome) -> Decision {
     Decision {
         outcome,
         inputs: Vec::new(alloc),
     }
 }
 
-fn refuted(alloc: Global, texts: &Texts, inputs: &Inputs) -> Result<Decision, NoMemory>
-    ensures { IfOk result (λ d. d.outcome ≡ Outcome.Refuted) }
-{
+fn refuted(alloc: Global, texts: &Texts, inputs: &Inputs) -> Result<Decision, NoMemory> {
     Ok(Decision {
         outcome: Outcome::Refuted,
         inputs: lines_of(alloc, texts, inputs)?,
@@ -93,9 +86,7 @@ fn decision_of_verdict(
     alloc: Global,
     texts: &Texts,
     verdict: &Verdict,
-) -> Result<Decision, NoMemory>
-    ensures { IfOk result (λ d. IsTold verdict.now d.outcome) }
-{
+) -> Result<Decision, NoMemory> {
     match verdict {
         Verdict::Proved => Ok(decided(alloc, Outcome::Proved)),
         Verdict::Vacuous => Ok(decided(alloc, Outcome::Vacuous)),
@@ -108,9 +99,7 @@ fn decision_of_cases(
     alloc: Global,
     texts: &Texts,
     verdict: &CasesVerdict,
-) -> Result<Decision, NoMemory>
-    ensures { IfOk result (λ d. AreCasesTold verdict.now d.outcome) }
-{
+) -> Result<Decision, NoMemory> {
     match verdict {
         CasesVerdict::Proved => Ok(decided(alloc, Outcome::Proved)),
         CasesVerdict::Vacuous => Ok(decided(alloc, Outcome::Vacuous)),
@@ -122,9 +111,7 @@ fn decision_of_cases(
     }
 }
 
-fn truth(holds: bool) -> Outcome
-    ensures { IsTruthTold holds result }
-{
+fn truth(holds: bool) -> Outcome {
     if holds {
         Outcome::Proved
     } else {
@@ -132,10 +119,7 @@ fn truth(holds: bool) -> Outcome
     }
 }
 
-fn decision_of_answer(alloc: Global, texts: &Texts, answer: &Answer) -> Result<Decision, NoMemory>
-    // What is told is what was answered.
-    ensures { IfOk result (λ d. IsAnswerTold answer.now d.outcome) }
-{
+fn decision_of_answer(alloc: Global, texts: &Texts, answer: &Answer) -> Result<Decision, NoMemory> {
     match answer {
         Answer::Decided(verdict) => decision_of_verdict(alloc, texts, verdict),
         Answer::ByCases(verdict) => decision_of_cases(alloc, texts, verdict),

@@ -2,7 +2,7 @@
 
 ghost use Rattle.std.specs.Prelude.{◌≡◌, true, false};
 
-use crate::forms::form_text;
+use crate::forms::{form_text, option_of};
 use crate::reordered::{mixed, narrow_first, narrowed, narrowed_hypothesis};
 use crate::theorem_text::{Theorem, by_cases, changed, theorem_of, without_clocks};
 use explain_report::Report;
@@ -55,6 +55,8 @@ impl Trial {
 pub(crate) struct Ladder {
     alloc: Global,
     event: Vec<u8>,
+    // whether the event is a theorem by cases
+    is_by_cases: bool,
     limits: Limits,
     pub trials: Vec<Trial>,
 }
@@ -88,8 +90,11 @@ impl Ladder {
         self.push_same(words, None, limits)
     }
 
-    /// Adds the same event behind a mode.
+    /// Adds the same event behind a mode. A theorem by cases is tried in its own mode alone, so no mode is named for it.
     fn push_mode(&mut self, words: &str, mode: Mode) -> Result<(), NoMemory> {
+        if self.is_by_cases {
+            return Ok(());
+        }
         self.push_same(words, Some(mode), self.limits)
     }
 
@@ -270,6 +275,7 @@ pub(crate) fn ladder_of(
     let mut ladder = Ladder {
         alloc,
         event: form_text(alloc, form, texts)?,
+        is_by_cases: option_of(texts, form, b":PARAM-BINDINGS").is_some(),
         limits: *limits,
         trials: Vec::new(alloc),
     };

@@ -78,10 +78,8 @@ fn run_shown<R: Threads + Sync + Clock, S: Shelf, K: Sink + Drop, E: Sink + Drop
         stalls: Stalls::new(alloc),
     };
     let status = run_library(rt, alloc, library, texts, limits, &mut transcript);
-    let Transcript {
-        sink: mut shown,
-        ..
-    } = transcript;
+    let Transcript { sink, .. } = transcript;
+    let mut shown = sink;
     shown.wipe_running();
     let Kept {
         outlet,

@@ -1,6 +1,7 @@
-use Rattle.std.proofs.Common.{rules, ◌++◌}
+use Rattle.std.proofs.Common.{◌++◌, ◌∙◌, ℤ, subst}
+use Rattle.std.proofs.lemmas.Int.{to_z-of_z}
+use Rattle.std.specs.Int.{w128}
 use Rattle.std.specs.Prelude.{codes}
-use Rattle.std.specs.Str.Parse.{signed_digits_value}
 use Rattle.explain_report.specs.Bases.{PutsInBases}
 use Rattle.explain_report.specs.Said.{Says}
 use Rattle.explain_report.proofs.Numbers.{in_cells}
@@ -9,5 +10,5 @@ use Rattle.explain_report.proofs.bases.put_cells.Goals as goal
 pub returns : goal.returns
 returns c =
     let text = c.args.text.now in
-    let bases : Says (PutsInBases (signed_digits_value 10 text) (text ++ codes "</td><td>#x") (codes "</td><td>#b")) c.text.new.self c.put_in_both.new.report = search rules in
-    in_cells text c.args.report.now c.text.new.self c.put_in_both.new.report c.text-2.new.self c.text.ensures bases c.text-2.ensures
+    in_cells text c.args.report.now c.text.new.self c.put_in_both.new.report c.text-2.new.self c.text.ensures
+    (subst (λ (z : ℤ). Says (PutsInBases z (text ++ codes "</td><td>#x") (codes "</td><td>#b")) c.text.new.self c.put_in_both.new.report) (to_z-of_z w128 c.args.integer c.ranges.integer ∙ c.requires) c.put_in_both.ensures) c.text-2.ensures
