@@ -14,8 +14,12 @@
 
 GL ?= gl
 # The books: all below this folder, where nothing else is said.
-GL_BOOKS ?= $(patsubst ./%,%,$(shell find . -name '*.lisp' ! -path '*[[:blank:]]*' | sort))
-GL_BLANKS = find . -name '*.lisp' -path '*[[:blank:]]*'
+ifndef GL_BOOKS
+GL_BOOKS := $(patsubst ./%,%,$(shell find . -name '*.lisp' ! -path '*[[:blank:]]*' | sort))
+GL_BLANKS := find . -name '*.lisp' -path '*[[:blank:]]*'
+else
+GL_BLANKS := true
+endif
 # Options for each run, as --nodes 4000000.
 GL_FLAGS ?=
 # A book with a vacuous theorem fails, and so does one with an undecided theorem, value or assert. Say `vacuous`, `undecided`, or

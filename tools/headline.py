@@ -83,6 +83,12 @@ class Unit:
         return "\n".join(self.lines)
 
     @property
+    def is_whole(self):
+        """Whether each bracket of the text is closed in it."""
+        code = re.sub(r"--.*|//.*|\"(?:[^\"\\]|\\.)*\"", "", self.text)
+        return all(code.count(opened) == code.count(closed) for opened, closed in ("()", "[]", "{}"))
+
+    @property
     def is_of_program(self):
         return self.module.startswith("src/")
 
@@ -267,6 +273,8 @@ class Definitions:
                 if unit in reached:
                     continue
                 reached.add(unit)
+                if not unit.is_whole:
+                    self.unknown.append(f"`{unit.names[0]}` of {unit.crate}, {unit.module} has an open bracket where its text ends")
                 left = unit.needs = self.needs(unit)
             if left:
                 stack += [(unit, left[1:]), (left[0], None)]
