@@ -2,13 +2,13 @@
 (include-book "centaur/gl/gl" :dir :system)
 
 ; A book in which most theorems cannot be ported. All reasons are told at once.
-(defun third-of (x) (/ x 3))
+(defun third-of (x) (/ (+ 1 (* 3 x)) 3))
 (defstub unknown (x) t)
 (defun named (x) (symbol-name x))
 (defun uses-several (x)
   (list (third-of x)
         (unknown x)
-        (no-such-function x)))
+        (unknown x)))
 (gl::def-gl-thm thirds
   :hyp (unsigned-byte-p 4 x) :concl (equal (uses-several x) (uses-several x)) :g-bindings (gl::auto-bindings (:nat x 4)))
 (gl::def-gl-thm names

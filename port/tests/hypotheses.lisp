@@ -9,7 +9,7 @@
 (defun pair-p (p) (and (consp p) (n10p (car p)) (canonical-p (cdr p))))
 
 (gl::def-gl-thm a-range
-  :hyp (force (and (n10p x) (canonical-p y)))
+  :hyp (and (n10p x) (canonical-p y))
   :concl (< (+ x y) (+ *limit* 2048))
   :g-bindings (gl::auto-bindings (:mix (:nat x 11) (:int y 12))))
 (gl::def-gl-thm a-width
@@ -28,3 +28,16 @@
   :hyp (and (n10p x) (unsigned-byte-p 10 x))
   :concl (<= x 1023)
   :g-bindings (gl::auto-bindings (:nat x 10)))
+(defun bit-list-p (l) (if (atom l) (null l) (and (bitp (car l)) (bit-list-p (cdr l)))))
+(gl::def-gl-thm through-another-bound
+  :hyp (and (natp n) (natp m) (< n m) (<= m 32))
+  :concl (< n 32)
+  :g-bindings (gl::auto-bindings (:nat n 6) (:nat m 6)))
+(gl::def-gl-thm no-integer-there ; not covered: x may be 1/2
+  :hyp (and (rationalp x) (<= 0 x) (<= x 15))
+  :concl (integerp x)
+  :g-bindings (gl::auto-bindings (:nat x 4)))
+(gl::def-gl-thm a-bound-that-is-not-seen ; not covered
+  :hyp (and (integerp x) (< 0 x) (< (* 2 x) 9))
+  :concl (< x 4)
+  :g-bindings (gl::auto-bindings (:int x 5)))

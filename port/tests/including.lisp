@@ -1,6 +1,6 @@
 (in-package "ACL2")
-(include-book "included")
-(local (include-book "centaur/gl/gl" :dir :system))
+(include-book "centaur/gl/gl" :dir :system)
+(include-book "parts/included")
 
 ; The definitions come from a book that is included.
 (defun swapped (x) (+ (* 16 (low-nibble x)) (high-nibble x)))

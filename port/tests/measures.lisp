@@ -39,3 +39,26 @@
   :hyp (and (unsigned-byte-p 2 x) (unsigned-byte-p 2 y))
   :concl (<= (steps x y) 3)
   :g-bindings (gl::auto-bindings (:nat x 2) (:nat y 2)))
+
+; A measure that is no natural number, and a step behind a new binding of the formal.
+(defun turns (x y)
+  (declare (xargs :measure (make-ord 1 (+ 1 (nfix x)) (nfix y))))
+  (cond ((zp x) 0)
+        ((zp y) (+ 1 (turns (- x 1) 2)))
+        (t (+ 1 (turns x (- y 1))))))
+(defun counted-down (n)
+  (declare (xargs :measure (nfix n)))
+  (if (zp n) 0
+    (let* ((m (- n 1)) (n (+ n 5)))
+      (+ (mod n 3) (counted-down m)))))
+(defun by-two (x acc)
+  (declare (xargs :measure (nfix (- 8 (nfix x)))))
+  (if (< (nfix x) 8) (by-two (+ 2 (nfix x)) (+ 1 acc)) acc))
+(gl::def-gl-thm turns-end
+  :hyp (unsigned-byte-p 2 x) :concl (<= (turns x 1) 10) :g-bindings (gl::auto-bindings (:nat x 2)))
+(gl::def-gl-thm turns-are-more ; refuted
+  :hyp (unsigned-byte-p 2 x) :concl (<= (turns x 1) 4) :g-bindings (gl::auto-bindings (:nat x 2)))
+(gl::def-gl-thm the-new-binding ; refuted
+  :hyp (unsigned-byte-p 3 n) :concl (null (counted-down n)) :g-bindings (gl::auto-bindings (:nat n 3)))
+(gl::def-gl-thm by-twos ; refuted
+  :hyp (unsigned-byte-p 3 n) :concl (equal (by-two n 0) (floor (- 8 n) 2)) :g-bindings (gl::auto-bindings (:nat n 3)))

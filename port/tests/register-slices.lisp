@@ -1,5 +1,5 @@
 (in-package "RTL")
-(include-book "rtl/rel11/lib/defs" :dir :system)
+(include-book "rtl/rel11/lib/rac" :dir :system)
 (include-book "centaur/gl/gl" :dir :system)
 
 ; RTL's slices. The book's package comes from the books that it includes.

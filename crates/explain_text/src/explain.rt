@@ -3,11 +3,13 @@
 ghost use Rattle.std.specs.Prelude.{length};
 ghost use Rattle.gl_logic.specs.Every.{Every};
 ghost use Rattle.book_shelf.specs.NumberedItems.{IsNumberedItem};
+ghost use Rattle.book_shelf.specs.Reached.{MayLoad};
 
 use crate::blame::Judge;
 use crate::codes::Fault;
 use crate::earlier::put_earlier;
 use crate::manner::{Format, Outlet};
+use crate::naming::NamingShelf;
 use crate::refusal::{
     Refusal, explain_constant, explain_event_fault, explain_text_fault, put_words,
 };
@@ -34,14 +36,17 @@ use std::thread::Threads;
 /// Runs the book of a name with the books that it includes, and tells each line of its transcript with its event's place, and
 /// what is to be said of it: in text as it is decided, and what is to be said behind the transcript. The status is that of the
 /// run; WriteFault where what is told could not be written, and NoMemory where memory was refused for it.
-pub fn explain_book<R: Threads + Sync + Clock, S: Shelf, K: Sink + Drop, E: Sink + Drop>(
+pub fn explain_book<R: Threads + Sync + Clock, S: Shelf + Drop, K: Sink + Drop, E: Sink + Drop>(
     rt: &R,
     alloc: Global,
     name: &str,
     limits: &Limits,
-    shelf: &mut S,
+    shelf: &mut NamingShelf<S>,
     outlet: Outlet<K, E>,
-) -> Status {
+) -> Status
+    // It opens no text but the book's own and those that are included from there.
+    requires { MayLoad S.may_open (S.holds shelf.old) name.now }
+{
     let Ok(mut texts) = Texts::new(alloc) else {
         return Status::NoMemory;
     };
@@ -59,13 +64,13 @@ pub fn explain_book<R: Threads + Sync + Clock, S: Shelf, K: Sink + Drop, E: Sink
 }
 
 /// Runs a list of books, and then tells what is to be said of it.
-fn run_shown<R: Threads + Sync + Clock, S: Shelf, K: Sink + Drop, E: Sink + Drop>(
+fn run_shown<R: Threads + Sync + Clock, S: Shelf + Drop, K: Sink + Drop, E: Sink + Drop>(
     rt: &R,
     alloc: Global,
     library: &Library,
     limits: &Limits,
     texts: &mut Texts,
-    shelf: &mut S,
+    shelf: &mut NamingShelf<S>,
     mut shown: Shown<'_, R, K, E>,
 ) -> Status
     requires numbered { Every (IsNumberedItem (length texts.old)) library.now.items }
@@ -115,12 +120,12 @@ fn asks_for_a_look(records: &[Record]) -> bool {
 }
 
 /// Says of each record what is to be said, with its events taken in once more.
-fn say_all<R: Threads + Sync + Clock, S: Shelf>(
+fn say_all<R: Threads + Sync + Clock, S: Shelf + Drop>(
     rt: &R,
     alloc: Global,
     book: &Book,
     texts: &mut Texts,
-    shelf: &mut S,
+    shelf: &mut NamingShelf<S>,
     records: &mut [Record],
 ) -> Result<(), NoMemory> {
     if !asks_for_a_look(records) {
@@ -131,13 +136,13 @@ fn say_all<R: Threads + Sync + Clock, S: Shelf>(
 }
 
 /// Says of each record what is to be said, from a state on.
-fn say_each<R: Threads + Sync + Clock, S: Shelf>(
+fn say_each<R: Threads + Sync + Clock, S: Shelf + Drop>(
     rt: &R,
     alloc: Global,
     book: &Book,
     replay: &mut Replay,
     texts: &mut Texts,
-    shelf: &mut S,
+    shelf: &mut NamingShelf<S>,
     records: &mut [Record],
 ) -> Result<(), NoMemory> {
     for record in records {
@@ -194,13 +199,13 @@ fn finding_of<R: Threads + Sync + Clock>(
 }
 
 /// What is said of a book that is refused.
-fn refusal_of<R: Threads + Sync, S: Shelf>(
+fn refusal_of<R: Threads + Sync, S: Shelf + Drop>(
     rt: &R,
     alloc: Global,
     book: &Book,
     replay: &mut Replay,
     texts: &mut Texts,
-    shelf: &mut S,
+    shelf: &mut NamingShelf<S>,
 ) -> Result<Vec<u8>, NoMemory> {
     let mut report = Report::new(alloc);
     say_why(rt, alloc, book, replay, texts, shelf, &mut report)?;
@@ -208,12 +213,12 @@ fn refusal_of<R: Threads + Sync, S: Shelf>(
 }
 
 /// Tells what is to be told behind a run. The status.
-fn tell<S: Shelf, K: Sink + Drop, E: Sink + Drop>(
+fn tell<S: Shelf + Drop, K: Sink + Drop, E: Sink + Drop>(
     alloc: Global,
     outlet: Outlet<K, E>,
     spots: &Spots,
     mut records: Vec<Record>,
-    shelf: &mut S,
+    shelf: &mut NamingShelf<S>,
     status: Status,
 ) -> Status {
     if outlet.manner.format == Format::Html {
@@ -272,13 +277,13 @@ fn place_of(spots: &Spots, refused: Refused) -> Option<Place> {
 }
 
 /// Says why a list of books is refused, by taking the rest of it in once more.
-fn say_why<R: Threads + Sync, S: Shelf>(
+fn say_why<R: Threads + Sync, S: Shelf + Drop>(
     rt: &R,
     alloc: Global,
     book: &Book,
     replay: &mut Replay,
     texts: &mut Texts,
-    shelf: &mut S,
+    shelf: &mut NamingShelf<S>,
     report: &mut Report,
 ) -> Result<(), NoMemory> {
     let end = book.library.items.len();
@@ -293,14 +298,14 @@ fn say_why<R: Threads + Sync, S: Shelf>(
 }
 
 /// Explains what is refused, with the text in which it stands.
-fn explain_place<S: Shelf>(
+fn explain_place<S: Shelf + Drop>(
     alloc: Global,
     report: &mut Report,
     book: &Book,
     place: &Place,
     state: &State,
     texts: &mut Texts,
-    shelf: &mut S,
+    shelf: &mut NamingShelf<S>,
 ) -> Result<(), NoMemory> {
     let file = book.spots.file(place.spot);
     let Some(text) = text_of(alloc, shelf, file)? else {

@@ -5,7 +5,8 @@
 //! refused for the same reason (`blame`). Places inside a form are told by the reader of books (`elements`).
 //!
 //! - what is shown: `shown`, a sink that puts places in front of lines, by `spots`, and names the event that is `running`;
-//!   `explain`, a run with its explanation; `told`, what is told behind a run, with `sources`;
+//!   `explain`, a run with its explanation; `told`, what is told behind a run, with `sources`; `naming`, the
+//!   shelf, which knows the texts that it was asked for: no others are opened once more;
 //! - what is said: `refusal`, by `codes`, `known`, `missing`, `governing`, `earlier` and `excerpt`, into a `report`;
 //! - where it stands: `span`, `elements`, `terms`, `blame`, `items`.
 //!
@@ -23,6 +24,7 @@ mod items;
 mod known;
 mod manner;
 mod missing;
+mod naming;
 mod refusal;
 mod running;
 mod shown;
@@ -34,3 +36,4 @@ mod told;
 
 pub use explain::explain_book;
 pub use manner::{Format, Manner, Outlet};
+pub use naming::NamingShelf;

@@ -1,6 +1,7 @@
 //! The texts of a book once more, for what is shown of them.
 
 use crate::elements::{offset_of, without_blanks};
+use crate::naming::NamingShelf;
 use crate::span::{Span, cut};
 use crate::spots::{Spot, Spots};
 use explain_report::{Record, Verdict};
@@ -21,15 +22,18 @@ struct Last {
     text: Vec<u8>,
 }
 
-/// The bytes of a text, where it is not too long and can be read.
-pub(crate) fn text_of<S: Shelf>(
+/// The bytes of a text that was read before, where it is not too long and can be read once more.
+pub(crate) fn text_of<S: Shelf + Drop>(
     alloc: Global,
-    shelf: &mut S,
+    shelf: &mut NamingShelf<S>,
     file: &[u8],
 ) -> Result<Option<Vec<u8>>, NoMemory> {
     let Ok(name) = str::from_utf8(file) else {
         return Ok(None);
     };
+    if !shelf.was_asked(name) {
+        return Ok(None);
+    }
     match read_book(alloc, shelf, name) {
         Ok(bytes) => Ok(Some(bytes)),
         Err(ReadEnd::Memory) => Err(NoMemory),
@@ -74,12 +78,12 @@ fn form_at(
 }
 
 /// The text of a spot: the one that was read last, where it is the same.
-fn text_at<S: Shelf>(
+fn text_at<S: Shelf + Drop>(
     alloc: Global,
     spots: &Spots,
     spot: Spot,
     last: Option<Last>,
-    shelf: &mut S,
+    shelf: &mut NamingShelf<S>,
 ) -> Result<Last, NoMemory> {
     if let Some(last) = last {
         if last.file == spot.file {
@@ -103,11 +107,11 @@ fn is_shown(record: &Record) -> bool {
 }
 
 /// Puts the forms of the events that ask for a look with their records.
-pub(crate) fn put_sources<S: Shelf>(
+pub(crate) fn put_sources<S: Shelf + Drop>(
     alloc: Global,
     spots: &Spots,
     records: &mut [Record],
-    shelf: &mut S,
+    shelf: &mut NamingShelf<S>,
 ) -> Result<(), NoMemory> {
     let mut last = None;
     let mut count: usize = 0;

@@ -2,16 +2,14 @@
 #![tactic(auto)]
 
 mod complaint;
-mod naming;
 mod words;
 
 use clap::error::ErrorKind as ClapKind;
 use clap::{ArgMatches, Error};
 use command_line::{FileShelf, WordsEnd, WriterSink, limits_of, words_of};
 use complaint::{complain_of_words, complaint_of};
-use explain_text::{Outlet, explain_book};
+use explain_text::{NamingShelf, Outlet, explain_book};
 use gl_base::status::Status;
-use naming::NamingShelf;
 use std::io::{self, IsTerminal, Write};
 use std::process::ExitCode;
 use std::rt::{Clock, Env, Files};

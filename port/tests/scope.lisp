@@ -1,0 +1,33 @@
+(in-package "ACL2")
+(include-book "centaur/gl/gl" :dir :system)
+
+; What a name means depends on where it stands, and on its package.
+(encapsulate ()
+  (local (defun f (x) (logand x 7)))
+  (local (gl::def-gl-thm of-the-local-one
+           :hyp (unsigned-byte-p 4 x) :concl (< (f x) 8) :g-bindings (gl::auto-bindings (:nat x 4)))))
+(defun f (x) x)
+(gl::def-gl-thm of-the-global-one ; refuted
+  :hyp (unsigned-byte-p 4 x) :concl (< (f x) 8) :g-bindings (gl::auto-bindings (:nat x 4)))
+(defun p::f (x) (+ x 1))
+(defun q::f (x) (+ x 2))
+(gl::def-gl-thm two-packages ; refuted
+  :hyp (unsigned-byte-p 4 x) :concl (equal (p::f x) (q::f x)) :g-bindings (gl::auto-bindings (:nat x 4)))
+(gl::def-gl-thm two-variables ; refuted
+  :hyp (unsigned-byte-p 4 x) :concl (equal (let ((q::x 5)) (+ x q::x)) (+ x x)) :g-bindings (gl::auto-bindings (:nat x 4)))
+(gl::def-gl-thm two-symbols ; refuted
+  :hyp (booleanp b) :concl (equal (if b 'p::a 'q::a) 'p::a) :g-bindings (gl::auto-bindings (:bool b)))
+(defun p::lognot (x) (- 15 x))
+(defun p::loghead (n x) (+ n x))
+(defun p::len (x) (car x))
+(gl::def-gl-thm functions-of-the-books-own ; refuted
+  :hyp (unsigned-byte-p 4 x)
+  :concl (and (equal (p::lognot x) (- 15 x)) (equal (p::loghead 3 x) (+ 3 x)) (equal (p::len (list x)) x)
+              (equal (p::loghead 3 x) (mod x 8)))
+  :g-bindings (gl::auto-bindings (:nat x 4)))
+(gl::def-gl-thm flets ; refuted
+  :hyp (unsigned-byte-p 4 x)
+  :concl (equal (flet ((f (x) (+ x 3))) (flet ((f (x) (f (* 2 x)))) (f x))) (* 2 x))
+  :g-bindings (gl::auto-bindings (:nat x 4)))
+(gl::def-gl-thm same-name
+  :hyp (unsigned-byte-p 4 x) :concl (equal (f x) x) :g-bindings (gl::auto-bindings (:nat x 4)))
