@@ -1,2 +1,3 @@
 mod TextsTold
 mod ProofTold
+mod Moved

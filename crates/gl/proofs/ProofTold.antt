@@ -72,20 +72,17 @@ module _ (bounds : Bounds) (part : ProofPart) (bytes : List ℕ) (old new : Opti
       let all : take (length stalls) stalls ≡ stalls = take_all (length stalls) stalls (omega arith) in
       (lines, stalls, s, h.0, length stalls, t, h.1, e ∙ ap (λ ss. before ++ ss) (sym all))
 
--- so of lines that were joined before: these bytes, which were put into nothing
+-- so of lines that were made before
 module _ (bounds : Bounds) (part : ProofPart) (bytes : List ℕ) (old new : Option (List ℕ)) (before after : List StallSeen) (lines : List (List ℕ)) (stalls : List StallSeen) (s : Status) where
-  joined : (slice items none : List ℕ) → slice ≡ items → items ≡ none ++ concat lines → none ≡ [] → slice ≡ concat lines
-  joined slice items none e f h = e ∙ (f ∙ ap (λ xs. xs ++ concat lines) h)
+  pub all_told : TellsProof bounds part bytes lines stalls s → {made : List (List ℕ)} → made ≡ lines → Grows old new (concat made) → after ≡ before ++ stalls → {t : Status} → t ≡ s
+      → EndsProof bounds part bytes old new before after t
+  all_told tells e g k is =
+      subst (EndsProof bounds part bytes old new before after) (sym is) (all_written bounds part bytes old new before after lines stalls s tells (subst (λ (ls : List (List ℕ)). Grows old new (concat ls)) e g) k)
 
-  pub all_joined : TellsProof bounds part bytes lines stalls s → {slice items none : List ℕ} → slice ≡ items → items ≡ none ++ concat lines → none ≡ [] → Grows old new slice → after ≡ before ++ stalls
-      → {t : Status} → t ≡ s → EndsProof bounds part bytes old new before after t
-  all_joined tells {slice} {items} {none} e f h g k {t} is =
-      subst (EndsProof bounds part bytes old new before after) (sym is) (all_written bounds part bytes old new before after lines stalls s tells (subst (Grows old new) (joined slice items none e f h) g) k)
-
-  pub front_joined : TellsProof bounds part bytes lines stalls s → {slice items none : List ℕ} → slice ≡ items → items ≡ none ++ concat lines → none ≡ [] → (n : ℕ) × Grows old new (take n slice) → after ≡ before ++ stalls
+  pub front_told : TellsProof bounds part bytes lines stalls s → {made : List (List ℕ)} → made ≡ lines → (n : ℕ) × Grows old new (take n (concat made)) → after ≡ before ++ stalls
       → EndsProof bounds part bytes old new before after status.WriteFault
-  front_joined tells {slice} {items} {none} e f h g k =
-      front_written bounds part bytes old new before after lines stalls s tells (g.0, subst (λ (bs : List ℕ). Grows old new (take g.0 bs)) (joined slice items none e f h) g.1) k
+  front_told tells e g k =
+      front_written bounds part bytes old new before after lines stalls s tells (g.0, subst (λ (ls : List (List ℕ)). Grows old new (take g.0 (concat ls))) e g.1) k
 
 -- nothing was written for want of memory
 pub nothing_written : (bounds : Bounds) (part : ProofPart) (bytes : List ℕ) (old new : Option (List ℕ)) (before after : List StallSeen) → new ≡ old → after ≡ before → EndsProof bounds part bytes old new before after status.NoMemory

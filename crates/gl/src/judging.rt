@@ -48,6 +48,8 @@ fn said_of<R: Threads + Sync, S: Shelf>(
 ) -> Result<Judgement, Status>
     requires one { 1 ≤ pair.now.workers }
     requires eight { pair.now.workers ≤ 8 }
+    requires cnf { S.may_open pair.now.cnf.now }
+    requires log { S.may_open pair.now.log.now }
     ensures said { IfOk result (IsSaid (S.holds shelf.old) pair.now.cnf.now pair.now.log.now) }
     ensures ends { IfErr result (λ s. (s ≡ Status.ReadFault) ⊎ (s ≡ Status.NoMemory)) }
     ensures read_fault { IsErrOf result Status.ReadFault → Rose (S.faults shelf.old) (S.faults shelf.new) }
@@ -99,6 +101,8 @@ pub fn run_judgement<R: Threads + Sync, S: Shelf, K: Sink>(
 ) -> Status
     requires one { 1 ≤ pair.now.workers }
     requires eight { pair.now.workers ≤ 8 }
+    requires cnf { S.may_open pair.now.cnf.now }
+    requires log { S.may_open pair.now.log.now }
     ensures written { result ≢ Status.ReadFault → WritesLine (S.holds shelf.old) pair.now.cnf.now pair.now.log.now (K.written out.old) (K.written out.new) result }
     ensures read_fault { result ≡ Status.ReadFault → Rose (S.faults shelf.old) (S.faults shelf.new) }
     ensures no_read_fault { result ≢ Status.ReadFault → S.faults shelf.new ≡ S.faults shelf.old }

@@ -12,9 +12,8 @@ mod tests;
 
 use command_line::{FileShelf, WriterSink, words_of};
 use gl_base::status::Status;
-use gl_decide::Stalls;
 use gl_words::refuse_end;
-use run::run;
+use run::run_to;
 use std::io;
 use std::process::ExitCode;
 use std::rt::{Env, Files};
@@ -26,19 +25,12 @@ fn main(rt: HostRuntime) -> ExitCode {
 
 /// Runs the command of the process.
 fn status_of<R: Files + Print + Env + AllocGlobal + Threads + Sync>(rt: &R) -> Status {
-    let mut out = WriterSink::new(io::writer(rt));
-    let words = match words_of(rt) {
-        Ok(words) => words,
-        Err(end) => return refuse_end(end, &mut out),
-    };
-    let mut shelf = FileShelf::new(rt);
-    let mut stalls = Stalls::new(rt.alloc());
-    run(
-        rt,
-        rt.alloc(),
-        words.as_slice(),
-        &mut shelf,
-        &mut stalls,
-        &mut out,
-    )
+    let writer = io::writer(rt);
+    match words_of(rt) {
+        Ok(words) => {
+            let mut shelf = FileShelf::new(rt);
+            run_to(rt, rt.alloc(), words.as_slice(), &mut shelf, writer).status
+        }
+        Err(end) => refuse_end(end, &mut WriterSink::new(writer)),
+    }
 }

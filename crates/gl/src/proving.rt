@@ -12,7 +12,7 @@ ghost use Rattle.gl_decide.specs.Certificates.{IsCertificate, IsOpen, unscanned}
 ghost use Rattle.book_state.specs.Answerable.{IsReadyTheorem};
 ghost use Rattle.gl_book.specs.Entry.{verdict_stalls};
 ghost use Rattle.gl_book.specs.Lasts.{IsLastOf};
-ghost use Rattle.gl_book.specs.Lines.{verdict_lines as lines_of_verdict};
+ghost use Rattle.gl_book.specs.Lines.{verdict_lines};
 ghost use Rattle.gl.specs.Proving.{EndsProof, IsNotDue, IsSearched, TellsProof, WritesProof, open_status, part_text};
 ghost use Rattle.gl_words.specs.declared.proof_part.ProofPart.{ProofPart as PartSeen};
 
@@ -22,8 +22,8 @@ use gl_base::limits::Limits;
 use gl_base::shelf::Shelf;
 use gl_base::sink::Sink;
 use gl_base::status::Status;
-use gl_book::{Last, keep_stall, last_theorem, verdict_lines};
-use gl_decide::{Room, Stalls, Verdict, certificate};
+use gl_book::{Last, Transcript, keep_stall, last_theorem, lines_of_verdict, put_told};
+use gl_decide::{Room, Verdict, certificate};
 use gl_logic::{NoMemory, Texts, World};
 use gl_words::{Proof, ProofPart};
 use lrat_tool::{cnf_text, log_text};
@@ -41,44 +41,38 @@ pub fn run_proof<S: Shelf, K: Sink>(
     alloc: Global,
     proof: &Proof,
     shelf: &mut S,
-    stalls: &mut Stalls,
-    out: &mut K,
+    out: &mut Transcript<K>,
 ) -> Status
-    ensures written { result ≢ Status.ReadFault → WritesProof (bounds_of proof.now.limits) proof.now.part (S.holds shelf.old) proof.now.name.now (K.written out.old) (K.written out.new) stalls.old stalls.new result }
+    requires { S.may_open proof.now.name.now }
+    ensures written { result ≢ Status.ReadFault → WritesProof (bounds_of proof.now.limits) proof.now.part (S.holds shelf.old) proof.now.name.now (K.written out.old.sink) (K.written out.new.sink) out.old.stalls out.new.stalls result }
     ensures read_fault { result ≡ Status.ReadFault → Rose (S.faults shelf.old) (S.faults shelf.new) }
     ensures no_read_fault { result ≢ Status.ReadFault → S.faults shelf.new ≡ S.faults shelf.old }
-    ensures unwritten { result ≡ Status.ReadFault → K.written out.new ≡ K.written out.old }
-    ensures none_added { result ≡ Status.ReadFault → stalls.new ≡ stalls.old }
-    ensures write_fault { result ≡ Status.WriteFault → Rose (K.faults out.old) (K.faults out.new) }
-    ensures no_write_fault { result ≢ Status.WriteFault → K.faults out.new ≡ K.faults out.old }
+    ensures unwritten { result ≡ Status.ReadFault → K.written out.new.sink ≡ K.written out.old.sink }
+    ensures none_added { result ≡ Status.ReadFault → out.new.stalls ≡ out.old.stalls }
+    ensures write_fault { result ≡ Status.WriteFault → Rose (K.faults out.old.sink) (K.faults out.new.sink) }
+    ensures no_write_fault { result ≢ Status.WriteFault → K.faults out.new.sink ≡ K.faults out.old.sink }
     ensures no_usage { result ≢ Status.Usage }
 {
     match read_book(alloc, shelf, proof.name) {
-        Ok(text) => prove_text(alloc, &text, proof, stalls, out),
-        Err(ReadEnd::TooLong(_, _)) => put_no_proof(out),
+        Ok(text) => prove_text(alloc, &text, proof, out),
+        Err(ReadEnd::TooLong(_, _)) => put_no_proof(&mut out.sink),
         Err(ReadEnd::Failed) => Status::ReadFault,
         Err(ReadEnd::Memory) => Status::NoMemory,
     }
 }
 
 /// Writes a text of the proof of the last theorem of a book's text.
-fn prove_text<K: Sink>(
-    alloc: Global,
-    text: &[u8],
-    proof: &Proof,
-    stalls: &mut Stalls,
-    out: &mut K,
-) -> Status
-    ensures written { EndsProof (bounds_of proof.now.limits) proof.now.part text.now (K.written out.old) (K.written out.new) stalls.old stalls.new result }
-    ensures write_fault { result ≡ Status.WriteFault → Rose (K.faults out.old) (K.faults out.new) }
-    ensures no_write_fault { result ≢ Status.WriteFault → K.faults out.new ≡ K.faults out.old }
+fn prove_text<K: Sink>(alloc: Global, text: &[u8], proof: &Proof, out: &mut Transcript<K>) -> Status
+    ensures written { EndsProof (bounds_of proof.now.limits) proof.now.part text.now (K.written out.old.sink) (K.written out.new.sink) out.old.stalls out.new.stalls result }
+    ensures write_fault { result ≡ Status.WriteFault → Rose (K.faults out.old.sink) (K.faults out.new.sink) }
+    ensures no_write_fault { result ≢ Status.WriteFault → K.faults out.new.sink ≡ K.faults out.old.sink }
     ensures no_read_fault { result ≢ Status.ReadFault }
     ensures no_usage { result ≢ Status.Usage }
 {
     match last_theorem(alloc, text, &proof.limits) {
-        Ok(Last::None) => put_no_proof(out),
+        Ok(Last::None) => put_no_proof(&mut out.sink),
         Ok(Last::Found(world, thm, texts)) => {
-            prove_last(alloc, &world, &thm, &texts, proof, stalls, out)
+            prove_last(alloc, &world, &thm, &texts, proof, out)
         }
         Err(_) => Status::NoMemory,
     }
@@ -113,23 +107,22 @@ fn prove_last<K: Sink>(
     thm: &Thm,
     texts: &Texts,
     proof: &Proof,
-    stalls: &mut Stalls,
-    out: &mut K,
+    out: &mut Transcript<K>,
 ) -> Status
     requires { IsReadyTheorem world.now.definitions (theorem_seen thm.now) }
-    ensures written { (text : List ℕ) → IsLastOf texts.now (bounds_of proof.now.limits) text world.now (theorem_seen thm.now) → EndsProof (bounds_of proof.now.limits) proof.now.part text (K.written out.old) (K.written out.new) stalls.old stalls.new result }
-    ensures write_fault { result ≡ Status.WriteFault → Rose (K.faults out.old) (K.faults out.new) }
-    ensures no_write_fault { result ≢ Status.WriteFault → K.faults out.new ≡ K.faults out.old }
+    ensures written { (text : List ℕ) → IsLastOf texts.now (bounds_of proof.now.limits) text world.now (theorem_seen thm.now) → EndsProof (bounds_of proof.now.limits) proof.now.part text (K.written out.old.sink) (K.written out.new.sink) out.old.stalls out.new.stalls result }
+    ensures write_fault { result ≡ Status.WriteFault → Rose (K.faults out.old.sink) (K.faults out.new.sink) }
+    ensures no_write_fault { result ≢ Status.WriteFault → K.faults out.new.sink ≡ K.faults out.old.sink }
     ensures no_read_fault { result ≢ Status.ReadFault }
     ensures no_usage { result ≢ Status.Usage }
 {
     if is_searched(thm) {
         match certified(alloc, world, thm, &proof.limits) {
-            Ok(book) => put_part(alloc, &book, proof.part, out),
-            Err(verdict) => put_verdict(alloc, thm, verdict, texts, stalls, out),
+            Ok(book) => put_part(alloc, &book, proof.part, &mut out.sink),
+            Err(verdict) => put_verdict(alloc, thm, verdict, texts, out),
         }
     } else {
-        put_no_proof(out)
+        put_no_proof(&mut out.sink)
     }
 }
 
@@ -196,30 +189,28 @@ fn status_of(verdict: &Verdict) -> Status
     }
 }
 
-/// Puts the stall of a verdict behind the others, and then writes the verdict's lines.
+/// Puts the stall of a verdict behind the others, and then writes the verdict's lines, each as a piece of its own.
 fn put_verdict<K: Sink>(
     alloc: Global,
     thm: &Thm,
     verdict: Verdict,
     texts: &Texts,
-    stalls: &mut Stalls,
-    out: &mut K,
+    out: &mut Transcript<K>,
 ) -> Status
-    ensures written { (bounds : Bounds) (part : PartSeen) (text : List ℕ) → TellsProof bounds part text (lines_of_verdict texts.now thm.now.name.number verdict) (verdict_stalls verdict) (open_status verdict) → EndsProof bounds part text (K.written out.old) (K.written out.new) stalls.old stalls.new result }
-    ensures write_fault { result ≡ Status.WriteFault → Rose (K.faults out.old) (K.faults out.new) }
-    ensures no_write_fault { result ≢ Status.WriteFault → K.faults out.new ≡ K.faults out.old }
+    ensures written { (bounds : Bounds) (part : PartSeen) (text : List ℕ) → TellsProof bounds part text (verdict_lines texts.now thm.now.name.number verdict) (verdict_stalls verdict) (open_status verdict) → EndsProof bounds part text (K.written out.old.sink) (K.written out.new.sink) out.old.stalls out.new.stalls result }
+    ensures write_fault { result ≡ Status.WriteFault → Rose (K.faults out.old.sink) (K.faults out.new.sink) }
+    ensures no_write_fault { result ≢ Status.WriteFault → K.faults out.new.sink ≡ K.faults out.old.sink }
     ensures no_read_fault { result ≢ Status.ReadFault }
     ensures no_usage { result ≢ Status.Usage }
 {
     let status = status_of(&verdict);
-    let mut lines = Vec::new(alloc);
-    let Ok(()) = verdict_lines(alloc, thm, &verdict, texts, &mut lines) else {
+    let Ok(lines) = lines_of_verdict(alloc, thm, &verdict, texts) else {
         return Status::NoMemory;
     };
-    let Ok(()) = keep_stall(verdict, stalls) else {
+    let Ok(()) = keep_stall(verdict, &mut out.stalls) else {
         return Status::NoMemory;
     };
-    match put_text(&lines, out) {
+    match put_told(&lines, false, out) {
         Ok(()) => status,
         Err(_) => Status::WriteFault,
     }

@@ -10,6 +10,7 @@ mod long_books;
 mod meeting;
 mod otherwise;
 mod phases;
+mod pieces;
 mod prefixes;
 mod proof_texts;
 mod refusals;

@@ -1,13 +1,13 @@
 //! Files and writers of the system, and faked ones that fail.
 
-use super::rows::words_in;
+use super::rows::{told_to, words_in};
 use crate::run::run;
 use command_line::{FileShelf, WriterSink, read_some};
 use gl_base::failed::Failed;
 use gl_base::memory_sink::MemorySink;
 use gl_base::shelf::Shelf;
 use gl_base::sink::Sink;
-use gl_decide::Stalls;
+use gl_book::Transcript;
 use std::alloc::AllocError;
 use std::io::{ErrorKind, Read, Write};
 use std::process::Abort;
@@ -40,28 +40,21 @@ fn real_file(rt: HostRuntime) -> Result<(), Fail> {
 /// The code of the status of a run on a folder, and how many stalls it adds.
 fn run_folder<R: AllocGlobal + Files + Threads + Sync>(
     rt: &R,
-    out: &mut MemorySink,
+    out: &mut Transcript<MemorySink>,
 ) -> Result<(u8, u64), AllocError> {
     let mut shelf = FileShelf::new(rt);
     let words = words_in(rt.alloc(), ".")?;
-    let mut stalls = Stalls::new(rt.alloc());
-    let status = run(
-        rt,
-        rt.alloc(),
-        words.as_slice(),
-        &mut shelf,
-        &mut stalls,
-        out,
-    );
-    Ok((status.code(), stalls.len()))
+    let status = run(rt, rt.alloc(), words.as_slice(), &mut shelf, out);
+    Ok((status.code(), out.stalls.len()))
 }
 
 /// A folder opens as a file does, and its first read fails.
 #[test]
 fn folder(rt: HostRuntime) -> Result<(), Fail> {
-    let mut out = MemorySink::new(rt.alloc(), 100, Vec::new(rt.alloc()))?;
+    let sink = MemorySink::new(rt.alloc(), 100, Vec::new(rt.alloc()))?;
+    let mut out = told_to(rt.alloc(), sink);
     assert!(rt; run_folder(&rt, &mut out)? == (4, 0));
-    assert!(rt; out.bytes().is_empty());
+    assert!(rt; out.sink.bytes().is_empty());
     Ok(())
 }
 

@@ -1,8 +1,8 @@
 //! Books of values and of theorems, and outsides that fail, that take a little at a time, and that never fail.
 
-ghost use Rattle.std.specs.Prelude.{◌<◌, Some};
+ghost use Rattle.std.specs.Prelude.{◌<◌, ℕ, List, Some};
 
-use super::rows::{FaultRow, all_give, each_fault_gives, shelf_of, texts_of, words_in};
+use super::rows::{FaultRow, all_give, each_fault_gives, shelf_of, texts_of, told_to, words_in};
 use crate::run::run;
 use gl_base::failed::Failed;
 use gl_base::memory_shelf::MemoryShelf;
@@ -11,7 +11,7 @@ use gl_base::shelf::Shelf;
 use gl_base::sink::Sink;
 use gl_base::sure_shelf::SureShelf;
 use gl_base::sure_sink::SureSink;
-use gl_decide::Stalls;
+use gl_book::Transcript;
 use std::alloc::{AllocError, Global};
 use std::process::Abort;
 use std::test::Fail;
@@ -161,11 +161,12 @@ fn code_of<R: AllocGlobal + Threads + Sync, S: Shelf, K: Sink>(
     rt: &R,
     words: &str,
     shelf: &mut S,
-    out: &mut K,
-) -> Result<u8, AllocError> {
+    out: &mut Transcript<K>,
+) -> Result<u8, AllocError>
+    requires { (name : List ℕ) → S.may_open name }
+{
     let words = words_in(rt.alloc(), words)?;
-    let mut stalls = Stalls::new(rt.alloc());
-    let status = run(rt, rt.alloc(), words.as_slice(), shelf, &mut stalls, out);
+    let status = run(rt, rt.alloc(), words.as_slice(), shelf, out);
     Ok(status.code())
 }
 
@@ -186,10 +187,10 @@ fn slow_sink(alloc: Global, step: usize) -> Result<Slow, Fail>
 fn try_slow<R: AllocGlobal + Threads + Sync + Abort>(
     rt: &R,
     shelf: &mut MemoryShelf,
-    out: &mut Slow,
+    out: &mut Transcript<Slow>,
 ) -> Result<(), Fail> {
     let code = code_of(rt, "b", shelf, out)?;
-    assert!(rt; code == 0 && out.inner.bytes() == FIRST_LINES.as_bytes());
+    assert!(rt; code == 0 && out.sink.inner.bytes() == FIRST_LINES.as_bytes());
     Ok(())
 }
 
@@ -197,7 +198,7 @@ fn try_step<R: AllocGlobal + Threads + Sync + Abort>(rt: &R, step: usize) -> Res
     requires { 0 < step }
 {
     let mut shelf = first_shelf(rt.alloc())?;
-    let mut out = slow_sink(rt.alloc(), step)?;
+    let mut out = told_to(rt.alloc(), slow_sink(rt.alloc(), step)?);
     try_slow(rt, &mut shelf, &mut out)
 }
 
@@ -213,9 +214,9 @@ fn try_sure<R: AllocGlobal + Threads + Sync + Abort>(
     words: &str,
     want: &str,
 ) -> Result<(), Fail> {
-    let mut out = SureSink::new(rt.alloc(), 100)?;
+    let mut out = told_to(rt.alloc(), SureSink::new(rt.alloc(), 100)?);
     let code = code_of(rt, words, shelf, &mut out)?;
-    assert!(rt; code == 0 && out.bytes() == want.as_bytes(), "{words}");
+    assert!(rt; code == 0 && out.sink.bytes() == want.as_bytes(), "{words}");
     Ok(())
 }
 

@@ -2,11 +2,11 @@
 
 ghost use Rattle.std.specs.Prelude.{◌≤◌};
 
+use super::rows::told_to;
 use gl_base::limits::Limits;
 use gl_base::memory_sink::MemorySink;
 use gl_base::status::Status;
 use gl_book::run_text;
-use gl_decide::Stalls;
 use std::alloc::Global;
 use std::process::Abort;
 use std::thread::Threads;
@@ -33,14 +33,16 @@ fn stalls_by<R: Abort + Threads + Sync>(rt: &R, alloc: Global, workers: u8) -> u
     let mut limits = Limits::usual();
     limits.nodes = 1000;
     limits.workers = workers;
-    let mut stalls = Stalls::new(alloc);
-    let mut sink = MemorySink::new(alloc, 10000, Vec::new(alloc)).expect(rt, "memory");
-    let status = run_text(rt, alloc, BOOK, &limits, false, &mut stalls, &mut sink);
+    let sink = MemorySink::new(alloc, 10000, Vec::new(alloc)).expect(rt, "memory");
+    let mut out = told_to(alloc, sink);
+    let status = run_text(rt, alloc, BOOK, &limits, false, &mut out);
     assert!(rt; status == Status::Refuted);
     assert!(rt;
-        sink.bytes().starts_with(b"UNDECIDED F cover nodes\nUNDECIDED G case 1 nodes\nREFUTED H\n")
+        out.sink.bytes().starts_with(
+            b"UNDECIDED F cover nodes\nUNDECIDED G case 1 nodes\nREFUTED H\n"
+        )
     );
-    stalls.len()
+    out.stalls.len()
 }
 
 #[test]

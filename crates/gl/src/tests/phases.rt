@@ -4,11 +4,12 @@ ghost use Rattle.std.specs.Prelude.{◌≤◌};
 
 use super::counting::Counting;
 use super::meeting::Meeting;
+use super::rows::told_to;
 use gl_base::limits::Limits;
 use gl_base::memory_sink::MemorySink;
 use gl_base::status::Status;
-use gl_book::{Run, run_text, run_text_gated};
-use gl_decide::{Gate, Stalls};
+use gl_book::{Run, Transcript, run_text, run_text_gated};
+use gl_decide::Gate;
 use std::alloc::Global;
 use std::process::Abort;
 use std::thread::Threads;
@@ -47,20 +48,20 @@ fn run_with<R: Threads + Sync>(
     alloc: Global,
     workers: u8,
     last_only: bool,
-    sink: &mut MemorySink,
+    out: &mut Transcript<MemorySink>,
 ) -> (Status, u64)
     requires one { 1 ≤ workers }
     requires eight { workers ≤ 8 }
 {
     let mut limits = Limits::usual();
     limits.workers = workers;
-    let mut stalls = Stalls::new(alloc);
-    let status = run_text(rt, alloc, BOOK, &limits, last_only, &mut stalls, sink);
-    (status, stalls.len())
+    let status = run_text(rt, alloc, BOOK, &limits, last_only, out);
+    (status, out.stalls.len())
 }
 
-fn new_sink(rt: &impl Abort, alloc: Global) -> MemorySink {
-    MemorySink::new(alloc, 10000, Vec::new(alloc)).expect(rt, "memory")
+fn new_out(rt: &impl Abort, alloc: Global) -> Transcript<MemorySink> {
+    let sink = MemorySink::new(alloc, 10000, Vec::new(alloc)).expect(rt, "memory");
+    told_to(alloc, sink)
 }
 
 /// What so many workers write is what is given.
@@ -74,10 +75,10 @@ fn writes_the_same<R: Abort + Threads + Sync>(
     requires one { 1 ≤ workers }
     requires eight { workers ≤ 8 }
 {
-    let mut sink = new_sink(rt, alloc);
-    let (status, stalls) = run_with(rt, alloc, workers, false, &mut sink);
+    let mut out = new_out(rt, alloc);
+    let (status, stalls) = run_with(rt, alloc, workers, false, &mut out);
     assert!(rt; status == given.0);
-    assert!(rt; sink.bytes() == bytes);
+    assert!(rt; out.sink.bytes() == bytes);
     assert!(rt; stalls == given.1);
 }
 
@@ -86,25 +87,25 @@ fn writes_the_end<R: Abort + Threads + Sync>(rt: &R, alloc: Global, workers: u8,
     requires one { 1 ≤ workers }
     requires eight { workers ≤ 8 }
 {
-    let mut sink = new_sink(rt, alloc);
-    let _ = run_with(rt, alloc, workers, true, &mut sink);
-    assert!(rt; bytes.ends_with(sink.bytes()));
+    let mut out = new_out(rt, alloc);
+    let _ = run_with(rt, alloc, workers, true, &mut out);
+    assert!(rt; bytes.ends_with(out.sink.bytes()));
 }
 
 /// Compares what two, three and eight workers write to what one does.
-fn compare<R: Abort + Threads + Sync>(rt: &R, alloc: Global, one: &mut MemorySink) {
+fn compare<R: Abort + Threads + Sync>(rt: &R, alloc: Global, one: &mut Transcript<MemorySink>) {
     let given = run_with(rt, alloc, 1, false, one);
     assert!(rt; given.0 == Status::BookRefused);
     for workers in &[2, 3, 8] {
         assert!(rt; 1 <= *workers && *workers <= 8);
-        writes_the_same(rt, alloc, *workers, given, one.bytes());
-        writes_the_end(rt, alloc, *workers, one.bytes());
+        writes_the_same(rt, alloc, *workers, given, one.sink.bytes());
+        writes_the_end(rt, alloc, *workers, one.sink.bytes());
     }
 }
 
 #[test]
 fn equal_bytes(rt: HostRuntime) {
-    let mut one = new_sink(&rt, rt.alloc());
+    let mut one = new_out(&rt, rt.alloc());
     compare(&rt, rt.alloc(), &mut one);
 }
 
@@ -116,11 +117,10 @@ fn run_gated<R: Threads + Sync, G: Gate>(
     alloc: Global,
     book: &[u8],
     gate: &G,
-    sink: &mut MemorySink,
+    out: &mut Transcript<MemorySink>,
 ) {
     let mut limits = Limits::usual();
     limits.workers = 2;
-    let mut stalls = Stalls::new(alloc);
     let run = Run {
         rt,
         alloc,
@@ -128,14 +128,14 @@ fn run_gated<R: Threads + Sync, G: Gate>(
         last_only: false,
         gate,
     };
-    run_text_gated(&run, book, &mut stalls, sink);
+    run_text_gated(&run, book, out);
 }
 
 #[test]
 fn jobs_meet(rt: HostRuntime) {
     let gate = Meeting::new();
-    let mut sink = new_sink(&rt, rt.alloc());
-    run_gated(&rt, rt.alloc(), TWO_VALUES, &gate, &mut sink);
+    let mut out = new_out(&rt, rt.alloc());
+    run_gated(&rt, rt.alloc(), TWO_VALUES, &gate, &mut out);
     assert!(rt; gate.met() == 2);
 }
 
@@ -151,11 +151,11 @@ const TWO_CASES_TOLD: &[u8] = b"VALUE 1\nPROVED F\nDONE proved=1 vacuous=0 refut
 #[test]
 fn parts_are_tasks(rt: HostRuntime) {
     let gate = Counting::new();
-    let mut sink = new_sink(&rt, rt.alloc());
-    run_gated(&rt, rt.alloc(), TWO_CASES, &gate, &mut sink);
+    let mut out = new_out(&rt, rt.alloc());
+    run_gated(&rt, rt.alloc(), TWO_CASES, &gate, &mut out);
     for number in 0..4 {
         assert!(rt; gate.begun(number) == 1);
     }
     assert!(rt; gate.others() == 0);
-    assert!(rt; sink.bytes() == TWO_CASES_TOLD);
+    assert!(rt; out.sink.bytes() == TWO_CASES_TOLD);
 }

@@ -323,14 +323,15 @@ fn words_with_a_part(rt: HostRuntime) -> Result<(), Fail> {
     each_fault_gives(&rt, REFUTED, &WORDS)
 }
 
-/// The calls of the shelf are the opening, the bytes and the end, those of the sink all bytes and the flush.
-const FAULTS: [FaultRow; 7] = [
+/// The calls of the shelf are the opening, the bytes and the end, those of the sink each line and the flush.
+const FAULTS: [FaultRow; 8] = [
     ("--proof cnf b", 1, 0, "", 4),
     ("--proof cnf b", 2, 0, "", 4),
     ("--proof cnf b", 3, 0, "", 4),
-    ("--proof cnf b", 4, 3, LINES, 1),
+    ("--proof cnf b", 4, 4, LINES, 1),
     ("--proof cnf b", 0, 1, "", 5),
-    ("--proof cnf b", 0, 2, LINES, 5),
+    ("--proof cnf b", 0, 2, "REFUTED F\n", 5),
+    ("--proof cnf b", 0, 3, LINES, 5),
     ("--proof cnf none", 0, 0, "", 4),
 ];
 

@@ -3,7 +3,7 @@
 use crate::run::run;
 use gl_base::memory_shelf::MemoryShelf;
 use gl_base::memory_sink::MemorySink;
-use gl_book::generate;
+use gl_book::{Transcript, generate};
 use gl_decide::Stalls;
 use std::alloc::{AllocError, Global};
 use std::process::Abort;
@@ -17,8 +17,8 @@ pub const USAGE: &str =
 /// What a run over memory gave.
 #[derive(Drop)]
 pub struct Given {
-    /// What it wrote.
-    out: MemorySink,
+    /// What it wrote, with its stalls.
+    out: Transcript<MemorySink>,
     /// The code of its status.
     pub code: u8,
     /// How many stalls it added.
@@ -28,7 +28,7 @@ pub struct Given {
 impl Given {
     /// What it wrote.
     pub fn bytes(&self) -> &[u8] {
-        self.out.bytes()
+        self.out.sink.bytes()
     }
 }
 
@@ -61,12 +61,23 @@ pub fn outcome_over<R: AllocGlobal + Threads + Sync>(
     let mut shelf = MemoryShelf::new(alloc, texts, calls_of(alloc, fails.0)?)?;
     let words = words_in(alloc, words)?;
     let mut given = Given {
-        out: MemorySink::new(alloc, room, calls_of(alloc, fails.1)?)?,
+        out: told_to(
+            alloc,
+            MemorySink::new(alloc, room, calls_of(alloc, fails.1)?)?,
+        ),
         code: 0,
         stalls: 0,
     };
     run_into(rt, alloc, words.as_slice(), &mut shelf, &mut given);
     Ok(given)
+}
+
+/// A transcript to a sink, with no stall.
+pub fn told_to<K>(alloc: Global, sink: K) -> Transcript<K> {
+    Transcript {
+        sink,
+        stalls: Stalls::new(alloc),
+    }
 }
 
 /// Runs the words over the shelf.
@@ -77,10 +88,9 @@ fn run_into<R: Threads + Sync>(
     shelf: &mut MemoryShelf,
     given: &mut Given,
 ) {
-    let mut stalls = Stalls::new(alloc);
-    let status = run(rt, alloc, words, shelf, &mut stalls, &mut given.out);
+    let status = run(rt, alloc, words, shelf, &mut given.out);
     given.code = status.code();
-    given.stalls = stalls.len();
+    given.stalls = given.out.stalls.len();
 }
 
 /// How many lines of a transcript tell of nodes or clauses.

@@ -2,9 +2,10 @@
 
 ghost use Rattle.std.specs.Prelude.{◌≤◌};
 
+use super::rows::told_to;
 use gl_base::limits::Limits;
 use gl_base::memory_sink::MemorySink;
-use gl_book::run_text;
+use gl_book::{Transcript, run_text};
 use gl_decide::{StallCause, Stalls};
 use std::process::Abort;
 use std::test::Fail;
@@ -60,30 +61,24 @@ const ROWS: [Row; 6] = [
 fn try_row<R: AllocGlobal + Threads + Sync + Abort>(
     rt: &R,
     row: &Row,
-    out: &mut MemorySink,
-    stalls: &mut Stalls,
+    out: &mut Transcript<MemorySink>,
 ) {
     let (text, enum_bits, last_only, want, want_code, want_stalls) = *row;
     assert!(rt; enum_bits <= 16);
     let limits = limits(enum_bits);
-    let code = run_text(
-        rt,
-        rt.alloc(),
-        text.as_bytes(),
-        &limits,
-        last_only,
-        stalls,
-        out,
-    )
-    .code();
+    let code = run_text(rt, rt.alloc(), text.as_bytes(), &limits, last_only, out).code();
     assert_eq!(rt;
-        out.bytes(),
+        out.sink.bytes(),
         want.as_bytes(),
         "{text}, last only: {last_only}"
     );
     assert_eq!(rt; code, want_code, "{text}, last only: {last_only}");
-    assert_eq!(rt; stalls.len(), want_stalls, "{text}, last only: {last_only}");
-    check_stalls(rt, stalls);
+    assert_eq!(rt;
+        out.stalls.len(),
+        want_stalls,
+        "{text}, last only: {last_only}"
+    );
+    check_stalls(rt, &out.stalls);
 }
 
 /// Each is of 100 nodes.
@@ -95,9 +90,9 @@ fn check_stalls(rt: &impl Abort, stalls: &Stalls) {
 
 fn try_rows<R: AllocGlobal + Threads + Sync + Abort>(rt: &R, rows: &[Row]) -> Result<(), Fail> {
     for row in rows {
-        let mut out = MemorySink::new(rt.alloc(), 200, Vec::new(rt.alloc()))?;
-        let mut stalls = Stalls::new(rt.alloc());
-        try_row(rt, row, &mut out, &mut stalls);
+        let sink = MemorySink::new(rt.alloc(), 200, Vec::new(rt.alloc()))?;
+        let mut out = told_to(rt.alloc(), sink);
+        try_row(rt, row, &mut out);
     }
     Ok(())
 }

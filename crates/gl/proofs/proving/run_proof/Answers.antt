@@ -17,7 +17,7 @@ returns-in-Err-TooLong-clause-written g c = λ _.
     let line = c.in-Err-TooLong.field-0-0 in
     let column = c.in-Err-TooLong.field-0-1 in
     let long : IsLongAt most_bytes held (TooLong line column) = subst (IsLongAt most_bytes held) c.in-Err-TooLong.field-0-is c.in-Err-TooLong.ensures.long in
-    record { bytes = long.0; told = long.1; written = c.put_no_proof.ensures.written bounds proof.part long.0 c.args.stalls.now (long_not_due bounds long.0 line column long.2) }
+    record { bytes = long.0; told = long.1; written = c.put_no_proof.ensures.written bounds proof.part long.0 c.args.out.now.stalls (long_not_due bounds long.0 line column long.2) }
 
 pub returns-in-Err-Memory-clause-written : goal.returns-in-Err-Memory-clause-written
-returns-in-Err-Memory-clause-written g c = λ _. unwritten (bounds_of c.args.proof.now.limits) c.args.proof.now.part (g.S.Shelf.holds c.args.shelf.now) c.args.proof.now.name.now (g.K.Sink.written c.args.out.now) c.args.stalls.now
+returns-in-Err-Memory-clause-written g c = λ _. unwritten (bounds_of c.args.proof.now.limits) c.args.proof.now.part (g.S.Shelf.holds c.args.shelf.now) c.args.proof.now.name.now (g.K.Sink.written c.args.out.now.sink) c.args.out.now.stalls

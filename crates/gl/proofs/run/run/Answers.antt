@@ -55,11 +55,11 @@ returns-in-Err-clause-unstalled g c = none_known (order_of (map string_bytes c.a
 
 pub returns-in-Err-clause-transcript : goal.returns-in-Err-clause-transcript
 returns-in-Err-clause-transcript g c =
-    of_transcript _ (order_of (map string_bytes c.args.words.now)) (λ command is e. from_nothing command.source command.bounds (g.S.Shelf.holds c.args.shelf.now) (g.K.Sink.written c.args.out.now) c.args.stalls.now)
+    of_transcript _ (order_of (map string_bytes c.args.words.now)) (λ command is e. from_nothing command.source command.bounds (g.S.Shelf.holds c.args.shelf.now) (g.K.Sink.written c.args.out.now.sink) c.args.out.now.stalls)
 
 pub returns-in-Err-clause-proof : goal.returns-in-Err-clause-proof
 returns-in-Err-clause-proof g c =
-    of_proof _ (order_of (map string_bytes c.args.words.now)) (λ bounds name part is e. unwritten bounds part (g.S.Shelf.holds c.args.shelf.now) name (g.K.Sink.written c.args.out.now) c.args.stalls.now)
+    of_proof _ (order_of (map string_bytes c.args.words.now)) (λ bounds name part is e. unwritten bounds part (g.S.Shelf.holds c.args.shelf.now) name (g.K.Sink.written c.args.out.now.sink) c.args.out.now.stalls)
 
 pub returns-in-Err-clause-judgement : goal.returns-in-Err-clause-judgement
 returns-in-Err-clause-judgement g c = of_judge _ (order_of (map string_bytes c.args.words.now)) (λ workers cnf log is e. (refl, refl))
