@@ -5,7 +5,7 @@
 //! cons, a positive integer less a literal, halved or shifted, a gap that closes. Two natural measures may stand
 //! together, of which the first decides. ACL2 asks the same question of its prover; here a table answers it.
 //!
-//! Tests: .ci/tables, through the built program.
+//! Tests: `tests/tables`, through the built program.
 #![tactic(auto)]
 
 mod actuals;

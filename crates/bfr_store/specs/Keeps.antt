@@ -4,7 +4,7 @@ use Rattle.bfr_store.specs.declared.edge.Edge.{Edge}
 use Rattle.bfr_store.specs.declared.edge.Full.{Full}
 use Rattle.bfr_store.specs.declared.meaning.Meaning.{Ghosts}
 
--- every call: a live edge stays live and keeps its truth, the limit and a decision's budget stay, and the count doesn't fall
+-- every call: a live edge stays live and keeps its truth, the limit and the budget of decisions stay, and the count doesn't fall
 pub record Grows {B : Type 0} (g : Ghosts B) (old new : B) : Type 0 where
   pub stays : (e : Edge) → g.live old e → g.live new e
   pub same : (e : Edge) (a : ℕ → Bool) → g.live old e → g.truth_of new e a ≡ g.truth_of old e a

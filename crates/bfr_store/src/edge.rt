@@ -14,8 +14,8 @@ pub struct Edge {
 #[derive(Clone, Copy, Debug, PartialEq, Eq)]
 pub struct Full;
 
-/// What a decision found: that no assignment makes the edge true, an assignment that does, or neither within its
-/// bound.
+/// What a decision found: that no assignment makes the edge true, an assignment that does, or neither within the store's
+/// budget.
 #[derive(Clone, Copy, Debug, PartialEq, Eq)]
 pub enum Decision {
     Never,

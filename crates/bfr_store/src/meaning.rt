@@ -17,7 +17,7 @@ pub trait Meaning {
     /// Whether the last decision was given up. It is false in a new store.
     ghost spent: { Self → Bool };
 
-    /// How much one decision may spend, where that is bounded.
+    /// How much the decisions of the store may spend, all together, where that is bounded.
     ghost budget_of: { Self → ℕ };
 
     /// How many nodes there may be.

@@ -4,7 +4,7 @@
 //! first check that fails. [`event_of`] gives it. The state after an accepted event is `next_state`. [`prelude`] is
 //! the world of a book's first form.
 //!
-//! Tests: the crate `world_tests`, and .ci/tables, through the built program.
+//! Tests: the crate `world_tests`, and `tests/tables`, through the built program.
 #![tactic(auto)]
 
 mod bound;

@@ -33,8 +33,7 @@ abbrev pub input_of : Verdict → List (ℕ × Object)
 input_of (verdict.Refuted env) = env
 input_of _ = []
 
--- a verdict for each theorem, in order, by the limits of the run. Want of memory is free, and so is the verdict of a part that is
--- not looked at since the others fix the answer
+-- a verdict for each theorem, in order, each proper by the limits of the run
 abbrev pub AreProperVerdicts : Bounds → WorldSeen → List TheoremSeen → List Verdict → Type 0
 AreProperVerdicts bounds w [] [] = Unit {0}
 AreProperVerdicts bounds w (thm ∷ thms) (v ∷ vs) = IsProperVerdict w bounds thm v × AreProperVerdicts bounds w thms vs

@@ -25,7 +25,7 @@ pub enum Verdict {
     /// The evaluation speaks of more different cells than the limit of cells.
     Cells(Part, Inputs),
     /// The symbolic run needs more nodes than there may be, and the theorem has more indices than are scanned. The modes behind
-    /// its own don't decide it either.
+    /// its own are tried too.
     Nodes(Stall),
     /// The search needs more clauses than it may learn, and the theorem has more indices than are scanned.
     Clauses(Stall),

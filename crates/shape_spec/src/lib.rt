@@ -4,7 +4,7 @@
 //! gives each variable an object. Index values are numbered by the indices in order: the value of number k
 //! goes to the k-th smallest index, from 0.
 //!
-//! Tests: .ci/tables, through the built program.
+//! Tests: `tests/tables`, through the built program.
 #![tactic(auto)]
 
 mod binding_form;
