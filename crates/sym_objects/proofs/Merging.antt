@@ -1,6 +1,7 @@
 -- The merge of two symbolic objects on its way.
-use Rattle.std.proofs.Common.{◌≡◌, ◌∙◌, refl, sym, ap, subst, ℕ, ◌<◌, Bool, true, false, cond, List, length, map, Option, Some, Result, Ok, Err, IfOk, arith}
+use Rattle.std.proofs.Common.{◌≡◌, ◌≢◌, ◌∙◌, refl, sym, ap, subst, ℕ, ◌+◌, ◌<◌, ◌≤◌, eqb, Bool, true, false, cond, List, length, map, Option, Some, Result, Ok, Err, IfOk, arith, eq-eqb}
 use Rattle.std.specs.Prelude.{ℤ}
+use Rattle.std.proofs.lemmas.Bool.{ne_eqb}
 use Rattle.bfr_store.specs.declared.edge.Edge.{Edge}
 use Rattle.bfr_store.specs.declared.edge.Full.{Full}
 use Rattle.bfr_store.specs.declared.meaning.Meaning.{Ghosts}
@@ -10,7 +11,7 @@ use Rattle.sym_objects.specs.declared.sob.Sob.{Sob}
 use Rattle.sym_objects.specs.declared.merge.Both.{Both}
 use Rattle.sym_objects.specs.Keeps.{Keeps}
 use Rattle.sym_objects.specs.Makes.{Makes}
-use Rattle.sym_objects.specs.Merging.{IsMergeOf, ArePairsOf, AreLive}
+use Rattle.sym_objects.specs.Merging.{AreHalvesOf, AreLive, IsMergeOf, IsSideOf, size_of_both}
 use Rattle.sym_objects.specs.Seen.{SobsSeen, IsLive, stands_for}
 use Rattle.sym_objects.specs.Walks.{IsNext}
 use Rattle.sym_objects.proofs.Keeping.{keeps_then}
@@ -22,6 +23,10 @@ merge_same false x = refl
 merge_pairs : (b : Bool) (x y z w : Object) → Cons (cond b x z) (cond b y w) ≡ cond b (Cons x y) (Cons z w)
 merge_pairs true x y z w = refl
 merge_pairs false x y z w = refl
+
+merge_sides : {A : Type 0} (t e f : Bool) (x y z w : A) → cond (cond t e f) (cond t x y) (cond t z w) ≡ cond t (cond e x z) (cond f y w)
+merge_sides true e f x y z w = refl
+merge_sides false e f x y z w = refl
 
 pub merge_booleans : (b x y : Bool) → boolean_object (cond b x y) ≡ cond b (boolean_object x) (boolean_object y)
 merge_booleans true x y = refl
@@ -59,14 +64,29 @@ module _ {B : Type 0} (g : Ghosts B) (t : Edge) where
   }
 
   -- the cons of the merges of the parts
-  pub merge_of_parts : (old new : SobsSeen B) (a b c : Both) (x y z : Sob) → g.live old.store t → ArePairsOf g old a b c → IsMergeOf g t old a x → IsMergeOf g t old b y
-      → Makes {E = Full} g old new (Ok z) (λ v. Cons (stands_for g old x v) (stands_for g old y v)) → IsMergeOf g t new c z
-  merge_of_parts old new a b c x y z l p m n w =
-      merge_made old new c z w.keeps l (p.first, p.second) w.live
+  pub merge_of_parts : (old new : SobsSeen B) (a b c : Both) (x y : Sob) (result : Result Sob Full) → g.live old.store t → AreLive old c → IsMergeOf g t old a x → IsMergeOf g t old b y
+      → ((v : ℕ → Bool) → stands_for g old c.first v ≡ Cons (stands_for g old a.first v) (stands_for g old b.first v)) → ((v : ℕ → Bool) → stands_for g old c.second v ≡ Cons (stands_for g old a.second v) (stands_for g old b.second v))
+      → Makes g old new result (λ v. Cons (stands_for g old x v) (stands_for g old y v)) → IfOk result (λ z. IsMergeOf g t new c z)
+  merge_of_parts old new a b c x y (Ok z) l live m n p q w =
+      merge_made old new c z w.keeps l live w.live
       (λ v. w.means v
-      ∙ ((let q = m.means v in let r = n.means v in λ i. Cons (q i) (r i))
+      ∙ ((let d = m.means v in let e = n.means v in λ i. Cons (d i) (e i))
       ∙ (merge_pairs (g.truth_of old.store t v) (stands_for g old a.first v) (stands_for g old b.first v) (stands_for g old a.second v) (stands_for g old b.second v)
-      ∙ (let q = sym (p.first_is v) in let r = sym (p.second_is v) in λ i. cond (g.truth_of old.store t v) (q i) (r i)))))
+      ∙ (let d = sym (p v) in let e = sym (q v) in λ i. cond (g.truth_of old.store t v) (d i) (e i)))))
+  merge_of_parts old new a b c x y (Err f) l live m n p q w = tt
+
+  -- the choice of the merges of the parts
+  pub merge_of_sides : (old between new : SobsSeen B) (a b c : Both) (x y : Sob) (e f chosen : Edge) (result : Result Sob Full) → g.live old.store t → AreLive old c → IsMergeOf g t old a x → IsMergeOf g t old b y
+      → IsSideOf g old c.first a.first b.first e → IsSideOf g old c.second a.second b.second f
+      → Keeps g old between → ((v : ℕ → Bool) → g.truth_of between.store chosen v ≡ cond (g.truth_of old.store t v) (g.truth_of old.store e v) (g.truth_of old.store f v))
+      → Makes g between new result (λ v. cond (g.truth_of between.store chosen v) (stands_for g between x v) (stands_for g between y v)) → IfOk result (λ z. IsMergeOf g t new c z)
+  merge_of_sides old between new a b c x y e f chosen (Ok z) l live m n p q kept is w =
+      merge_made old new c z (keeps_then g old between new kept w.keeps) l live w.live
+      (λ v. w.means v
+      ∙ ((let u = is v in let d = kept.same x v m.live ∙ m.means v in let h = kept.same y v n.live ∙ n.means v in λ i. cond (u i) (d i) (h i))
+      ∙ (merge_sides (g.truth_of old.store t v) (g.truth_of old.store e v) (g.truth_of old.store f v) (stands_for g old a.first v) (stands_for g old a.second v) (stands_for g old b.first v) (stands_for g old b.second v)
+      ∙ (let d = sym (p.is v) in let h = sym (q.is v) in λ i. cond (g.truth_of old.store t v) (d i) (h i)))))
+  merge_of_sides old between new a b c x y e f chosen (Err z) l live m n p q kept is w = tt
 
   -- what a call that makes the chosen object answers
   pub merge_answer : (old new : SobsSeen B) (k : Both) (result : Result Sob Full) → g.live old.store t → AreLive old k
@@ -96,25 +116,34 @@ module _ {B : Type 0} (g : Ghosts B) (t : Edge) where
       ∙ (let u = sym (p a) in let v = sym (q a) in λ i. cond (g.truth_of old.store t a) (u i) (v i)))))
   merge_bits old between new k xs ys es (Err f) l live p q kept is m = tt
 
-below_live : (x y n : ℕ) → x < y → y < n → x < n
-below_live x y n h l = omega (arith, h, l)
-
-pub pairs_kept : {B : Type 0} (g : Ghosts B) (old new : SobsSeen B) → Keeps g old new → (a b c : Both) → ArePairsOf g old a b c → ArePairsOf g new a b c
-pairs_kept g old new k a b c p =
-    record {
-      first = k.stays c.first p.first;
-      second = k.stays c.second p.second;
-      first_car = p.first_car;
-      first_cdr = p.first_cdr;
-      second_car = p.second_car;
-      second_cdr = p.second_cdr;
-      first_is = λ v. k.same c.first v p.first ∙ (p.first_is v ∙ (let q = sym (k.same a.first v (below_live a.first.number c.first.number (length old.nodes) p.first_car p.first)) in let r = sym (k.same b.first v (below_live b.first.number c.first.number (length old.nodes) p.first_cdr p.first)) in λ i. Cons (q i) (r i)));
-      second_is = λ v. k.same c.second v p.second ∙ (p.second_is v ∙ (let q = sym (k.same a.second v (below_live a.second.number c.second.number (length old.nodes) p.second_car p.second)) in let r = sym (k.same b.second v (below_live b.second.number c.second.number (length old.nodes) p.second_cdr p.second)) in λ i. Cons (q i) (r i)));
-    }
+pub halves_kept : {B : Type 0} (g : Ghosts B) (old new : SobsSeen B) → Keeps g old new → (a b c : Both) → AreHalvesOf old a b c → AreHalvesOf new a b c
+halves_kept g old new k a b c p = record {
+  whole = (k.stays c.first p.whole.0, k.stays c.second p.whole.1);
+  first = (k.stays a.first p.first.0, k.stays a.second p.first.1);
+  second = (k.stays b.first p.second.0, k.stays b.second p.second.1);
+  first_falls = p.first_falls;
+  second_falls = p.second_falls;
+}
 
 -- the merge of the second parts comes, beside that of the first
-pub merge_next : {B : Type 0} (g : Ghosts B) (t : Edge) (old new : SobsSeen B) (a b c k : Both) (o : Option Sob) (x y z : Sob) → g.live old.store t → ArePairsOf g old a b c → IsNext (IsMergeOf g t old) a b o k → o ≡ Some x → IsMergeOf g t old k y
-    → Makes {E = Full} g old new (Ok z) (λ v. Cons (stands_for g old x v) (stands_for g old y v)) → IsMergeOf g t new c z
-merge_next g t old new a b c k o x y z l p h is r m =
-    let next : IsMergeOf g t old a x × (k ≡ b) = subst (λ (q : Option Sob). IsNext (IsMergeOf g t old) a b q k) is h in
-    merge_of_parts g t old new a b c x y z l p next.0 (subst (λ (q : Both). IsMergeOf g t old q y) next.1 r) m
+pub first_is : {B : Type 0} (g : Ghosts B) (t : Edge) (s : SobsSeen B) (a b k : Both) (o : Option Sob) (x : Sob) → IsNext (IsMergeOf g t s) a b o k → o ≡ Some x → IsMergeOf g t s a x
+first_is g t s a b k o x h is = (subst (λ (q : Option Sob). IsNext (IsMergeOf g t s) a b q k) is h).0
+
+pub second_is : {B : Type 0} (g : Ghosts B) (t : Edge) (s : SobsSeen B) (a b k : Both) (o : Option Sob) (x y : Sob) → IsNext (IsMergeOf g t s) a b o k → o ≡ Some x → IsMergeOf g t s k y → IsMergeOf g t s b y
+second_is g t s a b k o x y h is r = subst (λ (q : Both). IsMergeOf g t s q y) (subst (λ (q : Option Sob). IsNext (IsMergeOf g t s) a b q k) is h).1 r
+
+-- ---- sizes
+size_most : (k : Both) → size_of_both k ≤ k.first.number + k.second.number
+size_most k = elim (eqb k.first.number k.second.number) as (λ (b : Bool). cond b 0 (k.first.number + k.second.number) ≤ k.first.number + k.second.number) [ true ↦ omega arith | false ↦ omega arith ]
+
+size_differ : (k : Both) → k.first.number ≢ k.second.number → size_of_both k ≡ k.first.number + k.second.number
+size_differ k h = ap (λ (b : Bool). cond b 0 (k.first.number + k.second.number)) (ne_eqb k.first.number k.second.number h)
+
+size_same : (k : Both) → k.first ≡ k.second → size_of_both k ≡ 0
+size_same k e = ap (λ (b : Bool). cond b 0 (k.first.number + k.second.number)) (eq-eqb k.first.number k.second.number (ap (λ (x : Sob). x.number) e))
+
+pub size_less : (a c : Both) → c.first.number ≢ c.second.number → a.first.number + a.second.number < c.first.number + c.second.number → size_of_both a < size_of_both c
+size_less a c h l = omega (arith, size_most a, size_differ c h, l)
+
+pub size_one : (a c : Both) → c.first.number ≢ c.second.number → a.first ≡ a.second → size_of_both a < size_of_both c
+size_one a c h e = omega (arith, size_same a e, size_differ c h, h)

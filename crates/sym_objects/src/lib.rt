@@ -18,6 +18,7 @@
 pub mod arenas;
 mod bits;
 mod chains;
+mod choices;
 pub mod constants;
 mod edges;
 pub mod fault;

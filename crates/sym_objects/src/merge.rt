@@ -1,10 +1,11 @@
 //! The merge of two symbolic objects, by a work list.
 
-ghost use Rattle.std.specs.Prelude.{◌≡◌, ◌∷◌, ℕ, Bool, cond, IfOk, IfSome, IsErrOf, OnErr, Some};
+ghost use Rattle.std.specs.Prelude.{◌≡◌, ◌≢◌, ◌∷◌, ℕ, Bool, cond, IfOk, IfSome, IsErrOf, OnErr, Some};
 ghost use Rattle.sym_objects.specs.declared.fault.SobFault.TheVariants as fault;
 ghost use Rattle.sym_objects.specs.declared.walk.Focus.TheVariants as focus;
 
 use super::bits::choose_bits;
+use super::choices::{by_kind, choice, in_order, is_cons_of, side};
 use super::edges::choose_edge;
 use super::fault::SobFault;
 use super::memo::{Key, Memo};
@@ -23,10 +24,20 @@ pub struct Both {
     pub second: Sob,
 }
 
+impl Both {
+    /// These two.
+    pub(crate) fn of(first: Sob, second: Sob) -> Both
+        ensures first { result.first ≡ first }
+        ensures second { result.second ≡ second }
+    {
+        Both { first, second }
+    }
+}
+
 ghost use Rattle.sym_objects.specs.Keeps.{Keeps};
 ghost use Rattle.sym_objects.specs.Makes.{Makes};
 ghost use Rattle.sym_objects.specs.Memos.{AreRight};
-ghost use Rattle.sym_objects.specs.Merging.{AreLive, ArePairsOf, IsMergeOf, both_of, size_of_both};
+ghost use Rattle.sym_objects.specs.Merging.{AreHalvesOf, AreLive, IsMergeOf, both_of, size_of_both};
 ghost use Rattle.sym_objects.specs.Nodes.{kind_of, node_at};
 ghost use Rattle.sym_objects.specs.Seen.{IsFull, IsLive, IsWhole, stands_for};
 ghost use Rattle.sym_objects.specs.Walks.{IsNext, Turns};
@@ -34,7 +45,8 @@ ghost use Rattle.sym_objects.specs.Walks.{IsNext, Turns};
 impl<B: Bits> Sobs<B> {
     /// The object that is `a` where the test is true, and `b` elsewhere. It goes to the end of both on a work list: two
     /// integers are merged bit by bit, the shorter one padded by its sign, two Booleans by their edges, and two conses part
-    /// by part; equal nodes are their own merge, and any other two make a choice. Parts that are met again are merged once.
+    /// by part; equal nodes are their own merge, and any other two make a choice. Choices are merged kind by kind, so that a
+    /// choice has one Boolean, one integer and one cons at most. Parts that are met again are merged once.
     pub fn merge(&mut self, alloc: Global, test: Edge, a: Sob, b: Sob) -> Result<Sob, SobFault>
         requires whole { IsWhole B.Meaning self.old }
         requires test { B.live self.old.store test }
@@ -85,7 +97,7 @@ fn visit<B: Bits>(
     requires live { AreLive objs.old key }
     requires memo { AreRight both_of (IsMergeOf B.Meaning test objs.old) memo.old }
     ensures keeps { Keeps B.Meaning objs.old objs.new }
-    ensures turn { IfOk result (λ f. Turns (IsMergeOf B.Meaning test objs.old) (IsMergeOf B.Meaning test objs.new) (ArePairsOf B.Meaning objs.old) (ArePairsOf B.Meaning objs.new) (AreLive objs.new) size_of_both frames.old frames.new (focus.Visit key) f) }
+    ensures turn { IfOk result (λ f. Turns (IsMergeOf B.Meaning test objs.old) (IsMergeOf B.Meaning test objs.new) (AreHalvesOf objs.old) (AreHalvesOf objs.new) (AreLive objs.new) size_of_both frames.old frames.new (focus.Visit key) f) }
     ensures memo { IfOk result (λ f. AreRight both_of (IsMergeOf B.Meaning test objs.new) memo.new) }
     ensures full { IsErrOf result fault.Full → IsFull B.Meaning objs.new }
 {
@@ -109,29 +121,21 @@ fn visit<B: Bits>(
     Ok(Focus::Give(key, made))
 }
 
-/// The first parts of two conses, and their second parts.
+/// What is merged in place of two wholes: of two conses their first and their second parts; where one is a choice, the objects
+/// of the first kind and what is left of both. None where the two are merged at once.
 fn parts<B: Bits>(objs: &Sobs<B>, key: Both) -> Option<(Both, Both)>
     requires whole { IsWhole B.Meaning objs.now }
     requires live { AreLive objs.now key }
-    ensures { IfSome result (λ p. ArePairsOf B.Meaning objs.now p.0 p.1 key) }
+    requires differ { key.first.number ≢ key.second.number }
+    ensures { IfSome result (λ p. AreHalvesOf objs.now p.0 p.1 key) }
 {
     match (objs.inner(key.first), objs.inner(key.second)) {
-        (Node::Pair(a, d), Node::Pair(b, e)) => {
-            let first = Both {
-                first: a,
-                second: b,
-            };
-            let second = Both {
-                first: d,
-                second: e,
-            };
-            Some((first, second))
-        }
-        _ => None,
+        (Node::Pair(a, d), Node::Pair(b, e)) => Some((Both::of(a, b), Both::of(d, e))),
+        _ => by_kind(objs, key),
     }
 }
 
-/// The merge of two objects that are no two conses.
+/// The merge of two objects that have no parts to be merged.
 fn leaf<B: Bits>(objs: &mut Sobs<B>, test: Edge, key: Both) -> Result<Sob, Full>
     requires whole { IsWhole B.Meaning objs.old }
     requires test { B.live objs.old.store test }
@@ -146,7 +150,42 @@ fn leaf<B: Bits>(objs: &mut Sobs<B>, test: Edge, key: Both) -> Result<Sob, Full>
             objs.boolean(e)
         }
         (SobNode::Integer, SobNode::Integer) => integers(objs, test, key),
-        _ => objs.add(Node::Choice(test, key.first, key.second)),
+        _ => in_order(objs, test, key),
+    }
+}
+
+/// The merge of two wholes, from those of their parts.
+fn joined<B: Bits>(
+    objs: &mut Sobs<B>,
+    test: Edge,
+    whole: Both,
+    first: Both,
+    second: Both,
+    x: Sob,
+    y: Sob,
+) -> Result<Sob, Full>
+    requires whole { IsWhole B.Meaning objs.old }
+    requires test { B.live objs.old.store test }
+    requires live { AreLive objs.old whole }
+    requires first { IsMergeOf B.Meaning test objs.old first x }
+    requires second { IsMergeOf B.Meaning test objs.old second y }
+    ensures keeps { Keeps B.Meaning objs.old objs.new }
+    ensures merge { IfOk result (λ r. IsMergeOf B.Meaning test objs.new whole r) }
+    ensures full { OnErr result (IsFull B.Meaning objs.new) }
+{
+    if is_cons_of(objs, whole.first, first.first, second.first)
+        && is_cons_of(objs, whole.second, first.second, second.second)
+    {
+        return objs.pair(x, y);
+    }
+    let e = side(objs, whole.first, first.first, second.first);
+    let f = side(objs, whole.second, first.second, second.second);
+    match (e, f) {
+        (Some(e), Some(f)) => {
+            let chosen = choose_edge(objs, test, e, f)?;
+            choice(objs, chosen, x, y)
+        }
+        _ => leaf(objs, test, whole),
     }
 }
 
@@ -179,12 +218,12 @@ fn give<B: Bits>(
 ) -> Result<Focus<Both, Sob>, SobFault>
     requires whole { IsWhole B.Meaning objs.old }
     requires test { B.live objs.old.store test }
-    requires pairs { ArePairsOf B.Meaning objs.old frame.first frame.second frame.whole }
+    requires halves { AreHalvesOf objs.old frame.first frame.second frame.whole }
     requires next { IsNext (IsMergeOf B.Meaning test objs.old) frame.first frame.second frame.found key }
     requires value { IsMergeOf B.Meaning test objs.old key value }
     requires memo { AreRight both_of (IsMergeOf B.Meaning test objs.old) memo.old }
     ensures keeps { Keeps B.Meaning objs.old objs.new }
-    ensures turn { IfOk result (λ f. Turns (IsMergeOf B.Meaning test objs.old) (IsMergeOf B.Meaning test objs.new) (ArePairsOf B.Meaning objs.old) (ArePairsOf B.Meaning objs.new) (AreLive objs.new) size_of_both (frame ∷ frames.old) frames.new (focus.Give key value) f) }
+    ensures turn { IfOk result (λ f. Turns (IsMergeOf B.Meaning test objs.old) (IsMergeOf B.Meaning test objs.new) (AreHalvesOf objs.old) (AreHalvesOf objs.new) (AreLive objs.new) size_of_both (frame ∷ frames.old) frames.new (focus.Give key value) f) }
     ensures memo { IfOk result (λ f. AreRight both_of (IsMergeOf B.Meaning test objs.new) memo.new) }
     ensures full { IsErrOf result fault.Full → IsFull B.Meaning objs.new }
 {
@@ -199,7 +238,15 @@ fn give<B: Bits>(
             Ok(Focus::Visit(frame.second))
         }
         Some(first) => {
-            let made = objs.pair(first, value)?;
+            let made = joined(
+                objs,
+                test,
+                frame.whole,
+                frame.first,
+                frame.second,
+                first,
+                value,
+            )?;
             memo.keep(key_of(frame.whole), made)?;
             Ok(Focus::Give(frame.whole, made))
         }

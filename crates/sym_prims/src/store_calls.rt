@@ -1,6 +1,6 @@
 //! Calls of the lent bit store.
 
-ghost use Rattle.std.specs.Prelude.{◌≡◌, ◌&&◌, ℕ, Bool, true, false, not, length, pos, Ok, None, OnOk, IfOk, IfErr, IfSome, IsTrue};
+ghost use Rattle.std.specs.Prelude.{◌≡◌, ◌↔◌, ◌&&◌, ℕ, Bool, true, false, not, length, pos, Ok, None, OnOk, IfOk, IfErr, IfSome, IsTrue};
 ghost use Rattle.bfr_store.specs.Edges.{xor};
 ghost use Rattle.bfr_store.specs.declared.edge.Edge.{Edge};
 ghost use Rattle.gl_logic.specs.Assignments.{value_at};
@@ -50,9 +50,10 @@ pub fn bit_edge<B: Bits>(objs: &mut Sobs<B>, bits: &Bitvec, k: u32) -> Edge
 /// Whether the edge is that of the constant `b`.
 pub fn is_always<B: Bits>(objs: &mut Sobs<B>, edge: Edge, b: bool) -> bool
     ensures same { objs.new ≡ objs.old }
+    ensures edge { IsTrue result ↔ edge ≡ B.constant_edge b }
     ensures always { IsTrue result → (a : ℕ → Bool) → B.truth_of objs.old.store edge a ≡ b }
 {
-    is_constant(objs.store(), edge, b)
+    edge == objs.store().constant(b)
 }
 
 /// The function that is true where both are.
@@ -143,6 +144,7 @@ pub fn is_unreached<B: Bits>(
     requires edge { B.live objs.old.store edge }
     ensures leaves { Leaves B.Meaning objs.old objs.new }
     ensures unreached { IfOk result (λ r. r ≡ true → (a : ℕ → Bool) → B.truth_of objs.old.store edge a ≡ false) }
+    ensures reached { IfOk result (λ r. r ≡ false → (a : ℕ → Bool) × (B.truth_of objs.old.store edge a ≡ true)) }
     ensures cause { IfErr result (λ f. (e : Edge) → HasCause B.Meaning objs.new e (λ a. ⊥) f) }
 {
     match reaches(alloc, objs, edge)? {
