@@ -84,6 +84,7 @@ impl Analysis {
         }
     }
 
+    /// Whether the conflict comes from this variable, as far as that is known.
     #[inline]
     fn is_seen(&self, variable: u32) -> bool {
         match self.seen.get(variable as usize) {
@@ -116,6 +117,7 @@ impl Analysis {
         }
     }
 
+    /// Forgets the conflict before, in the room of its lists.
     fn clear(&mut self) {
         self.unmark(0);
         self.places.clear();

@@ -7,10 +7,11 @@
 //! - no assignment makes the edge true: only where the empty clause is in the book, which has checked each clause that was
 //!   learned by unit propagation along its hints (RUP with LRAT's hints);
 //! - an assignment makes it true: only where the graph says so of the assignment that is handed out;
-//! - given up: exactly where as many clauses were learned as the store allows, without an answer.
+//! - given up: exactly where as many clauses that count were learned as the store allows, without an answer.
 //!
-//! What the store allows is for all its decisions together: each begins with what those before it have left. All that a book
-//! learns counts, the clauses of conflicts, resolvents, and unit clauses; a clause that is learned anew counts once more.
+//! What the store allows is for all its decisions together: each begins with what those before it have left. A clause counts
+//! unless it is slight: of one literal, or shown by at most two others, as resolvents are. A million slight ones are free in
+//! each book; a clause that is learned anew counts once more.
 //!
 //! The book is there for the next call that takes it, after whatever answer.
 //!

@@ -21,6 +21,7 @@ const FIRST_CONFLICTS: u32 = 8_000;
 /// Where an activity or the step has come to this, all are halved, as often as `HALVINGS` says.
 const MOST: u64 = 1 << 62;
 
+/// How often all activities are halved at once.
 const HALVINGS: u32 = 40;
 
 /// The variables that may be open, the most active one first. An activity is a whole number, and later bumps weigh more.
@@ -55,6 +56,7 @@ impl Order {
         })
     }
 
+    /// How active a variable is.
     #[inline]
     fn activity(&self, variable: u32) -> u64 {
         match self.activities.get(variable as usize) {
@@ -63,6 +65,7 @@ impl Order {
         }
     }
 
+    /// Puts a variable at a place of the heap, and notes where it stands.
     #[inline]
     fn put(&mut self, place: usize, variable: u32) {
         if place < self.heap.len() {

@@ -189,6 +189,7 @@ impl Search {
             && !self.elimination.is_gone(variable)
     }
 
+    /// The truth that a variable had last: a decision gives it again.
     fn phase(&self, variable: u32) -> bool {
         match self.phases.get(variable as usize) {
             Some(phase) => *phase,

@@ -1,9 +1,8 @@
-//! The store: a graph, the book of the last decision, and how many clauses all decisions have learned.
+//! The store: a graph, the book of the last decision, and how many clauses that count all decisions have learned.
 
 ghost use Rattle.std.specs.Prelude.{◌≡◌, ◌≢◌, ◌≤◌, ◌<◌, ◌+◌, ◌&&◌, ◌↔◌, ◌∷◌, [], ℕ, Bool, true, false, not, cond, length, Option, Some, None, IsTrue, IfOk, OnErr};
 ghost use Rattle.bfr_store.specs.Keeps.{Makes, MakesVariable};
 ghost use Rattle.gl_logic.specs.Assignments.{value_at};
-ghost use Rattle.sat_core.specs.Decisions.{learned_in};
 
 use super::decide::decide_edge;
 use aig_store::Aig;
@@ -18,9 +17,9 @@ use std::marker::Model;
 pub struct AigSat {
     alloc: Global,
     aig: Aig,
-    /// How many clauses all decisions together may learn.
+    /// How many clauses that count all decisions together may learn.
     clauses: u32,
-    /// How many clauses the decisions that answered have learned.
+    /// How many of these the decisions that answered have learned.
     learned: u32,
     /// The book of the last decision, until it is taken.
     book: Option<ClauseBook>,
@@ -48,7 +47,8 @@ impl AigSat {
     ghost use Rattle.aig_store.specs.Nodes.{IsLive};
     ghost use Rattle.sat_core.specs.Decisions.{IsSpentWell};
 
-    /// A store with no variable, with room for this many nodes, whose decisions together learn at most this many clauses.
+    /// A store with no variable, with room for this many nodes, whose decisions together learn at most this many clauses that
+    /// count.
     pub fn new(alloc: Global, limit: u32, clauses: u32) -> Result<AigSat, NoMemory>
         requires limit { limit ≤ 1000000000 }
         requires clauses { clauses ≤ 1000000000 }
@@ -73,7 +73,7 @@ impl AigSat {
         self.aig.is_live(e)
     }
 
-    /// Whether the last decision was given up. Then the decisions have learned all clauses that they may, and the last one not
+    /// Whether the last decision was given up. Then the decisions have learned all clauses that may count, and the last one not
     /// the empty one.
     pub fn is_spent(&self) -> bool
         ensures spent { result ≡ self.now.spent }
@@ -97,13 +97,6 @@ impl AigSat {
         self.spent = false;
         self.book.take()
     }
-}
-
-/// How many clauses the book has learned.
-fn learned_in(book: &ClauseBook) -> u32
-    ensures { result ≡ learned_in book.now }
-{
-    book.count() - book.first_count()
 }
 
 /// Keeps the assignment that was found, for the next decision. Where memory is refused less of it is kept.
@@ -184,7 +177,8 @@ impl Bits for AigSat {
     }
 
     // As the trait says. The graph stays. Where it answers, the book is that of this decision, and says what the answer stands
-    // on; what it learned is counted. Where memory is refused there is no book, and the count is as before.
+    // on; what it learned is counted, but for slight clauses. Where memory is refused there is no book, and the count is as
+    // before.
     fn decide(&mut self, e: Edge, out: &mut Assignment) -> Result<Decision, NoMemory>
         requires live { IsLive self.old.graph e }
         requires width { length out.old ≡ self.old.graph.width }
@@ -203,16 +197,17 @@ impl Bits for AigSat {
         self.spent = false;
         self.propagations = 0;
         self.book = None;
+        let mut left = self.clauses - self.learned;
         let (decision, book) = decide_edge(
             self.alloc,
             &mut self.aig,
             e,
-            self.clauses - self.learned,
+            &mut left,
             &self.last,
             &mut self.propagations,
             out,
         )?;
-        self.learned += learned_in(&book);
+        self.learned = self.clauses - left;
         self.book = Some(book);
         match decision {
             Decision::Never => {}

@@ -23,6 +23,7 @@ pub struct Fact {
     pub reason: Option<u32>,
 }
 
+/// What is kept of a variable that the trail does not have.
 const UNKNOWN: Fact = Fact {
     level: 0,
     place: 0,
@@ -75,6 +76,7 @@ impl Trail {
         }
     }
 
+    /// Sets the truth of a literal, and not that of its complement.
     #[inline]
     fn set_truth(&mut self, literal: Literal, truth: Truth) {
         let place = literal.place();
