@@ -16,3 +16,4 @@ pub mod Courses
 pub mod Lasts
 pub mod LastFound
 pub mod LastSteps
+pub mod Undecided

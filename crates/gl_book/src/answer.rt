@@ -85,6 +85,7 @@ pub fn answer_of<R: Threads + Sync>(
     }
 }
 
+/// The value of a closed term as an answer, or the cause for which there is none.
 pub(crate) fn value_answer(
     alloc: Global,
     world: &World,
@@ -102,6 +103,7 @@ pub(crate) fn value_answer(
     }
 }
 
+/// Whether a closed term is other than NIL as an answer, or the cause for which that is open.
 fn truth_answer(
     alloc: Global,
     world: &World,

@@ -84,6 +84,7 @@ fn failed(answer: &Answer) -> bool
     }
 }
 
+/// A count, with one more where that is due.
 fn more(count: u64, one: bool) -> u64
     requires { count < 2 ^ 64 - 1 }
     ensures { result ≡ one_more one count }

@@ -1,4 +1,4 @@
-//! The end of a phase.
+//! The end of a phase: the jobs that wait are answered, and their lines are written in the order of the book.
 
 ghost use Rattle.std.specs.Prelude.{◌≡◌, All, IfOk, OnOk, OnErr, length};
 ghost use Rattle.gl_decide.specs.Bounds.{bounds_of};

@@ -126,6 +126,7 @@ fn cause_of(fault: EvalFault) -> Cause
     }
 }
 
+/// Whether an id names NIL.
 fn is_nil(arena: &HonsArena, id: Id) -> bool
     requires { IsLive arena.now.objects id }
     ensures { result ≡ is_nil_object (object_at arena.now.objects id) }

@@ -10,13 +10,14 @@
 //!   run begins with;
 //! - the observer that writes a `transcript` and keeps its stalls, by `settle`, what is left of an answer then;
 //! - the last theorem of a text, without deciding one: `last`, by `last_step` and `untried`, and the lines of a verdict on it,
-//!   `verdict_text`.
+//!   `verdict_text`; `cause_text`, what leaves an event undecided, in words.
 //!
 //! Tests: those of the crate `gl`.
 #![tactic(auto)]
 
 mod answer;
 mod cases;
+mod cause_text;
 mod counts;
 mod decided;
 mod ending;
@@ -54,6 +55,7 @@ mod walk;
 
 pub use answer::{Answer, Cause, answer_of};
 pub use cases::CasesVerdict;
+pub use cause_text::undecided_words;
 pub use generator::generate;
 pub use last::{Last, last_theorem};
 pub use line_list::Lines;
@@ -61,9 +63,9 @@ pub use observer::{Answered, Observer};
 pub use one_run::Run;
 pub use origin::{LineOf, Origin, Spot};
 pub use put_lines::put_told;
-pub use refusal::{Refusal, RefusalCode};
+pub use refusal::{Refusal, RefusalCode, cause_word, code_words};
 pub use run::{every_text_has_a_transcript, run_book, run_library, run_text, run_text_gated};
-pub use settle::keep_stall;
+pub use settle::{keep_stall, settle_answer};
 pub use transcript::Transcript;
 pub use verdict_text::{lines_of_verdict, verdict_lines};
 pub use walk::every_walk_goes_on;

@@ -1,4 +1,4 @@
-//! Lines of a transcript.
+//! A list of lines, each with what it is of.
 
 ghost use Rattle.std.specs.Prelude.{◌≡◌, ◌<◌, [], ◌∷◌, ◌++◌, length, slice_get, Some, OnOk, OnErr};
 

@@ -1,4 +1,4 @@
-//! The lines of a transcript.
+//! The lines of a transcript: of each event with its answer.
 
 ghost use Rattle.std.specs.Prelude.{◌≡◌, [], ◌∷◌, ◌++◌, length, codes, map, IfOk, OnOk};
 ghost use Rattle.std.specs.Fmt.{decimal};
@@ -49,6 +49,7 @@ pub fn add_event_lines(
     }
 }
 
+/// Adds the line of a redundant event of a name.
 fn add_redundant(
     alloc: Global,
     name: TextId,
@@ -75,6 +76,7 @@ fn add_redundant_clique(
     Ok(())
 }
 
+/// Adds the line of a definition, with its measure where it has one.
 fn add_defun(alloc: Global, def: &Def, texts: &Texts, lines: &mut Lines) -> Result<(), NoMemory>
     ensures { OnOk result (lines.new ≡ lines.old ++ defun_line texts.now (definition_of def.now) ∷ []) }
 {
@@ -113,6 +115,7 @@ fn add_constant(
     }
 }
 
+/// Adds the line of a value.
 fn add_value(
     alloc: Global,
     answer: &Answer,
@@ -134,6 +137,7 @@ fn add_value(
     }
 }
 
+/// Adds the line of an assert.
 fn add_assert(alloc: Global, answer: &Answer, lines: &mut Lines) -> Result<(), NoMemory>
     ensures { OnOk result (lines.new ≡ lines.old ++ assert_lines answer.now) }
 {
@@ -177,6 +181,7 @@ fn add_function(
     }
 }
 
+/// Adds the line of a mode.
 fn add_mode(alloc: Global, mode: Mode, lines: &mut Lines) -> Result<(), NoMemory>
     ensures { OnOk result (lines.new ≡ lines.old ++ mode_line mode ∷ []) }
 {
@@ -187,6 +192,7 @@ fn add_mode(alloc: Global, mode: Mode, lines: &mut Lines) -> Result<(), NoMemory
     }
 }
 
+/// Adds the lines of a theorem by its verdict.
 fn add_theorem(
     alloc: Global,
     name: TextId,
@@ -209,6 +215,7 @@ fn add_plain(alloc: Global, line: &[u8], lines: &mut Lines) -> Result<(), NoMemo
     lines.push(line.to_vec(alloc)?)
 }
 
+/// Adds the lines of a verdict on the theorem of a name: its own, and those of the input that it tells.
 pub(crate) fn add_verdict(
     alloc: Global,
     name: TextId,
@@ -242,6 +249,7 @@ fn add_by_cases(
     }
 }
 
+/// Adds the lines of what a theorem by cases comes to.
 fn add_cases(
     alloc: Global,
     name: TextId,
@@ -314,7 +322,11 @@ fn add_open(
 }
 
 /// Adds the words for what leaves a theorem undecided.
-fn add_cause(verdict: &Verdict, texts: &Texts, words: &mut Vec<u8>) -> Result<(), NoMemory>
+pub(crate) fn add_cause(
+    verdict: &Verdict,
+    texts: &Texts,
+    words: &mut Vec<u8>,
+) -> Result<(), NoMemory>
     ensures { OnOk result (words.new.items ≡ words.old.items ++ open_words texts.now verdict.now) }
 {
     match verdict {
@@ -333,7 +345,7 @@ fn add_cause(verdict: &Verdict, texts: &Texts, words: &mut Vec<u8>) -> Result<()
     }
 }
 
-fn add_word(word: &[u8], words: &mut Vec<u8>) -> Result<(), NoMemory>
+pub(crate) fn add_word(word: &[u8], words: &mut Vec<u8>) -> Result<(), NoMemory>
     ensures { OnOk result (words.new.items ≡ words.old.items ++ word.now) }
 {
     words.extend_from_slice(word)?;
@@ -393,6 +405,7 @@ fn add_input(
     Ok(())
 }
 
+/// Adds the line of a variable of an input, with its object.
 fn add_variable(
     alloc: Global,
     variable: TextId,

@@ -22,6 +22,7 @@ pub fn stated_measure(
     Ok(words)
 }
 
+/// Adds a measure as a book writes it.
 fn add_measure(measure: Measure, texts: &Texts, words: &mut Vec<u8>) -> Result<(), NoMemory>
     ensures { OnOk result (words.new.items ≡ words.old.items ++ measure_words texts.now measure) }
 {
@@ -51,6 +52,7 @@ fn add_pair(
     Ok(())
 }
 
+/// Adds a natural measure as a book writes it.
 fn add_natural(natural: Natural, texts: &Texts, words: &mut Vec<u8>) -> Result<(), NoMemory>
     ensures { OnOk result (words.new.items ≡ words.old.items ++ natural_words texts.now natural) }
 {

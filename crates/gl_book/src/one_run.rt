@@ -1,4 +1,4 @@
-//! What a run goes by.
+//! What a run goes by from its first form to its last line: workers, memory, limits.
 
 use gl_base::limits::Limits;
 use std::alloc::Global;

@@ -1,4 +1,4 @@
-//! What a run begins with.
+//! What a run begins with: the table of texts, the first state, and the forms.
 
 ghost use Rattle.std.specs.Prelude.{◌≤◌, length, IfOk};
 ghost use Rattle.book_shelf.specs.Flat.{most_bytes};

@@ -35,6 +35,7 @@ pub struct Refusal {
     pub code: RefusalCode,
 }
 
+/// The code of a fault of a text.
 fn read_word(fault: ReadCode) -> &'static str
     ensures { result.now ≡ word_of fault }
 {
@@ -51,6 +52,7 @@ fn read_word(fault: ReadCode) -> &'static str
     }
 }
 
+/// The code of a fault of a term.
 fn term_word(fault: TermFault) -> &'static str
     ensures { result.now ≡ word_of_term fault }
 {
@@ -96,7 +98,7 @@ fn event_words(alloc: Global, fault: EventFault) -> Result<String, NoMemory>
 }
 
 /// What a transcript has for a code.
-fn words(alloc: Global, code: RefusalCode) -> Result<String, NoMemory>
+pub fn code_words(alloc: Global, code: RefusalCode) -> Result<String, NoMemory>
     ensures { IfOk result (λ s. string_bytes s ≡ code_word code) }
 {
     match code {
@@ -118,7 +120,7 @@ pub fn line_of_refusal(alloc: Global, refusal: Refusal) -> Result<Vec<u8>, NoMem
 {
     let line = refusal.line;
     let column = refusal.column;
-    let code = words(alloc, refusal.code)?;
+    let code = code_words(alloc, refusal.code)?;
     let text = format!(in alloc; "REFUSED {line} {column} {code}\n")?;
     Ok(text.as_bytes().to_vec(alloc)?)
 }

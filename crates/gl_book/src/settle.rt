@@ -1,4 +1,4 @@
-//! Answers whose lines are written.
+//! What is left of an answer whose lines are written: its stall, which is kept, and its value.
 
 ghost use Rattle.std.specs.Prelude.{◌≡◌, ◌++◌, IfOk, OnOk, OnErr};
 ghost use Rattle.gl_book.specs.Entry.{cases_stalls, stalls_of, verdict_stalls};
@@ -11,7 +11,7 @@ use gl_logic::{NoMemory, Tree};
 
 /// Takes an answer apart: its stall, where it has one, is put last among the others, and its value is handed on, NIL
 /// where it has none.
-pub fn settle(answer: Answer, stalls: &mut Stalls) -> Result<Tree, NoMemory>
+pub fn settle_answer(answer: Answer, stalls: &mut Stalls) -> Result<Tree, NoMemory>
     ensures value { IfOk result (λ x. x ≡ value_in answer) }
     ensures kept { OnOk result (stalls.new ≡ stalls.old ++ stalls_of answer) }
     ensures err { OnErr result (stalls.new ≡ stalls.old) }

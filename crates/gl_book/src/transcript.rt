@@ -4,7 +4,7 @@ use super::answer::Answer;
 use super::observer::{Answered, Observer};
 use super::origin::LineOf;
 use super::refusal::Refusal;
-use super::settle::settle;
+use super::settle::settle_answer;
 use book_state::State;
 use gl_base::failed::Failed;
 use gl_base::sink::{Sink, put_all};
@@ -31,7 +31,7 @@ impl<K: Sink> Observer for Transcript<K> {
         _texts: &Texts,
         answer: Answer,
     ) -> Result<Tree, NoMemory> {
-        settle(answer, &mut self.stalls)
+        settle_answer(answer, &mut self.stalls)
     }
 
     fn refused(&mut self, _refusal: &Refusal, _state: &State) {}

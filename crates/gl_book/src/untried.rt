@@ -1,4 +1,4 @@
-//! Answers to events that are taken in alone.
+//! Answers to events that are taken in and not tried, as on the way to a book's last theorem.
 
 ghost use Rattle.std.specs.Prelude.{◌≡◌};
 ghost use Rattle.event_world.specs.Seen.{event_seen};
