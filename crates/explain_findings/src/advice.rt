@@ -84,6 +84,7 @@ const ADVICE: [Advice; 13] = [
     },
 ];
 
+/// What is said of the verdict or cause of this word.
 fn advice_named(word: &str) -> Option<Advice> {
     for advice in &ADVICE {
         if advice.word == word {

@@ -53,6 +53,7 @@ fn lines_of(alloc: Global, texts: &Texts, inputs: &Inputs) -> Result<Vec<Vec<u8>
     Ok(lines)
 }
 
+/// A decision that tells no input.
 fn decided(alloc: Global, outcome: Outcome) -> Decision {
     Decision {
         outcome,
@@ -60,6 +61,7 @@ fn decided(alloc: Global, outcome: Outcome) -> Decision {
     }
 }
 
+/// A refutation, with the lines of its input.
 fn refuted(alloc: Global, texts: &Texts, inputs: &Inputs) -> Result<Decision, NoMemory> {
     Ok(Decision {
         outcome: Outcome::Refuted,
@@ -82,6 +84,7 @@ fn cause_of(verdict: &Verdict) -> &'static str {
     }
 }
 
+/// The decision that a verdict is.
 fn decision_of_verdict(
     alloc: Global,
     texts: &Texts,
@@ -95,6 +98,7 @@ fn decision_of_verdict(
     }
 }
 
+/// The decision that the answer to a theorem by cases is.
 fn decision_of_cases(
     alloc: Global,
     texts: &Texts,
@@ -111,6 +115,7 @@ fn decision_of_cases(
     }
 }
 
+/// What an assert comes to: it holds, or it is refuted.
 fn truth(holds: bool) -> Outcome {
     if holds {
         Outcome::Proved
@@ -119,6 +124,7 @@ fn truth(holds: bool) -> Outcome {
     }
 }
 
+/// The decision that an answer to an event is.
 fn decision_of_answer(alloc: Global, texts: &Texts, answer: &Answer) -> Result<Decision, NoMemory> {
     match answer {
         Answer::Decided(verdict) => decision_of_verdict(alloc, texts, verdict),

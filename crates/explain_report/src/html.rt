@@ -12,6 +12,7 @@ use gl_base::sink::{Sink, put_all};
 use gl_logic::NoMemory;
 use std::alloc::Global;
 
+/// How the page looks.
 const STYLE: &str =
     "body{font:16px/1.5 system-ui,sans-serif;margin:0 auto;max-width:60rem;padding:1rem;color:#111;background:#fff}\
 h1{font-size:1.4rem;overflow-wrap:anywhere}h2{font-size:1.15rem;margin-top:2rem;border-bottom:2px solid #111}\
@@ -32,10 +33,12 @@ fn style_of(text: &[u8]) -> Style {
     Style::Html(str::from_utf8(text).is_ok())
 }
 
+/// Puts a text as HTML shows it.
 pub(crate) fn put_text(report: &mut Report, text: &[u8]) {
     report.shown(style_of(text), text);
 }
 
+/// Puts the head of the page, and its title as a heading.
 fn put_head(report: &mut Report, title: &[u8]) {
     report.say("<!doctype html>\n<html lang=\"en\">\n<head>\n<meta charset=\"utf-8\">\n");
     report.say("<meta name=\"viewport\" content=\"width=device-width, initial-scale=1\">\n");
@@ -77,6 +80,7 @@ fn put_count(report: &mut Report, verdict: Verdict, count: u64) {
     report.say("</a></li>\n");
 }
 
+/// Puts how many events there are of each verdict, each count a link to its events.
 fn put_counts(report: &mut Report, records: &[Record]) {
     report.say("<p>");
     report.number(event_count(records));
@@ -119,6 +123,7 @@ fn put_title(report: &mut Report, record: &Record) {
     }
 }
 
+/// Puts the place of a line in its file, where it has one.
 fn put_place(report: &mut Report, record: &Record) {
     if record.line == 0 {
         return;
@@ -132,6 +137,7 @@ fn put_place(report: &mut Report, record: &Record) {
     report.say("</span>");
 }
 
+/// Puts the slowest events, each a link to its line.
 fn put_slowest(alloc: Global, report: &mut Report, records: &[Record]) {
     let Ok(numbers) = slowest(alloc, records) else {
         return report.refuse();
@@ -159,6 +165,7 @@ fn share_of(micros: u64, most: u64) -> u64 {
     }
 }
 
+/// The microseconds of the slowest event, for which a bar has its full length.
 fn most_micros(records: &[Record]) -> u64 {
     let mut most: u64 = 0;
     for record in records {
@@ -196,6 +203,7 @@ fn back_of_event(alloc: Global, record: &Record, most: u64) -> Result<Vec<u8>, N
     report.into_bytes()
 }
 
+/// Puts a line of the transcript into the list of its verdict, with its place and its seconds.
 fn put_event<K: Sink>(
     alloc: Global,
     out: &mut K,
@@ -216,6 +224,7 @@ fn class_of(verdict: Verdict) -> &'static str {
     if verdict.is_trouble() { "bad" } else { "good" }
 }
 
+/// The heading of the events of one verdict.
 fn head_of_group(alloc: Global, verdict: Verdict, count: u64) -> Result<Vec<u8>, NoMemory> {
     let mut report = Report::new(alloc);
     report.say("<h2 id=\"of-");
@@ -254,6 +263,7 @@ fn put_group<K: Sink>(
     Ok(())
 }
 
+/// Puts a line of an input: the variable, and its object in three bases.
 fn put_input(report: &mut Report, line: &[u8]) {
     let (name, object) = parts_of_input(line);
     report.say("<tr><td>");
@@ -263,6 +273,7 @@ fn put_input(report: &mut Report, line: &[u8]) {
     report.say("</tr>\n");
 }
 
+/// Puts the table of an input.
 fn put_inputs(report: &mut Report, inputs: &[Vec<u8>]) {
     if inputs.is_empty() {
         return;
@@ -314,6 +325,7 @@ fn back_of_look(alloc: Global, record: &Record) -> Result<Vec<u8>, NoMemory> {
     report.into_bytes()
 }
 
+/// Puts an event that asks for a look, with its input, its form and what is said of it.
 fn put_look<K: Sink>(
     alloc: Global,
     out: &mut K,
@@ -345,6 +357,7 @@ fn put_looks<K: Sink>(alloc: Global, out: &mut K, records: &[Record]) -> Result<
     Ok(())
 }
 
+/// What stands in front of the first event: the head, the counts, the slowest.
 fn head_of_page(alloc: Global, title: &[u8], records: &[Record]) -> Result<Vec<u8>, NoMemory> {
     let mut report = Report::new(alloc);
     put_head(&mut report, title);

@@ -14,12 +14,14 @@ fn style_of(text: &[u8]) -> Style {
     Style::Json(str::from_utf8(text).is_ok())
 }
 
+/// Puts a text as a string of JSON.
 fn put_text(report: &mut Report, text: &[u8]) {
     report.say("\"");
     report.shown(style_of(text), text);
     report.say("\"");
 }
 
+/// Puts the name of a further member.
 fn put_name(report: &mut Report, name: &str) {
     report.say(",\"");
     report.say(name);
@@ -59,6 +61,7 @@ pub fn parts_of_input(line: &[u8]) -> (&[u8], &[u8]) {
     (text, &[])
 }
 
+/// Puts a line of an input as an object.
 fn put_input(report: &mut Report, line: &[u8]) {
     let (name, object) = parts_of_input(line);
     report.say("{\"variable\":");
@@ -68,6 +71,7 @@ fn put_input(report: &mut Report, line: &[u8]) {
     report.say("}");
 }
 
+/// Puts the lines of an input as a list.
 fn put_inputs(report: &mut Report, inputs: &[Vec<u8>]) {
     put_name(report, "inputs");
     report.say("[");

@@ -48,6 +48,7 @@ impl From<NoMemory> for PutEnd {
     }
 }
 
+/// Appends bytes as they are.
 fn append(bytes: &[u8], out: &mut Vec<u8>) -> Result<(), NoMemory>
     ensures { OnOk result (out.new.items ≡ out.old.items ++ bytes.now) }
 {
@@ -74,12 +75,14 @@ fn stands_by_number(is_text: bool, byte: u8) -> bool
     byte < 32 || (byte == 127 || (!is_text && 127 < byte))
 }
 
+/// Whether a string of JSON has another form of the byte.
 fn is_odd_in_json(is_text: bool, byte: u8) -> bool
     ensures { result ≡ is_json is_text byte }
 {
     byte == 92 || (byte == 34 || stands_by_number(is_text, byte))
 }
 
+/// Whether HTML has another form of the byte.
 fn is_odd_in_html(is_text: bool, byte: u8) -> bool
     ensures { result ≡ is_html is_text byte }
 {
@@ -88,6 +91,7 @@ fn is_odd_in_html(is_text: bool, byte: u8) -> bool
             || (byte == 62 || (byte == 34 || (byte == 39 || stands_by_number(is_text, byte)))))
 }
 
+/// Appends the form of a byte by its number in a string of JSON. A byte above 127 is one of a text that is not UTF-8.
 fn append_in_json(byte: u8, out: &mut Vec<u8>) -> Result<(), NoMemory>
     ensures { OnOk result (out.new.items ≡ out.old.items ++ in_json byte) }
 {
@@ -100,6 +104,7 @@ fn append_in_json(byte: u8, out: &mut Vec<u8>) -> Result<(), NoMemory>
     }
 }
 
+/// Appends the form of a byte by its number in HTML.
 fn append_in_html(byte: u8, out: &mut Vec<u8>) -> Result<(), NoMemory>
     ensures { OnOk result (out.new.items ≡ out.old.items ++ in_html byte) }
 {
@@ -108,6 +113,7 @@ fn append_in_html(byte: u8, out: &mut Vec<u8>) -> Result<(), NoMemory>
     append(&[b'&', b'#', b'x', high, low, b';'], out)
 }
 
+/// Appends a byte as a format shows it.
 fn append_byte(style: Style, byte: u8, out: &mut Vec<u8>) -> Result<(), NoMemory>
     ensures { OnOk result (out.new.items ≡ out.old.items ++ shown_byte style byte) }
 {

@@ -266,6 +266,7 @@ fn options_of(alloc: Global, event: &[u8]) -> Result<Vec<Span>, NoMemory> {
     options_among(alloc, &parts, begins_theorem(head_of(event, &parts)))
 }
 
+/// Whether a form with this head is a theorem.
 fn begins_theorem(head: &[u8]) -> bool {
     is_word(head, b"def-gl-thm") || is_word(head, b"def-gl-param-thm")
 }

@@ -24,6 +24,7 @@ pub(crate) struct Wording {
     pub help: &'static str,
 }
 
+/// What is said of a code: its title, and what helps.
 fn said(code: &'static str, title: &'static str, help: &'static str) -> Wording {
     Wording { code, title, help }
 }
@@ -52,6 +53,7 @@ pub(crate) fn words_of(fault: Fault) -> Wording {
     }
 }
 
+/// What is said of a fault of a text.
 fn words_of_text(code: ReadCode) -> Wording {
     match code {
         ReadCode::EndInside => said(
@@ -102,6 +104,7 @@ fn words_of_text(code: ReadCode) -> Wording {
     }
 }
 
+/// What is said of a fault of a term.
 fn words_of_term(fault: TermFault) -> Wording {
     match fault {
         TermFault::UnknownFunction => said(
@@ -133,6 +136,7 @@ fn words_of_term(fault: TermFault) -> Wording {
     }
 }
 
+/// What is said of a form that means no event.
 fn words_of_event(fault: EventFault) -> Wording {
     match fault {
         EventFault::UnknownEvent => said(
@@ -175,6 +179,7 @@ fn words_of_event(fault: EventFault) -> Wording {
     }
 }
 
+/// What is said of a constant without a value.
 fn words_of_constant(cause: Cause) -> Wording {
     match cause {
         Cause::Width => said(

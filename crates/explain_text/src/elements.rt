@@ -22,6 +22,7 @@ fn forms_of(alloc: Global, text: &[u8]) -> Result<Option<Forms>, NoMemory> {
     Ok(Some(forms(alloc, text, &mut texts)?))
 }
 
+/// Where each form of a text begins.
 fn places_of(alloc: Global, list: &FormList) -> Result<Vec<Place>, NoMemory> {
     let mut places = Vec::new(alloc);
     for i in 0..list.len() {
@@ -34,6 +35,7 @@ fn places_of(alloc: Global, list: &FormList) -> Result<Vec<Place>, NoMemory> {
     Ok(places)
 }
 
+/// Whether the element of this number begins at the place.
 fn is_at(places: &[Place], number: usize, place: Place) -> bool {
     match places.get(number) {
         Some(other) => *other == place,
@@ -41,6 +43,7 @@ fn is_at(places: &[Place], number: usize, place: Place) -> bool {
     }
 }
 
+/// The place behind a byte.
 fn behind(place: Place, byte: u8) -> Place {
     if byte == b'\n' {
         Place {

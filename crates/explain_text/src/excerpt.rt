@@ -16,6 +16,7 @@ struct Window {
     marked: Span,
 }
 
+/// What is shown of the line in which a part begins: a long line is cut, with some bytes in front of the part.
 fn window_of(text: &[u8], span: Span) -> Window {
     let start = line_start(text, span.start);
     let end = line_end(text, span.start);
@@ -48,6 +49,7 @@ fn shown_byte(byte: u8) -> u8 {
     }
 }
 
+/// Puts bytes, each in one column.
 fn put_shown(report: &mut Report, bytes: &[u8]) {
     for byte in bytes {
         report.times(1, shown_byte(*byte));

@@ -188,6 +188,7 @@ fn add_words(text: &[u8], span: Span, words: &mut Vec<Span>) -> Result<(), NoMem
     Ok(())
 }
 
+/// Whether a word is among some words of a text.
 fn contains(text: &[u8], words: &[Span], word: &[u8]) -> bool {
     for other in words {
         if is_word(cut(text, *other), word) {

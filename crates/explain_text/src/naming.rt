@@ -58,6 +58,7 @@ impl<S: Shelf + Drop> NamingShelf<S> {
         false
     }
 
+    /// Remembers that a text was asked for. Where memory is refused it is forgotten, and nothing of it is shown.
     fn keep_name(&mut self, name: &str)
         requires { S.may_open name.now }
         ensures { self.new ≡ self.old }

@@ -42,6 +42,7 @@ struct Marked {
     is_named: bool,
 }
 
+/// Puts what helps, on a line of its own.
 fn put_help(report: &mut Report, help: &str) {
     if help.is_empty() {
         return;
@@ -279,6 +280,7 @@ fn put_instead(report: &mut Report, what: &str, instead: &str) {
     report.say("\n");
 }
 
+/// Puts what stands here for an event of ACL2.
 fn put_event_help(report: &mut Report, word: &[u8]) {
     if let Some(instead) = instead_of_event(without_package(word)) {
         put_instead(report, "event", instead);

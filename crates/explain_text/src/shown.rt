@@ -203,6 +203,7 @@ struct Edges {
     back: Vec<u8>,
 }
 
+/// What stands in front of a line and behind it in the run's format.
 fn edges_of(alloc: Global, manner: Manner, record: &Record) -> Result<Edges, NoMemory> {
     Ok(Edges {
         front: front_of(alloc, manner, record)?,
@@ -325,6 +326,7 @@ impl<'a, R: Clock, K: Sink + Drop, E: Sink + Drop> Shown<'a, R, K, E> {
         )
     }
 
+    /// Shows a line of an input, which is kept for the event above it.
     fn show_input(&mut self, text: &[u8]) -> Result<(), PutEnd>
         ensures faults { self.new ≡ self.old }
     {
@@ -332,6 +334,7 @@ impl<'a, R: Clock, K: Sink + Drop, E: Sink + Drop> Shown<'a, R, K, E> {
         self.put(b"", text, b"\n")
     }
 
+    /// Shows any other line, with what stands around it, and keeps its record.
     fn show_line(&mut self, text: &[u8]) -> Result<(), PutEnd>
         ensures faults { self.new ≡ self.old }
     {
@@ -341,6 +344,7 @@ impl<'a, R: Clock, K: Sink + Drop, E: Sink + Drop> Shown<'a, R, K, E> {
         self.put(&edges.front, text, &edges.back)
     }
 
+    /// Shows a line of the transcript as it comes.
     fn show(&mut self, line: &[u8]) -> Result<(), PutEnd>
         ensures faults { self.new ≡ self.old }
     {

@@ -29,6 +29,7 @@ pub(crate) fn byte_at(text: &[u8], offset: usize) -> u8 {
     if offset < text.len() { text[offset] } else { 0 }
 }
 
+/// Whether a token ends in front of the byte.
 fn ends_token(byte: u8) -> bool {
     byte <= 32 || [b'(', b')', b'"', b'\'', b'`', b',', b';'].contains(&byte)
 }

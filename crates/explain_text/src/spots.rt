@@ -54,6 +54,7 @@ fn lines_of(texts: &Texts, form: &Tree) -> usize {
 }
 
 impl Spots {
+    /// The spots of a book that begins with the text of this name.
     fn new(alloc: Global, name: &[u8]) -> Result<Spots, NoMemory> {
         let name = name.to_vec(alloc)?;
         let mut spots = Spots {
@@ -66,12 +67,14 @@ impl Spots {
         Ok(spots)
     }
 
+    /// Goes into the text of a name.
     fn enter(&mut self, name: Vec<u8>) -> Result<(), NoMemory> {
         self.open.push(self.files.len())?;
         self.files.push(name)?;
         Ok(())
     }
 
+    /// Puts the spot of the next item, in the text that is open, with how many lines are its own.
     fn put(&mut self, line: u32, column: u32, lines: usize) -> Result<(), NoMemory> {
         let file = match self.open.last() {
             Some(number) => *number,
@@ -86,6 +89,7 @@ impl Spots {
         Ok(())
     }
 
+    /// Puts the next item's word and name.
     fn put_named(&mut self, alloc: Global, kind: &[u8], name: &[u8]) -> Result<(), NoMemory> {
         self.named.push(Named {
             kind: kind.to_vec(alloc)?,
@@ -94,6 +98,7 @@ impl Spots {
         Ok(())
     }
 
+    /// Puts the spot of a form.
     fn put_form(&mut self, alloc: Global, texts: &Texts, form: &Form) -> Result<(), NoMemory> {
         self.put(form.line, form.column, lines_of(texts, &form.tree))?;
         self.put_named(
@@ -103,6 +108,7 @@ impl Spots {
         )
     }
 
+    /// Puts the spot of a mark, and goes into the included text or out of it.
     fn put_mark(&mut self, alloc: Global, texts: &Texts, mark: Mark) -> Result<(), NoMemory> {
         self.put(0, 0, 1)?;
         self.put_named(alloc, b"INCLUDE-BOOK", b"")?;

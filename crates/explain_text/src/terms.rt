@@ -29,6 +29,7 @@ fn only(alloc: Global, spans: &[Span], number: usize) -> Result<Spans, NoMemory>
     Ok(found)
 }
 
+/// The last of some parts, where there are more than `first`.
 fn only_last(alloc: Global, spans: &[Span], first: usize) -> Result<Spans, NoMemory> {
     if spans.len() <= first {
         return Ok(Vec::new(alloc));

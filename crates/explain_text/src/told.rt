@@ -1,4 +1,4 @@
-//! What is told behind a run, in its format.
+//! What is told when a run has ended, in its format: what each event's message says, the objects of JSON, the page of HTML.
 
 use crate::manner::{Format, Outlet};
 use crate::spots::Spots;
@@ -39,6 +39,7 @@ fn put_messages<K: Sink>(
     Ok(())
 }
 
+/// Puts the records as lines of JSON.
 fn put_objects<K: Sink>(alloc: Global, out: &mut K, records: &[Record]) -> Result<(), PutEnd> {
     for record in records {
         put_object(alloc, out, record)?;

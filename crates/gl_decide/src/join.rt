@@ -1,10 +1,11 @@
-//! The answers of pieces, joined.
+//! The answers of a scan's pieces, joined to one in the order of the pieces.
 
 ghost use Rattle.std.specs.Prelude.{◌≡◌, ◌||◌, false};
 ghost use Rattle.gl_decide.specs.Pieces.{joined_with};
 
 use super::scanned::Scan;
 
+/// One of two facts, as a call that contracts see.
 fn either(a: bool, b: bool) -> bool
     ensures { result ≡ (a || b) }
 {

@@ -1,4 +1,4 @@
-//! A run of consecutive numbers.
+//! A piece of a scan: consecutive numbers of inputs, which one worker tries.
 
 ghost use Rattle.std.specs.Prelude.{◌<◌};
 

@@ -1,4 +1,4 @@
-//! Runs of consecutive numbers, tried one after the other.
+//! The pieces of a scan, one for each worker, and the inputs of a piece, tried one after the other.
 
 ghost use Rattle.std.specs.Prelude.{◌≡◌, ◌<◌, ◌≤◌, [], IfOk};
 ghost use Rattle.gl_logic.specs.TermOf.{term_of};

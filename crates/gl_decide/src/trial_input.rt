@@ -45,6 +45,7 @@ pub(crate) fn place_input(
     Ok(env)
 }
 
+/// Whether an id names NIL.
 fn is_nil(arena: &HonsArena, id: Id) -> bool
     requires { IsLive arena.now.objects id }
     ensures { result ≡ is_nil_object (object_at arena.now.objects id) }

@@ -8,6 +8,11 @@
 //! [`hypothesis`] and [`refutation`] are the two runs, each up to the edge that is decided, for a caller that has a store's
 //! own decision.
 //!
+//! - `decide`, by `runs` of the two parts, each up to its `condition`, and `narrow`, which makes constants of the indices that the
+//!   hypothesis fixes; `decision`, what it answers;
+//! - `parametrised`: the same with the hypothesis as parameters;
+//! - `room`: a decision in a theorem's mode, with stores of its own; `certifying_store` and `stores`, what a store shows then.
+//!
 //! Tests: those of the crate `gl`.
 #![tactic(auto)]
 

@@ -1,4 +1,4 @@
-//! What the two stores show.
+//! What a decision leaves behind that shows it: nothing in diagrams, the book with the empty clause in graphs that are searched.
 
 ghost use Rattle.std.specs.Prelude.{◌≡◌, ℕ, Bool, true, false, length, Ok, IsTrue};
 ghost use Rattle.bfr_store.specs.Keeps.{Grows};

@@ -1,4 +1,4 @@
-//! What is found of entries.
+//! What a check finds of some entries of a log: that each is shown, or the first that is not.
 
 /// What is found of some entries.
 #[derive(Clone, Copy, Debug, PartialEq, Eq)]

@@ -1,4 +1,4 @@
-//! A run of consecutive numbers.
+//! A piece of a log: consecutive entries, which one worker checks.
 
 ghost use Rattle.std.specs.Prelude.{◌≤◌};
 

@@ -1,4 +1,4 @@
-//! The places of clauses by their numbers.
+//! Where the clause stands that a hint names: in the formula, or among the entries of the log.
 
 ghost use Rattle.std.specs.Prelude.{◌≡◌, ◌≤◌, ◌<◌, ◌+◌, ◌^◌, ℕ, List, length, get_or};
 ghost use Rattle.lrat_tool.specs.Held.{Rises, id_place, place_by};

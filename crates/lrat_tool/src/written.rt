@@ -57,6 +57,7 @@ fn taken_back(
 
 // ---- the formula
 
+/// The formula of a book: its header, and its first clauses.
 #[tactic(auto, using(sexp_print::proofs::Begins::begins_behind))]
 fn append_formula(book: &ClauseBook, out: &mut Vec<u8>) -> Result<(), NoMemory>
     ensures ok { OnOk result (out.new.items ≡ out.old.items ++ cnf_lines book.now) }
@@ -77,6 +78,7 @@ fn greatest_variable(book: &ClauseBook) -> u32
     most
 }
 
+/// The greatest variable of a clause, 0 of the empty one.
 fn greatest_of(clause: &Clause) -> u32
     ensures { result ≡ greatest_of clause.now }
 {
@@ -87,6 +89,7 @@ fn greatest_of(clause: &Clause) -> u32
     most
 }
 
+/// The first line of a formula.
 #[tactic(auto, using(sexp_print::proofs::Begins::begins_behind))]
 fn append_header(variables: u32, clauses: u32, out: &mut Vec<u8>) -> Result<(), NoMemory>
     ensures ok { OnOk result (out.new.items ≡ out.old.items ++ line_of (header_words variables clauses)) }
@@ -99,6 +102,7 @@ fn append_header(variables: u32, clauses: u32, out: &mut Vec<u8>) -> Result<(), 
     Ok(())
 }
 
+/// The first clauses, a line each.
 fn append_clauses(book: &ClauseBook, out: &mut Vec<u8>) -> Result<(), NoMemory>
     ensures ok { OnOk result (out.new.items ≡ out.old.items ++ text_of (map clause_words (first_clauses book.now))) }
     ensures err { OnErr result (BeginsWith out.old.items out.new.items) }
@@ -109,6 +113,7 @@ fn append_clauses(book: &ClauseBook, out: &mut Vec<u8>) -> Result<(), NoMemory>
     Ok(())
 }
 
+/// The line of a clause in a formula.
 #[tactic(auto, using(sexp_print::proofs::Begins::begins_behind, sexp_print::proofs::Begins::begins_put))]
 fn append_clause_line(clause: &Clause, out: &mut Vec<u8>) -> Result<(), NoMemory>
     ensures ok { OnOk result (out.new.items ≡ out.old.items ++ line_of (clause_words clause.now)) }
@@ -121,6 +126,7 @@ fn append_clause_line(clause: &Clause, out: &mut Vec<u8>) -> Result<(), NoMemory
 
 // ---- the log
 
+/// The log of a book: where a first clause is empty, one entry that names it; else all learned clauses.
 fn append_log(book: &ClauseBook, out: &mut Vec<u8>) -> Result<(), NoMemory>
     requires { book.now.first ≤ 100000000 }
     ensures ok { OnOk result (out.new.items ≡ out.old.items ++ log_lines book.now) }
@@ -145,6 +151,7 @@ fn empty_clause(book: &ClauseBook) -> Option<u32>
     None
 }
 
+/// The entry of the empty clause, with one hint.
 #[tactic(auto, using(sexp_print::proofs::Begins::begins_behind, sexp_print::proofs::Begins::begins_trans))]
 fn append_empty_line(id: u32, hint: u32, out: &mut Vec<u8>) -> Result<(), NoMemory>
     ensures ok { OnOk result (out.new.items ≡ out.old.items ++ line_of (entry_words id (empty_entry hint))) }
@@ -157,6 +164,7 @@ fn append_empty_line(id: u32, hint: u32, out: &mut Vec<u8>) -> Result<(), NoMemo
     Ok(())
 }
 
+/// The learned clauses with their hints, a line each.
 fn append_entries(book: &ClauseBook, out: &mut Vec<u8>) -> Result<(), NoMemory>
     ensures ok { OnOk result (out.new.items ≡ out.old.items ++ text_of (entries_words (book.now.first + 1) (log_of book.now))) }
     ensures err { OnErr result (BeginsWith out.old.items out.new.items) }
@@ -167,6 +175,7 @@ fn append_entries(book: &ClauseBook, out: &mut Vec<u8>) -> Result<(), NoMemory>
     Ok(())
 }
 
+/// The line of an entry: its id, its literals, its hints.
 #[tactic(auto, using(sexp_print::proofs::Begins::begins_behind, sexp_print::proofs::Begins::begins_trans))]
 fn append_entry_line(id: u32, entry: &Entry, out: &mut Vec<u8>) -> Result<(), NoMemory>
     ensures ok { OnOk result (out.new.items ≡ out.old.items ++ line_of (entry_words id entry.now)) }
@@ -182,6 +191,7 @@ fn append_entry_line(id: u32, entry: &Entry, out: &mut Vec<u8>) -> Result<(), No
 
 // ---- numbers
 
+/// The literals of a clause, and the 0 that ends them.
 fn append_clause(clause: &Clause, out: &mut Vec<u8>) -> Result<(), NoMemory>
     ensures ok { OnOk result (out.new.items ≡ out.old.items ++ join_with_byte 32 (clause_words clause.now)) }
     ensures err { OnErr result (BeginsWith out.old.items out.new.items) }
@@ -193,6 +203,7 @@ fn append_clause(clause: &Clause, out: &mut Vec<u8>) -> Result<(), NoMemory>
     Ok(())
 }
 
+/// The hints of an entry, and the 0 that ends them.
 fn append_hints(hints: &Hints, out: &mut Vec<u8>) -> Result<(), NoMemory>
     ensures ok { OnOk result (out.new.items ≡ out.old.items ++ join_with_byte 32 (hint_words hints.now)) }
     ensures err { OnErr result (BeginsWith out.old.items out.new.items) }
@@ -215,6 +226,7 @@ fn append_number<I: Integer>(number: I, out: &mut Vec<u8>) -> Result<(), NoMemor
     Ok(())
 }
 
+/// A number in decimal.
 fn append_digits<I: Integer>(number: I, out: &mut Vec<u8>) -> Result<(), NoMemory>
     ensures ok { OnOk result (out.new.items ≡ out.old.items ++ I.text number) }
     ensures err { OnErr result (out.new.items ≡ out.old.items) }

@@ -1,4 +1,4 @@
-//! Books at the ends of limits.
+//! Books at the ends of limits, as tables: `{1000 (}` stands for a thousand parentheses, and `rows` says how a row is read.
 
 use super::rows::all_give;
 use std::test::Fail;
