@@ -4,6 +4,7 @@
 #     GL = /home/me/gl/gl
 #     include /home/me/gl/books/gl.mk
 #
+#     make -f /home/me/gl/books/gl.mk GL=/home/me/gl/gl     does so without a Makefile
 #     make -j4              runs the books, goes on past those that fail, and ends with a summary over all of them
 #     make gl-summary       the summary alone
 #     make gl-clean         removes what was made
@@ -26,11 +27,14 @@ GL_FLAGS ?=
 # both, to let them pass. What is refuted or NIL, and a book that is refused, always fails.
 GL_ALLOWS ?=
 
+# The file that make was given, which may be this one: it is made from again.
+gl_make := $(MAKE) --no-print-directory -f $(firstword $(MAKEFILE_LIST))
+
 .PHONY: gl-all gl-books gl-blanks gl-again gl-summary gl-clean
 .SUFFIXES:
 
 gl-all:
-	+@$(MAKE) --no-print-directory -k gl-books; status=$$?; $(MAKE) --no-print-directory gl-summary; exit $$status
+	+@$(gl_make) -k gl-books; status=$$?; $(gl_make) gl-summary; exit $$status
 
 gl-books: $(GL_BOOKS:.lisp=.out) gl-blanks
 	@:
