@@ -22,7 +22,7 @@
       (loop for n from 1
             do (dolist (c candidates)
                  (let ((token (if (= n 1) c (format nil "~a-~a" c n))))
-                   (unless (or (gethash token (names-taken names)) (> (length token) 250))
+                   (unless (or (gethash token (names-taken names)) (member token '("t" "nil") :test #'string=) (> (length token) 250))
                      (setf (gethash token (names-taken names)) t)
                      (return-from take-name (setf (gethash thing (names-by-thing names)) token)))))
                (when (> n 10000) (refuse "the name ~a is too long" (car candidates))))))

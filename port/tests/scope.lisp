@@ -31,3 +31,7 @@
   :g-bindings (gl::auto-bindings (:nat x 4)))
 (gl::def-gl-thm same-name
   :hyp (unsigned-byte-p 4 x) :concl (equal (f x) x) :g-bindings (gl::auto-bindings (:nat x 4)))
+(gl::def-gl-thm variables-named-as-the-truths ; refuted
+  :hyp (and (unsigned-byte-p 2 r::nil) (unsigned-byte-p 2 r::t))
+  :concl (equal (+ r::nil r::t) (if r::nil 0 1))
+  :g-bindings (gl::auto-bindings (:nat r::nil 2) (:nat r::t 2)))
