@@ -55,6 +55,28 @@ fn put_minus(report: &mut Report, integer: i128)
     }
 }
 
+/// How many bits the integer that a text in decimal is has without its sign; 0 of another text.
+pub fn integer_bits(text: &[u8]) -> usize {
+    match integer_of(text) {
+        Some(integer) => 128_u32.saturating_sub(integer.unsigned_abs().leading_zeros()) as usize,
+        None => 0,
+    }
+}
+
+/// Puts on a line, so far indented, in which of so many bits two integers of one sign differ.
+pub fn put_difference(report: &mut Report, one: &[u8], other: &[u8], bits: usize, indent: usize) {
+    let (Some(one), Some(other)) = (integer_of(one), integer_of(other)) else {
+        return;
+    };
+    if one == other || (one < 0) != (other < 0) {
+        return;
+    }
+    report.times(indent, b' ');
+    report.say("the bits that differ: #b");
+    put_digits(report, 2, bits, one.unsigned_abs() ^ other.unsigned_abs());
+    report.say("\n");
+}
+
 /// Puts two texts, the minus and the hexadecimal digits of an integer, another text, and the minus and the binary digits, of the
 /// latter at least so many.
 fn put_in_both(
@@ -76,13 +98,13 @@ fn put_in_both(
     put_digits(report, 2, bits, integer.unsigned_abs());
 }
 
-/// Puts cells of a table with an integer, whose text in decimal this is.
-fn put_cells(report: &mut Report, text: &[u8], integer: i128)
+/// Puts cells of a table with an integer, whose text in decimal this is, and so many binary digits at least.
+fn put_cells(report: &mut Report, text: &[u8], integer: i128, bits: usize)
     requires { integer ≡ signed_digits_value 10 text.now }
     ensures { Says (PutsCells text.now) report.old report.new }
 {
     report.text(b"<td>");
-    put_in_both(report, text, b"</td><td>#x", b"</td><td>#b", integer, 1);
+    put_in_both(report, text, b"</td><td>#x", b"</td><td>#b", integer, bits);
     report.text(b"</td>");
 }
 
@@ -93,10 +115,10 @@ fn put_object(report: &mut Report, object: &[u8]) {
     report.say("</td>");
 }
 
-/// Cells of a table with an integer in decimal, hexadecimal and binary; one cell with another object.
-pub(crate) fn put_bases(report: &mut Report, object: &[u8]) {
+/// Cells of a table with an integer in decimal, hexadecimal and binary, of so many digits at least; one cell with another object.
+pub(crate) fn put_bases(report: &mut Report, object: &[u8], bits: usize) {
     match integer_of(object) {
-        Some(integer) => put_cells(report, object, integer),
+        Some(integer) => put_cells(report, object, integer, bits),
         None => put_object(report, object),
     }
 }

@@ -3,8 +3,7 @@
 ghost use Rattle.explain_report.specs.Put.{IsPut};
 
 use crate::bases::put_bases;
-use crate::json::parts_of_input;
-use crate::record::{Record, Verdict};
+use crate::record::{Input, Record, Verdict};
 use crate::report::Report;
 use crate::shown::{PutEnd, Style, put_line};
 use crate::summary::{VERDICTS, all_micros, count_of, event_count, slowest};
@@ -26,7 +25,9 @@ ol.events{list-style:none;padding:0;margin:0}ol.events li{border-bottom:1px soli
 section{border:2px solid #111;border-left-width:.5rem;padding:.6rem;margin:1rem 0}\
 table{border-collapse:collapse;display:block;overflow-x:auto;margin:.5rem 0}\
 th,td{border:1px solid #999;padding:.15rem .5rem;text-align:left;font-family:ui-monospace,monospace;font-size:.875rem}\
-.good .bar{background:#2b7a3d}.bad .bar{background:#b3261e}section.bad{border-color:#b3261e}";
+.good .bar{background:#2b7a3d}.bad .bar{background:#b3261e}section.bad{border-color:#b3261e}\
+.vacuous .bar{background:#b36b00}section.vacuous{border-color:#b36b00}\
+.undecided .bar{background:#5b4b9e}section.undecided{border-color:#5b4b9e}";
 
 /// How a text stands in HTML.
 fn style_of(text: &[u8]) -> Style {
@@ -221,7 +222,12 @@ fn put_event<K: Sink>(
 
 /// The class of what is shown of a verdict.
 fn class_of(verdict: Verdict) -> &'static str {
-    if verdict.is_trouble() { "bad" } else { "good" }
+    match verdict {
+        Verdict::Vacuous => "vacuous",
+        Verdict::Undecided => "undecided",
+        _ if verdict.is_trouble() => "bad",
+        _ => "good",
+    }
 }
 
 /// The heading of the events of one verdict.
@@ -263,26 +269,24 @@ fn put_group<K: Sink>(
     Ok(())
 }
 
-/// Puts a line of an input: the variable, and its object in three bases.
-fn put_input(report: &mut Report, line: &[u8]) {
-    let (name, object) = parts_of_input(line);
+fn put_input(report: &mut Report, input: &Input, bits: usize) {
     report.say("<tr><td>");
-    put_text(report, name);
+    put_text(report, input.name.as_slice());
     report.say("</td>");
-    put_bases(report, object);
+    put_bases(report, input.text.as_slice(), bits);
     report.say("</tr>\n");
 }
 
-/// Puts the table of an input.
-fn put_inputs(report: &mut Report, inputs: &[Vec<u8>]) {
+fn put_inputs(report: &mut Report, inputs: &[Input], widths: &[usize]) {
     if inputs.is_empty() {
         return;
     }
     report.say(
         "<table>\n<tr><th>input</th><th>decimal</th><th>hexadecimal</th><th>binary</th></tr>\n",
     );
-    for line in inputs {
-        put_input(report, line.as_slice());
+    for (i, input) in inputs.iter().enumerate() {
+        let bits = widths.get(i).copied().unwrap_or(0);
+        put_input(report, input, bits);
     }
     report.say("</table>\n");
 }
@@ -300,7 +304,9 @@ fn put_block(report: &mut Report, front: &str, text: &[u8]) {
 /// What stands in front of the line of an event that asks for a look.
 fn front_of_look(alloc: Global, number: usize, record: &Record) -> Result<Vec<u8>, NoMemory> {
     let mut report = Report::new(alloc);
-    report.say("<section class=\"bad\" id=\"look-");
+    report.say("<section class=\"");
+    report.say(class_of(record.verdict()));
+    report.say("\" id=\"look-");
     report.number(number as u64);
     report.say("\">\n<h3>");
     put_title(&mut report, record);
@@ -313,7 +319,7 @@ fn front_of_look(alloc: Global, number: usize, record: &Record) -> Result<Vec<u8
 fn back_of_look(alloc: Global, record: &Record) -> Result<Vec<u8>, NoMemory> {
     let mut report = Report::new(alloc);
     report.say("</code>\n");
-    put_inputs(&mut report, record.inputs.as_slice());
+    put_inputs(&mut report, record.inputs(), record.widths.as_slice());
     put_block(&mut report, "<pre>", record.source.as_slice());
     let front = if record.verdict() == Verdict::Refused {
         "<pre>"

@@ -2,10 +2,11 @@
 
 ghost use Rattle.explain_report.specs.Put.{IsPut};
 
-use crate::record::{Record, behind};
+use crate::fault::Fault;
+use crate::record::{Input, Record};
 use crate::report::Report;
 use crate::shown::{PutEnd, Style, put_line};
-use gl_base::sink::Sink;
+use gl_base::sink::{Sink, put_all};
 use gl_logic::NoMemory;
 use std::alloc::Global;
 
@@ -48,38 +49,54 @@ fn put_number_of(report: &mut Report, name: &str, number: u32) {
     }
 }
 
-/// The variable of a line of an input, and its object.
-pub fn parts_of_input(line: &[u8]) -> (&[u8], &[u8]) {
-    let text = behind(line, 2);
-    for (i, byte) in text.iter().enumerate() {
-        if *byte == b' ' {
-            let rest = behind(text, i.saturating_add(3));
-            let name = if i <= text.len() { &text[..i] } else { text };
-            return (name, rest);
-        }
-    }
-    (text, &[])
-}
-
-/// Puts a line of an input as an object.
-fn put_input(report: &mut Report, line: &[u8]) {
-    let (name, object) = parts_of_input(line);
+fn put_input(report: &mut Report, input: &Input) {
     report.say("{\"variable\":");
-    put_text(report, name);
+    put_text(report, input.name.as_slice());
     report.say(",\"object\":");
-    put_text(report, object);
+    put_text(report, input.text.as_slice());
     report.say("}");
 }
 
-/// Puts the lines of an input as a list.
-fn put_inputs(report: &mut Report, inputs: &[Vec<u8>]) {
+fn put_inputs(report: &mut Report, inputs: &[Input]) {
     put_name(report, "inputs");
     report.say("[");
-    for (i, line) in inputs.iter().enumerate() {
+    for (i, input) in inputs.iter().enumerate() {
         if i > 0 {
             report.say(",");
         }
-        put_input(report, line.as_slice());
+        put_input(report, input);
+    }
+    report.say("]");
+}
+
+fn put_place_of(report: &mut Report, fault: &Fault) {
+    put_name(report, "line");
+    report.number(fault.start.line);
+    put_name(report, "column");
+    report.number(fault.start.column);
+    put_name(report, "end_line");
+    report.number(fault.end.line);
+    put_name(report, "end_column");
+    report.number(fault.end.column);
+}
+
+fn put_fault(report: &mut Report, fault: &Fault) {
+    report.say("{\"code\":");
+    put_text(report, fault.code.as_bytes());
+    put_text_of(report, "file", fault.file.as_slice());
+    put_place_of(report, fault);
+    put_text_of(report, "words", fault.words.as_slice());
+    report.say("}");
+}
+
+fn put_faults(report: &mut Report, faults: &[Fault]) {
+    put_name(report, "faults");
+    report.say("[");
+    for (i, fault) in faults.iter().enumerate() {
+        if i > 0 {
+            report.say(",");
+        }
+        put_fault(report, fault);
     }
     report.say("]");
 }
@@ -94,10 +111,11 @@ fn members_behind(alloc: Global, record: &Record) -> Result<Vec<u8>, NoMemory> {
     put_number_of(&mut report, "line", record.line);
     put_number_of(&mut report, "column", record.column);
     put_text_of(&mut report, "verdict", record.verdict().word().as_bytes());
-    put_text_of(&mut report, "cause", record.cause());
-    put_inputs(&mut report, record.inputs.as_slice());
+    put_text_of(&mut report, "cause", record.found.words.as_slice());
+    put_inputs(&mut report, record.inputs());
     put_name(&mut report, "seconds");
     report.seconds(record.micros);
+    put_faults(&mut report, record.faults.as_slice());
     put_text_of(&mut report, "message", record.message.as_slice());
     report.say("}\n");
     report.into_bytes()
@@ -110,4 +128,26 @@ pub fn put_object<K: Sink>(alloc: Global, out: &mut K, record: &Record) -> Resul
     let rest = members_behind(alloc, record)?;
     let text = record.text.as_slice();
     put_line(alloc, out, style_of(text), b"{\"text\":\"", text, &rest)
+}
+
+/// Writes an object that tells with which status a run ends, and why, in words and the name of a text behind them.
+pub fn put_status<K: Sink>(
+    alloc: Global,
+    out: &mut K,
+    status: u8,
+    words: &str,
+    name: &str,
+) -> Result<(), PutEnd>
+    ensures cause { IsPut (K.faults out.old) (K.faults out.new) result }
+{
+    let mut report = Report::new(alloc);
+    report.say("{\"status\":");
+    report.number(u64::from(status));
+    put_name(&mut report, "message");
+    report.say("\"");
+    report.shown(Style::Json(true), words.as_bytes());
+    report.shown(Style::Json(true), name.as_bytes());
+    report.say("\"}\n");
+    put_all(out, &report.into_bytes()?)?;
+    Ok(())
 }

@@ -1,6 +1,11 @@
 //! What is known of a line of a transcript that is no line of an input.
 
+ghost use Rattle.std.specs.Prelude.{◌≡◌, IfOk};
+
+use crate::fault::Fault;
+use gl_logic::{NoMemory, TextId, Tree};
 use std::alloc::Global;
+use std::mem;
 
 /// What became of an event.
 #[derive(Clone, Copy, Debug, PartialEq, Eq)]
@@ -24,6 +29,42 @@ pub enum Verdict {
     Done,
 }
 
+/// Why an event is undecided.
+#[derive(Clone, Copy, Debug, PartialEq, Eq)]
+pub enum Cause {
+    /// A variable may have objects beyond its shape: that of a case, from 1, or of the whole.
+    Uncovered(Option<u32>, TextId),
+    /// An input is of no case.
+    Uncased,
+    Nodes,
+    Clauses,
+    Clock,
+    Width,
+    Steps,
+    Cells,
+    Size,
+    Memory,
+}
+
+/// A variable of an input and its object, and both as they are printed.
+#[derive(Drop)]
+pub struct Input {
+    pub variable: TextId,
+    pub object: Tree,
+    pub name: Vec<u8>,
+    pub text: Vec<u8>,
+}
+
+/// What came of an event: its verdict; why it is undecided, and in words, or the code that refuses the book, which are empty
+/// where there is none; and the input that is shown of it.
+#[derive(Drop)]
+pub struct Found {
+    pub verdict: Verdict,
+    pub cause: Option<Cause>,
+    pub words: Vec<u8>,
+    pub inputs: Vec<Input>,
+}
+
 /// A line of a transcript, and what is known of it.
 #[derive(Drop)]
 pub struct Record {
@@ -38,19 +79,62 @@ pub struct Record {
     pub name: Vec<u8>,
     /// The line, without its end.
     pub text: Vec<u8>,
-    /// The lines of the input that stands behind it, without their ends.
-    pub inputs: Vec<Vec<u8>>,
+    /// What came of its event.
+    pub found: Found,
+    /// How many bits each integer of its input is shown with at least.
+    pub widths: Vec<usize>,
     /// Microseconds since the line before.
     pub micros: u64,
     /// The event's form as it is written, where it is to be shown.
     pub source: Vec<u8>,
-    /// What is said of it beside the transcript.
+    /// What is said of it beside the transcript, and the faults that are told there.
     pub message: Vec<u8>,
+    pub faults: Vec<Fault>,
+}
+
+impl Found {
+    /// A verdict, without a cause and an input. Takes no memory.
+    pub fn new(alloc: Global, verdict: Verdict) -> Found
+        ensures { result.verdict ≡ verdict }
+    {
+        Found {
+            verdict,
+            cause: None,
+            words: Vec::new(alloc),
+            inputs: Vec::new(alloc),
+        }
+    }
+
+    /// The word for what leaves its event open: the cause, or that the event is refused; none where it is decided.
+    pub fn lack(&self) -> Option<&'static str> {
+        match self.verdict {
+            Verdict::Undecided => self.cause.map(Cause::word),
+            Verdict::Refused => Some("refused"),
+            _ => None,
+        }
+    }
+
+    /// What is found, for one of its event's lines: the input is that of the first line, and is taken from here.
+    pub fn for_line(&mut self, alloc: Global) -> Result<Found, NoMemory>
+        ensures verdict { IfOk result (λ f. f.verdict ≡ self.old.verdict) }
+        ensures inputs { IfOk result (λ f. f.inputs ≡ self.old.inputs) }
+    {
+        Ok(Found {
+            verdict: self.verdict,
+            cause: self.cause,
+            words: self.words.clone()?,
+            inputs: mem::replace(&mut self.inputs, Vec::new(alloc)),
+        })
+    }
 }
 
 impl Record {
-    /// The record of a line, of which nothing else is known. Takes no memory.
-    pub fn new(alloc: Global, text: Vec<u8>) -> Record {
+    /// The record of a line, of which only what came of its event is known. Takes no memory.
+    pub fn new(alloc: Global, text: Vec<u8>, found: Found) -> Record
+        ensures text { result.text ≡ text }
+        ensures found { result.found ≡ found }
+        ensures place { result.line ≡ 0 }
+    {
         Record {
             item: 0,
             file: Vec::new(alloc),
@@ -59,21 +143,45 @@ impl Record {
             kind: Vec::new(alloc),
             name: Vec::new(alloc),
             text,
-            inputs: Vec::new(alloc),
+            found,
+            widths: Vec::new(alloc),
             micros: 0,
             source: Vec::new(alloc),
             message: Vec::new(alloc),
+            faults: Vec::new(alloc),
         }
     }
 
     /// What became of its event.
-    pub fn verdict(&self) -> Verdict {
-        verdict_of(self.text.as_slice())
+    pub fn verdict(&self) -> Verdict
+        ensures { result ≡ self.now.found.verdict }
+    {
+        self.found.verdict
     }
 
-    /// Why it is undecided, or the code that refuses the book; empty where there is none.
-    pub fn cause(&self) -> &[u8] {
-        cause_of(self.text.as_slice())
+    /// The input that is shown of its event.
+    pub fn inputs(&self) -> &[Input]
+        ensures { result.now ≡ self.now.found.inputs.items }
+    {
+        self.found.inputs.as_slice()
+    }
+}
+
+impl Cause {
+    /// Its word.
+    pub fn word(self) -> &'static str {
+        match self {
+            Cause::Uncovered(_, _) => "uncovered",
+            Cause::Uncased => "uncased",
+            Cause::Nodes => "nodes",
+            Cause::Clauses => "clauses",
+            Cause::Clock => "clock",
+            Cause::Width => "width",
+            Cause::Steps => "steps",
+            Cause::Cells => "cells",
+            Cause::Size => "size",
+            Cause::Memory => "memory",
+        }
     }
 }
 
@@ -113,87 +221,11 @@ impl Verdict {
     }
 }
 
-/// The length of the word with which a text begins.
-fn word_len(text: &[u8]) -> usize {
-    for (i, byte) in text.iter().enumerate() {
-        if *byte == b' ' {
-            return i;
-        }
-    }
-    text.len()
-}
-
 /// The first bytes of a text.
 pub fn front_of(text: &[u8], count: usize) -> &[u8] {
     if count <= text.len() {
         &text[..count]
     } else {
         text
-    }
-}
-
-/// A text without its first bytes.
-pub(crate) fn behind(text: &[u8], count: usize) -> &[u8] {
-    if count <= text.len() {
-        &text[count..]
-    } else {
-        &[]
-    }
-}
-
-/// The word with which a text begins, and empty where it is no text.
-pub fn first_word(text: &[u8]) -> &str {
-    match str::from_utf8(front_of(text, word_len(text))) {
-        Ok(word) => word,
-        Err(_) => "",
-    }
-}
-
-/// What stands behind the first word of a text and a blank.
-pub fn behind_word(text: &[u8]) -> &[u8] {
-    behind(text, word_len(text).saturating_add(1))
-}
-
-/// What became of the event of a line.
-fn verdict_of(text: &[u8]) -> Verdict {
-    match first_word(text) {
-        "PROVED" => Verdict::Proved,
-        "VACUOUS" => Verdict::Vacuous,
-        "REFUTED" => Verdict::Refuted,
-        "UNDECIDED" => Verdict::Undecided,
-        "REFUSED" => Verdict::Refused,
-        "VALUE" if first_word(behind_word(text)) != "undecided" => Verdict::Value,
-        "VALUE" | "ASSERT" => verdict_of_value(first_word(behind_word(text))),
-        "BOOK" | "END" | "SAME" => Verdict::Mark,
-        "DONE" => Verdict::Done,
-        _ => Verdict::Taken,
-    }
-}
-
-/// What became of an assert, or of a value that is undecided, by the word behind it.
-fn verdict_of_value(word: &str) -> Verdict {
-    match word {
-        "ok" => Verdict::Holds,
-        "nil" => Verdict::Failed,
-        _ => Verdict::Undecided,
-    }
-}
-
-/// The cause that a line tells: what stands behind the name, or the code of a refusal.
-fn cause_of(text: &[u8]) -> &[u8] {
-    match verdict_of(text) {
-        Verdict::Undecided => behind_word(behind_word(text)),
-        Verdict::Refused => behind_word(behind_word(behind_word(text))),
-        _ => &[],
-    }
-}
-
-/// The name in a line that has one behind its first word.
-pub fn name_in(text: &[u8]) -> &[u8] {
-    let rest = behind_word(text);
-    match first_word(text) {
-        "VALUE" | "ASSERT" | "MODE" | "REFUSED" | "DONE" => &[],
-        "BOOK" | "END" | "SAME" => rest,
-        _ => front_of(rest, word_len(rest)),
     }
 }

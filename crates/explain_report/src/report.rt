@@ -1,19 +1,23 @@
 //! What is said, as bytes that grow.
 
-ghost use Rattle.std.specs.Prelude.{◌≡◌, [], Some, None, MatchResult};
+ghost use Rattle.std.specs.Prelude.{◌≡◌, [], ◌++◌, Some, None, MatchResult, codes, replicate};
+ghost use Rattle.std.specs.Fmt.{decimal, signed_decimal};
 ghost use Rattle.explain_report.specs.Shown.{shown};
-ghost use Rattle.explain_report.specs.Said.{Adds, SaysMore};
+ghost use Rattle.explain_report.specs.Said.{Adds, Says, SaysMore};
 
+use crate::fault::Fault;
 use crate::shown::{Style, append_shown};
 use gl_logic::NoMemory;
 use std::alloc::Global;
 use std::marker::Model;
+use std::mem;
 
-/// What is said so far. Where memory is refused for some of it, nothing more is said, and in the end there are no bytes.
+/// What is said so far, and the faults that were told. Where memory is refused for some of it, nothing more is said, and in the end there are no bytes.
 #[derive(Drop)]
 pub struct Report {
     alloc: Global,
     bytes: Vec<u8>,
+    faults: Vec<Fault>,
     is_refused: bool,
 }
 
@@ -36,6 +40,7 @@ impl Report {
         Report {
             alloc,
             bytes: Vec::new(alloc),
+            faults: Vec::new(alloc),
             is_refused: false,
         }
     }
@@ -79,6 +84,27 @@ impl Report {
         }
     }
 
+    /// Keeps a fault that is told.
+    pub fn fault(&mut self, fault: Result<Fault, NoMemory>)
+        ensures { Says (λ before behind. behind ≡ before) self.old self.new }
+    {
+        match fault {
+            Ok(fault) => {
+                if let Err(_) = self.faults.push(fault) {
+                    self.is_refused = true;
+                }
+            }
+            Err(_) => self.refuse(),
+        }
+    }
+
+    /// The faults that were told, which are taken from here.
+    pub fn take_faults(&mut self) -> Vec<Fault>
+        ensures { self.new ≡ self.old }
+    {
+        mem::replace(&mut self.faults, Vec::new(self.alloc))
+    }
+
     /// Says words.
     pub fn say(&mut self, words: &str)
         ensures { Adds words.now self.old self.new }
@@ -88,7 +114,7 @@ impl Report {
 
     /// Says a number in decimal.
     pub fn number(&mut self, number: u64)
-        ensures { SaysMore self.old self.new }
+        ensures { Adds (decimal number) self.old self.new }
     {
         match format!(in self.alloc; "{number}") {
             Ok(digits) => self.say(digits.as_str()),
@@ -98,7 +124,7 @@ impl Report {
 
     /// Says an integer in decimal.
     pub fn integer(&mut self, integer: i128)
-        ensures { SaysMore self.old self.new }
+        ensures { Adds (signed_decimal integer) self.old self.new }
     {
         match format!(in self.alloc; "{integer}") {
             Ok(digits) => self.say(digits.as_str()),
@@ -107,9 +133,9 @@ impl Report {
     }
 
     /// Says one byte so many times.
-    #[tactic(auto, using(crate::proofs::Reports::more_none, crate::proofs::Reports::more_add))]
+    #[tactic(auto, using(crate::proofs::Reports::nothing, crate::proofs::Reports::once_more))]
     pub fn times(&mut self, count: usize, byte: u8)
-        ensures { SaysMore self.old self.new }
+        ensures { Adds (replicate count byte) self.old self.new }
     {
         for _ in 0..count {
             self.text(&[byte]);
@@ -118,7 +144,7 @@ impl Report {
 
     /// Says a place as editors take it, with a blank behind it.
     pub fn place(&mut self, file: &[u8], line: u64, column: u64)
-        ensures { SaysMore self.old self.new }
+        ensures { Adds (file.now ++ codes ":" ++ decimal line ++ codes ":" ++ decimal column ++ codes ": ") self.old self.new }
     {
         self.text(file);
         self.say(":");

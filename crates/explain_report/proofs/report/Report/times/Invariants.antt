@@ -1,5 +1,6 @@
-use Rattle.explain_report.specs.Said.{SaysMore}
+use Rattle.std.specs.Prelude.{replicate}
+use Rattle.explain_report.specs.Said.{Adds}
 use Rattle.explain_report.proofs.report.Report.times.Given as goal
 
 abbrev pub invariant-loop : goal.invariant-loop
-invariant-loop l = SaysMore l.fn.self l.self
+invariant-loop l = Adds (replicate l.counter l.fn.byte) l.fn.self l.self
