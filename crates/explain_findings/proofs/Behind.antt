@@ -1,5 +1,5 @@
 -- Items taken in one after another.
-use Rattle.std.proofs.Common.{◌≡◌, ◌∙◌, ap, sym, refl, subst, ℕ, zero, suc, ◌+◌, ◌-◌, ◌≤◌, List, [], ◌∷◌, ◌++◌, take, drop, Option, Some, None, slice_get, arith}
+use Rattle.std.proofs.Common.{◌≡◌, ◌∙◌, ap, sym, refl, subst, ℕ, zero, suc, ◌+◌, ◌-◌, ◌≤◌, ◌<◌, List, [], ◌∷◌, ◌++◌, take, drop, Option, Some, None, slice_get, arith}
 use Rattle.gl_logic.proofs.CellCounts.{take_next}
 use Rattle.book_shelf.specs.declared.item.Item.{Item}
 use Rattle.book_shelf.specs.declared.item.Item.TheVariants as item
@@ -48,13 +48,14 @@ refused_here : (names : List (List ℕ)) (bounds : Bounds) (x : Item) (t u : Boo
 refused_here names bounds (item.Form form) t u f h = h
 refused_here names bounds (item.Mark m) t u f h = absurd h
 
-pub refused_item : (names : List (List ℕ)) (bounds : Bounds) (items : List Item) (end : ℕ) (old new : Reached) (i : ℕ) (x : Item) (t : BookState) (f : FormFault) → old.next ≤ i → new.next ≡ i
+pub refused_item : (names : List (List ℕ)) (bounds : Bounds) (items : List Item) (end : ℕ) (old new : Reached) (i : ℕ) (x : Item) (t : BookState) (f : FormFault) → old.next ≤ i → i < end → new.next ≡ i
     → slice_get items i ≡ Some x → IsBehind names (take (i - old.next) (drop old.next items)) old.state t → TakesItem names bounds t x new.state (Some f)
     → GoesOn names bounds items end old new (Some (record { item = i; fault = f }))
-refused_item names bounds items end old new i x t f within next at h k =
+refused_item names bounds items end old new i x t f within before next at h k =
     let r = refused_here names bounds x t new.state f k in
     record {
       forward = rw next within;
+      within = λ _. rw next (let e : i ≤ end = omega (arith, before) in e);
       behind = rw (next, r.0) h;
       stops = (sym next, subst (λ o. IsRefusedItem names bounds new.state o f) (sym (ap (slice_get items) next ∙ at)) (subst (λ s. IsRefusedItem names bounds s (Some x) f) (sym r.0) r.1));
     }

@@ -1,1 +1,3 @@
 pub mod Replayed
+pub mod Founds
+pub mod Questions

@@ -72,8 +72,9 @@ TakesItem names bounds s (item.Form form) t refused = TakesForm names bounds s f
 TakesItem names bounds s (item.Mark m) t None = t ≡ s
 TakesItem names bounds s (item.Mark m) t (Some f) = ⊥
 
--- items are taken in up to a number, or to the end of the list, or up to the first that is refused
+-- items are taken in up to a number and no further, or to the end of the list, or up to the first that is refused
 pub record GoesOn (names : List (List ℕ)) (bounds : Bounds) (items : List Item) (end : ℕ) (old new : Reached) (refused : Option Refused) : Type 0 where
   pub forward : old.next ≤ new.next
+  pub within : old.next ≤ end → new.next ≤ end
   pub behind : IsBehind names (take (new.next - old.next) (drop old.next items)) old.state new.state
   pub stops : MatchOption refused (min end (length items) ≤ new.next) (λ r. (r.item ≡ new.next) × IsRefusedItem names bounds new.state (slice_get items new.next) r.fault)

@@ -1,18 +1,19 @@
 //! A variable that a hypothesis does not keep within its shape, and what would cover it.
 
 use crate::asker::Asker;
-use crate::cause::{Cause, thm_of};
 use crate::evaluation::{put_front_of, value_on};
 use crate::events::event_in;
-use crate::forms::{Part, conjuncts, head_of, is_among, option_of, speaks_of};
-use crate::reading::bindings_of_text;
-use crate::shapes::{put_conjunct, put_shape};
+use crate::forms::{Part, conjuncts, head_of, is_among, option_of, quoting_text, speaks_of};
+use crate::found::input_at;
+use crate::making::{call_on, list, word};
+use crate::reading::bindings_in;
+use crate::shapes::{conjunct, put_shape};
 use crate::values::Value;
 use coverage::covers;
 use event_world::Event;
-use explain_report::Report;
-use gl_logic::{NoMemory, Texts, Tree};
-use shape_spec::{Shape, Thm};
+use explain_report::{Input, Report};
+use gl_logic::{NoMemory, TextId, Texts, Tree};
+use shape_spec::{Bindings, Shape, Thm};
 use std::alloc::Global;
 use std::thread::Threads;
 
@@ -21,10 +22,22 @@ const LOOKED_INTO: &str =
     "AND OR NOT IF UNSIGNED-BYTE-P SIGNED-BYTE-P EQUAL EQL EQ = MEMBER MEMBER-EQUAL INTEGERP NATP POSP < <= > >= BOOLEANP CONSP \
     TRUE-LISTP";
 
+/// The theorem of an event, or the part of a theorem by cases: a case by its number, from 1, or the cover.
+fn thm_of(event: &Event, case: Option<u32>) -> Option<&Thm> {
+    match (event, case) {
+        (Event::Theorem(thm), _) => Some(thm),
+        (Event::Cases(thm), None) => Some(&thm.cover),
+        (Event::Cases(thm), Some(number)) if 1 <= number && number as u64 <= thm.cases.len() => {
+            Some(thm.cases.at(number as u64 - 1))
+        }
+        _ => None,
+    }
+}
+
 /// The shape of a theorem's variable.
-fn shape_named<'a>(texts: &Texts, thm: &'a Thm, name: &[u8]) -> Option<&'a Shape> {
+fn shape_of(thm: &Thm, variable: TextId) -> Option<&Shape> {
     for i in 0..thm.bindings.len() {
-        if texts.text(thm.bindings.variable(i)) == name {
+        if thm.bindings.variable(i) == variable {
             return Some(thm.bindings.shape(i));
         }
     }
@@ -76,12 +89,19 @@ fn put_item(report: &mut Report, word: &str, name: &[u8], width: u64) {
 }
 
 /// The bindings of a variable to an integer of a width.
-fn bindings_text(alloc: Global, name: &[u8], width: u64) -> Result<Vec<u8>, NoMemory> {
-    let mut text = Report::new(alloc);
-    text.say("(auto-bindings ");
-    put_item(&mut text, ":int", name, width);
-    text.say(")");
-    text.into_bytes()
+fn bindings_to(
+    alloc: Global,
+    texts: &mut Texts,
+    variable: TextId,
+    width: u64,
+) -> Result<Option<Bindings>, NoMemory> {
+    let mut item = Vec::new(alloc);
+    item.push(word(texts, b":INT")?)?;
+    item.push(Tree::symbol(variable))?;
+    item.push(Tree::int(width as i128))?;
+    let item = list(alloc, item)?;
+    let form = call_on(alloc, texts, b"AUTO-BINDINGS", item)?;
+    bindings_in(alloc, texts, &form)
 }
 
 /// Whether a theorem's hypothesis covers a variable of `:int` of a width.
@@ -89,11 +109,10 @@ fn is_covered(
     alloc: Global,
     texts: &mut Texts,
     thm: &Thm,
-    name: &[u8],
+    variable: TextId,
     width: u64,
 ) -> Result<bool, NoMemory> {
-    let text = bindings_text(alloc, name, width)?;
-    match bindings_of_text(alloc, texts, &text)? {
+    match bindings_to(alloc, texts, variable, width)? {
         Some(bindings) => Ok(covers(alloc, &thm.hyp, &thm.concl, &bindings)?.is_none()),
         None => Ok(false),
     }
@@ -104,10 +123,10 @@ fn least_width(
     alloc: Global,
     texts: &mut Texts,
     thm: &Thm,
-    name: &[u8],
+    variable: TextId,
 ) -> Result<Option<u64>, NoMemory> {
     for width in 1..129 {
-        if is_covered(alloc, texts, thm, name, width)? {
+        if is_covered(alloc, texts, thm, variable, width)? {
             return Ok(Some(width));
         }
     }
@@ -115,13 +134,9 @@ fn least_width(
 }
 
 /// The input that is -1.
-fn negative_input(alloc: Global, name: &[u8]) -> Result<Vec<Vec<u8>>, NoMemory> {
-    let mut line = Report::new(alloc);
-    line.say("  ");
-    line.text(name);
-    line.say(" = -1");
+fn negative_input(alloc: Global, texts: &Texts, variable: TextId) -> Result<Vec<Input>, NoMemory> {
     let mut inputs = Vec::new(alloc);
-    inputs.push(line.into_bytes()?)?;
+    inputs.push(input_at(alloc, texts, variable, &Tree::int(-1))?)?;
     Ok(inputs)
 }
 
@@ -129,7 +144,7 @@ fn negative_input(alloc: Global, name: &[u8]) -> Result<Vec<Vec<u8>>, NoMemory> 
 fn is_nil_on<R: Threads + Sync>(
     asker: &Asker<R>,
     texts: &mut Texts,
-    inputs: &[Vec<u8>],
+    inputs: &[Input],
     term: &Tree,
 ) -> Result<bool, NoMemory> {
     match value_on(asker, texts, inputs, term)? {
@@ -143,9 +158,9 @@ fn excludes_negative<R: Threads + Sync>(
     asker: &Asker<R>,
     texts: &mut Texts,
     parts: &[Part],
-    name: &[u8],
+    variable: TextId,
 ) -> Result<bool, NoMemory> {
-    let inputs = negative_input(asker.alloc, name)?;
+    let inputs = negative_input(asker.alloc, texts, variable)?;
     for part in parts {
         if is_nil_on(asker, texts, &inputs, part.tree)? {
             return Ok(true);
@@ -166,19 +181,26 @@ fn put_least(report: &mut Report, name: &[u8], width: u64, is_natural: bool) {
 }
 
 /// Puts the conjunct that is missing.
-fn put_missing(alloc: Global, texts: &Texts, report: &mut Report, shape: &Shape, name: &[u8]) {
+fn put_missing(
+    alloc: Global,
+    texts: &mut Texts,
+    report: &mut Report,
+    shape: &Shape,
+    variable: TextId,
+) -> Result<(), NoMemory> {
+    let place = Tree::symbol(variable);
+    let natural = conjunct(alloc, texts, shape, &place, true)?;
+    let signed = conjunct(alloc, texts, shape, &place, false)?;
+    let natural = quoting_text(alloc, &natural, texts)?;
+    let signed = quoting_text(alloc, &signed, texts)?;
     report.say("   no bounds of it are written out: what would cover it is ");
-    put_conjunct(alloc, texts, report, shape, name);
-    if let Some(indices) = shape.as_integer() {
-        if 1 < indices.len() {
-            report.say(", or (UNSIGNED-BYTE-P ");
-            report.number((indices.len() - 1) as u64);
-            report.say(" ");
-            report.text(name);
-            report.say(")");
-        }
+    report.text(&natural);
+    if natural != signed {
+        report.say(", or ");
+        report.text(&signed);
     }
     report.say("\n");
+    Ok(())
 }
 
 /// Puts what would cover a variable of a theorem.
@@ -188,22 +210,24 @@ fn put_remedy<R: Threads + Sync>(
     report: &mut Report,
     thm: &Thm,
     parts: &[Part],
-    name: &[u8],
+    variable: TextId,
 ) -> Result<(), NoMemory> {
-    if let Some(width) = least_width(asker.alloc, texts, thm, name)? {
-        let is_natural = excludes_negative(asker, texts, parts, name)?;
-        put_least(report, name, width, is_natural);
-    } else if let Some(shape) = shape_named(texts, thm, name) {
-        put_missing(asker.alloc, texts, report, shape, name);
+    if let Some(width) = least_width(asker.alloc, texts, thm, variable)? {
+        let is_natural = excludes_negative(asker, texts, parts, variable)?;
+        put_least(report, texts.text(variable), width, is_natural);
+        return Ok(());
     }
-    Ok(())
+    match shape_of(thm, variable) {
+        Some(shape) => put_missing(asker.alloc, texts, report, shape, variable),
+        None => Ok(()),
+    }
 }
 
 /// Puts a variable's shape in words.
-fn put_shape_named(alloc: Global, texts: &Texts, report: &mut Report, thm: &Thm, name: &[u8]) {
-    if let Some(shape) = shape_named(texts, thm, name) {
+fn put_shape_of(alloc: Global, texts: &Texts, report: &mut Report, thm: &Thm, variable: TextId) {
+    if let Some(shape) = shape_of(thm, variable) {
         report.say("   the shape of ");
-        report.text(name);
+        report.text(texts.text(variable));
         report.say(" is: ");
         put_shape(alloc, texts, report, shape);
         report.say("\n");
@@ -217,42 +241,32 @@ fn put_uncovered<R: Threads + Sync>(
     report: &mut Report,
     form: &Tree,
     thm: &Thm,
-    name: &[u8],
+    variable: TextId,
 ) -> Result<(), NoMemory> {
-    put_shape_named(asker.alloc, texts, report, thm, name);
+    put_shape_of(asker.alloc, texts, report, thm, variable);
     let parts = match option_of(texts, form, b":HYP") {
-        Some(hyp) => spoken_of(asker.alloc, texts, hyp, name)?,
+        Some(hyp) => spoken_of(asker.alloc, texts, hyp, texts.text(variable))?,
         None => Vec::new(asker.alloc),
     };
     put_spoken(asker.alloc, texts, report, &parts);
-    put_remedy(asker, texts, report, thm, &parts, name)
+    put_remedy(asker, texts, report, thm, &parts, variable)
 }
 
-/// Puts why the variable of a cause is not covered by the theorem of an event.
-fn put_uncovered_of<R: Threads + Sync>(
-    asker: &Asker<R>,
-    texts: &mut Texts,
-    report: &mut Report,
-    form: &Tree,
-    event: &Event,
-    cause: Cause,
-) -> Result<(), NoMemory> {
-    match thm_of(event, cause.case) {
-        Some(thm) => put_uncovered(asker, texts, report, form, thm, cause.rest.as_bytes()),
-        None => Ok(()),
-    }
-}
-
-/// Puts why a variable is not covered: its shape, what the hypothesis says of it, and what would cover it.
+/// Puts why a variable is not covered, of the whole theorem or of a case: its shape, what the hypothesis says of it, and what
+/// would cover it.
 pub(crate) fn put_cover<R: Threads + Sync>(
     asker: &Asker<R>,
     texts: &mut Texts,
     report: &mut Report,
     form: &Tree,
-    cause: Cause,
+    case: Option<u32>,
+    variable: TextId,
 ) -> Result<(), NoMemory> {
-    match event_in(asker.alloc, asker.state, texts, form)? {
-        Some(event) => put_uncovered_of(asker, texts, report, form, &event, cause),
+    let Some(event) = event_in(asker.alloc, asker.state, texts, form)? else {
+        return Ok(());
+    };
+    match thm_of(&event, case) {
+        Some(thm) => put_uncovered(asker, texts, report, form, thm, variable),
         None => Ok(()),
     }
 }

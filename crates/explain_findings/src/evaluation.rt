@@ -1,11 +1,13 @@
 //! A theorem on one input: each conjunct of its hypothesis and each part of its conclusion, with its value.
 
 use crate::asker::Asker;
-use crate::forms::{Part, bindings_form, claims, conjuncts, option_of, printed};
+use crate::forms::{Part, bindings_form, conjuncts, head_of, is_among, option_of, printed};
+use crate::making::{binding, call_on_two, list};
+use crate::opening::{Opened, Parts};
 use crate::reading::bindings_in;
-use crate::values::Value;
-use explain_report::{Report, front_of, parts_of_input, put_in_bases};
-use gl_logic::{NoMemory, Texts, Tree};
+use crate::values::{Value, put_lack};
+use explain_report::{Input, Report, front_of, integer_bits, put_difference, put_in_bases};
+use gl_logic::{NoMemory, TextId, Texts, Tree};
 use shape_spec::Bindings;
 use std::alloc::Global;
 use std::thread::Threads;
@@ -29,43 +31,36 @@ pub(crate) fn put_front_of(alloc: Global, texts: &Texts, report: &mut Report, ob
     }
 }
 
-/// Puts the front of a `let` that gives variables the objects of an input.
-fn put_bound(text: &mut Report, inputs: &[Vec<u8>]) {
-    text.say("(let (");
-    for line in inputs {
-        let (name, object) = parts_of_input(line.as_slice());
-        text.say("(");
-        text.text(name);
-        text.say(" '");
-        text.text(object);
-        text.say(")");
+/// The bindings of a `let` that gives variables the objects of an input.
+fn bound_in(alloc: Global, texts: &mut Texts, inputs: &[Input]) -> Result<Tree, NoMemory> {
+    let mut bound = Vec::new(alloc);
+    for input in inputs {
+        let variable = Tree::symbol(input.variable);
+        bound.push(binding(alloc, texts, variable, &input.object)?)?;
     }
-    text.say(") ");
+    list(alloc, bound)
 }
 
-/// The text that asks for the value of a term where variables have the objects of an input.
-fn value_text(
+/// A term where variables have the objects of an input.
+fn term_on(
     alloc: Global,
-    texts: &Texts,
-    inputs: &[Vec<u8>],
+    texts: &mut Texts,
+    inputs: &[Input],
     term: &Tree,
-) -> Result<Vec<u8>, NoMemory> {
-    let mut text = Report::new(alloc);
-    text.say("(value-triple ");
-    if !inputs.is_empty() {
-        put_bound(&mut text, inputs);
+) -> Result<Tree, NoMemory> {
+    if inputs.is_empty() {
+        return term.copy(alloc);
     }
-    text.made(printed(alloc, term, texts));
-    text.say(if inputs.is_empty() { ")" } else { "))" });
-    text.into_bytes()
+    let bound = bound_in(alloc, texts, inputs)?;
+    call_on_two(alloc, texts, b"LET", bound, term.copy(alloc)?)
 }
 
-/// Puts a value behind its term.
-fn put_value(report: &mut Report, value: &Value) {
+/// Puts a value behind its term, an integer with at least so many bits.
+fn put_value(report: &mut Report, value: &Value, bits: usize) {
     match value {
         Value::Is(object) if object.len() <= MOST_BYTES => {
             report.say(" = ");
-            put_in_bases(report, object.as_slice(), 0);
+            put_in_bases(report, object.as_slice(), bits);
         }
         Value::Is(object) => {
             report.say(" = ");
@@ -73,7 +68,7 @@ fn put_value(report: &mut Report, value: &Value) {
         }
         Value::Lacks(cause) => {
             report.say(" has no value, ");
-            report.say(cause);
+            put_lack(report, *cause);
         }
         Value::Unknown => {}
     }
@@ -83,11 +78,11 @@ fn put_value(report: &mut Report, value: &Value) {
 pub(crate) fn value_on<R: Threads + Sync>(
     asker: &Asker<R>,
     texts: &mut Texts,
-    inputs: &[Vec<u8>],
+    inputs: &[Input],
     term: &Tree,
 ) -> Result<Value, NoMemory> {
-    let text = value_text(asker.alloc, texts, inputs, term)?;
-    asker.value(texts, &text)
+    let term = term_on(asker.alloc, texts, inputs, term)?;
+    asker.value(texts, term)
 }
 
 /// Puts a part with its value, on a line.
@@ -95,23 +90,23 @@ fn put_part<R: Threads + Sync>(
     asker: &Asker<R>,
     texts: &mut Texts,
     report: &mut Report,
-    inputs: &[Vec<u8>],
+    inputs: &[Input],
     part: Part,
     indent: usize,
 ) -> Result<(), NoMemory> {
     let value = value_on(asker, texts, inputs, part.tree)?;
     report.times(indent, b' ');
     put_front_of(asker.alloc, texts, report, part.tree);
-    put_value(report, &value);
+    put_value(report, &value, 0);
     report.say("\n");
     Ok(())
 }
 
 /// The bits of a variable's shape, without the sign; 0 where it has none.
-fn bits_of(texts: &Texts, bindings: &Option<Bindings>, name: &[u8]) -> usize {
+fn bits_of(bindings: &Option<Bindings>, variable: TextId) -> usize {
     if let Some(all) = bindings {
         for i in 0..all.len() {
-            if texts.text(all.variable(i)) == name {
+            if all.variable(i) == variable {
                 return match all.shape(i).as_integer() {
                     Some(indices) => indices.len().saturating_sub(1),
                     None => 0,
@@ -120,6 +115,21 @@ fn bits_of(texts: &Texts, bindings: &Option<Bindings>, name: &[u8]) -> usize {
         }
     }
     0
+}
+
+/// How many bits each integer of an input is shown with at least.
+pub fn widths_of(
+    alloc: Global,
+    texts: &Texts,
+    form: &Tree,
+    inputs: &[Input],
+) -> Result<Vec<usize>, NoMemory> {
+    let bindings = bindings_of(alloc, texts, form)?;
+    let mut widths = Vec::new(alloc);
+    for input in inputs {
+        widths.push(bits_of(&bindings, input.variable))?;
+    }
+    Ok(widths)
 }
 
 /// The bindings of a theorem's form.
@@ -136,16 +146,15 @@ pub(crate) fn put_inputs(
     texts: &Texts,
     report: &mut Report,
     form: &Tree,
-    inputs: &[Vec<u8>],
+    inputs: &[Input],
 ) -> Result<(), NoMemory> {
     let bindings = bindings_of(alloc, texts, form)?;
     report.say("   the input:\n");
-    for line in inputs {
-        let (name, object) = parts_of_input(line.as_slice());
+    for input in inputs {
         report.say("     ");
-        report.text(name);
+        report.text(&input.name);
         report.say(" = ");
-        put_in_bases(report, object, bits_of(texts, &bindings, name));
+        put_in_bases(report, &input.text, bits_of(&bindings, input.variable));
         report.say("\n");
     }
     Ok(())
@@ -157,7 +166,7 @@ fn put_hypothesis<R: Threads + Sync>(
     texts: &mut Texts,
     report: &mut Report,
     form: &Tree,
-    inputs: &[Vec<u8>],
+    inputs: &[Input],
 ) -> Result<(), NoMemory> {
     if let Some(hyp) = option_of(texts, form, b":HYP") {
         report.say("   the hypothesis on it:\n");
@@ -170,19 +179,115 @@ fn put_hypothesis<R: Threads + Sync>(
     Ok(())
 }
 
+/// A part of a conclusion, and its value.
+#[derive(Drop)]
+struct Told<'a> {
+    part: Opened<'a>,
+    value: Value,
+}
+
+/// The bits of an integer; 0 of another value.
+fn bits_in(value: &Value) -> usize {
+    match value {
+        Value::Is(object) => integer_bits(object.as_slice()),
+        Value::Lacks(_) | Value::Unknown => 0,
+    }
+}
+
+/// The most bits of the values of the parts of one part.
+fn width_in(told: &[Told], parent: Option<usize>) -> usize {
+    let mut bits = 0;
+    for each in told {
+        if each.part.parent == parent {
+            bits = bits.max(bits_in(&each.value));
+        }
+    }
+    bits
+}
+
+/// The part in front of one, of two that a part has; none where it has others.
+fn sibling<'a, 'b>(told: &'b [Told<'a>], number: usize, parent: usize) -> Option<&'b Told<'a>> {
+    let mut found = None;
+    for (i, each) in told.iter().enumerate() {
+        if each.part.parent == Some(parent) && i != number {
+            if number < i || found.is_some() {
+                return None;
+            }
+            found = Some(each);
+        }
+    }
+    found
+}
+
+/// Whether a part says that two values are equal.
+fn is_equation(texts: &Texts, told: &[Told], number: usize) -> bool {
+    match told.get(number) {
+        Some(each) => is_among(head_of(texts, each.part.tree), "EQUAL = EQL"),
+        None => false,
+    }
+}
+
+/// Puts in which bits the two sides of an equation differ, below the second.
+fn put_differing(texts: &Texts, report: &mut Report, told: &[Told], number: usize, bits: usize) {
+    let Some(second) = told.get(number) else {
+        return;
+    };
+    let Some(parent) = second.part.parent else {
+        return;
+    };
+    let Some(first) = sibling(told, number, parent) else {
+        return;
+    };
+    if let (true, Value::Is(one), Value::Is(other)) = (
+        is_equation(texts, told, parent),
+        &first.value,
+        &second.value,
+    ) {
+        put_difference(report, one, other, bits, indent_of(second.part));
+    }
+}
+
+/// How far a part is indented.
+fn indent_of(part: Opened) -> usize {
+    part.depth.saturating_mul(2).saturating_add(5)
+}
+
+/// Puts a part with its value, on a line, and in which bits it differs from the one beside it.
+fn put_told(
+    alloc: Global,
+    texts: &Texts,
+    report: &mut Report,
+    told: &[Told],
+    number: usize,
+    each: &Told,
+) {
+    let bits = width_in(told, each.part.parent);
+    report.times(indent_of(each.part), b' ');
+    put_front_of(alloc, texts, report, each.part.tree);
+    put_value(report, &each.value, bits);
+    report.say("\n");
+    put_differing(texts, report, told, number, bits);
+}
+
 /// Puts a term with its value on an input, and below it its sides and parts.
 pub(crate) fn put_parts<R: Threads + Sync>(
     asker: &Asker<R>,
     texts: &mut Texts,
     report: &mut Report,
     term: &Tree,
-    inputs: &[Vec<u8>],
+    inputs: &[Input],
 ) -> Result<(), NoMemory> {
-    for (i, part) in claims(asker.alloc, texts, term)?.iter().enumerate() {
-        if i < MOST_PARTS {
-            let indent = part.depth.saturating_mul(2).saturating_add(5);
-            put_part(asker, texts, report, inputs, *part, indent)?;
-        }
+    let parts = Parts::of(asker.alloc, texts, asker.before, term)?;
+    let mut told = Vec::new(asker.alloc);
+    for part in &parts.all {
+        let term = parts.term(asker.alloc, texts, *part)?;
+        told.push(Told {
+            part: *part,
+            value: value_on(asker, texts, inputs, &term)?,
+        })?;
+    }
+    for (number, each) in told.iter().enumerate() {
+        put_told(asker.alloc, texts, report, &told, number, each);
     }
     Ok(())
 }
@@ -193,7 +298,7 @@ pub(crate) fn put_on_input<R: Threads + Sync>(
     texts: &mut Texts,
     report: &mut Report,
     form: &Tree,
-    inputs: &[Vec<u8>],
+    inputs: &[Input],
 ) -> Result<(), NoMemory> {
     put_inputs(asker.alloc, texts, report, form, inputs)?;
     put_hypothesis(asker, texts, report, form, inputs)?;

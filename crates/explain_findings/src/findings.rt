@@ -1,14 +1,12 @@
-//! What is found out of a line that asks for a look.
+//! What is found out of an event that asks for a look.
 
 use crate::advice::advice_of;
 use crate::asker::Asker;
-use crate::attempts::put_attempts;
-use crate::cause::{Cause, cause_of};
 use crate::cover::put_cover;
 use crate::evaluation::{put_on_input, put_parts};
 use crate::forms::element;
 use crate::vacuity::put_vacuity;
-use explain_report::{Record, Report, Verdict};
+use explain_report::{Cause, Found, Input, Report, Verdict};
 use gl_logic::{NoMemory, Texts, Tree};
 use std::rt::Clock;
 use std::thread::Threads;
@@ -32,55 +30,52 @@ fn put_undecided<R: Threads + Sync + Clock>(
     texts: &mut Texts,
     report: &mut Report,
     form: &Tree,
-    record: &Record,
+    inputs: &[Input],
     cause: Cause,
 ) -> Result<(), NoMemory> {
-    if cause.word == "uncovered" {
-        return put_cover(asker, texts, report, form, cause);
+    if let Cause::Uncovered(case, variable) = cause {
+        return put_cover(asker, texts, report, form, case, variable);
     }
-    if !record.inputs.as_slice().is_empty() {
-        put_on_input(asker, texts, report, form, record.inputs.as_slice())?;
-    }
-    if asker.tries {
-        put_attempts(asker, texts, report, form, cause.word)?;
+    if !inputs.is_empty() {
+        put_on_input(asker, texts, report, form, inputs)?;
     }
     Ok(())
 }
 
-/// Puts what is found out of the event of a form, by what its line says.
+/// Puts what is found out of the event of a form, by what came of it.
 fn put_found<R: Threads + Sync + Clock>(
     asker: &Asker<R>,
     texts: &mut Texts,
     report: &mut Report,
     form: &Tree,
-    record: &Record,
+    found: &Found,
 ) -> Result<(), NoMemory> {
-    match record.verdict() {
+    match found.verdict {
         Verdict::Vacuous => put_vacuity(asker, texts, report, form),
-        Verdict::Refuted => put_on_input(asker, texts, report, form, record.inputs.as_slice()),
+        Verdict::Refuted => put_on_input(asker, texts, report, form, &found.inputs),
         Verdict::Failed => put_assert(asker, texts, report, form),
-        Verdict::Undecided => match cause_of(record.text.as_slice()) {
-            Some(cause) => put_undecided(asker, texts, report, form, record, cause),
+        Verdict::Undecided => match found.cause {
+            Some(cause) => put_undecided(asker, texts, report, form, &found.inputs, cause),
             None => Ok(()),
         },
         _ => Ok(()),
     }
 }
 
-/// Puts what is said of a line that asks for a look: what it means, what is found out of the event of its form in the state in
-/// front of it, and what to try. Of a refusal, and of a line that asks for none, nothing.
+/// Puts what is said of an event that asks for a look, by what came of it: what that means, what is found out of the event of
+/// its form in the state in front of it, and what to try. Of a refusal, and of an event that asks for none, nothing.
 pub fn put_finding<R: Threads + Sync + Clock>(
     asker: &Asker<R>,
     texts: &mut Texts,
     report: &mut Report,
     form: &Tree,
-    record: &Record,
+    found: &Found,
 ) -> Result<(), NoMemory> {
-    let Some(advice) = advice_of(record) else {
+    let Some(advice) = advice_of(found) else {
         return Ok(());
     };
     advice.put_meaning(report);
-    put_found(asker, texts, report, form, record)?;
+    put_found(asker, texts, report, form, found)?;
     advice.put_help(report);
     Ok(())
 }

@@ -81,14 +81,16 @@ pub(crate) fn printed(alloc: Global, tree: &Tree, texts: &Texts) -> Result<Vec<u
     Ok(bytes)
 }
 
-/// A backquote or a comma, where a form is one in front of another form.
-fn mark_of(texts: &Texts, form: &Tree) -> Option<&'static str> {
+/// A backquote or a comma, where a form is one in front of another form; and a quote, where these are written as marks too.
+fn mark_of(texts: &Texts, form: &Tree, marks_quotes: bool) -> Option<&'static str> {
     let is_pair = form.elements().len() == 2 && word_of(texts, form.tail()) == b"NIL".as_slice();
     let head = head_of(texts, form);
     if is_pair && head == b"`".as_slice() {
         Some("`")
     } else if is_pair && head == b",".as_slice() {
         Some(",")
+    } else if is_pair && marks_quotes && head == b"QUOTE".as_slice() {
+        Some("'")
     } else {
         None
     }
@@ -120,10 +122,11 @@ fn put_front<'a>(
     alloc: Global,
     texts: &Texts,
     form: &'a Tree,
+    marks_quotes: bool,
     bytes: &mut Vec<u8>,
     left: &mut Vec<Left<'a>>,
 ) -> Result<(), NoMemory> {
-    match mark_of(texts, form) {
+    match mark_of(texts, form, marks_quotes) {
         Some(mark) => {
             bytes.extend_from_slice(mark.as_bytes())?;
             for inner in form.elements().iter().take(1) {
@@ -139,30 +142,55 @@ fn put_front<'a>(
     Ok(())
 }
 
-/// Writes the text of a form, with a stack for what is left of it.
-fn put_form<'a>(
+/// The text of a form, with a stack for what is left of it.
+fn text_of(
     alloc: Global,
+    form: &Tree,
     texts: &Texts,
-    form: &'a Tree,
-    bytes: &mut Vec<u8>,
-    left: &mut Vec<Left<'a>>,
-) -> Result<(), NoMemory> {
+    marks_quotes: bool,
+) -> Result<Vec<u8>, NoMemory> {
+    let mut bytes = Vec::new(alloc);
+    let mut left = Vec::new(alloc);
     left.push(Left::Form(form))?;
     for _ in 0..MOST_PIECES {
         match left.pop() {
-            None => return Ok(()),
+            None => return Ok(bytes),
             Some(Left::Bytes(piece)) => bytes.extend_from_slice(piece.as_bytes())?,
-            Some(Left::Form(part)) => put_front(alloc, texts, part, bytes, left)?,
+            Some(Left::Form(part)) => {
+                put_front(alloc, texts, part, marks_quotes, &mut bytes, &mut left)?;
+            }
         }
     }
-    Ok(())
+    Ok(bytes)
 }
 
 /// The text of a form, which reads as the form again: a backquote and a comma stand in front of what they are of.
 pub(crate) fn form_text(alloc: Global, form: &Tree, texts: &Texts) -> Result<Vec<u8>, NoMemory> {
+    text_of(alloc, form, texts, false)
+}
+
+/// The same, and so does a quote.
+pub(crate) fn quoting_text(alloc: Global, form: &Tree, texts: &Texts) -> Result<Vec<u8>, NoMemory> {
+    text_of(alloc, form, texts, true)
+}
+
+/// The text of an event, in which a quote stands in front of each option that is quoted.
+pub(crate) fn event_text(alloc: Global, form: &Tree, texts: &Texts) -> Result<Vec<u8>, NoMemory> {
     let mut bytes = Vec::new(alloc);
-    let mut left = Vec::new(alloc);
-    put_form(alloc, texts, form, &mut bytes, &mut left)?;
+    for number in 0..form.elements().len() {
+        if let Some(part) = element(form, number) {
+            bytes.push(if number == 0 { b'(' } else { b' ' })?;
+            let is_quoted = head_of(texts, part) == b"QUOTE".as_slice();
+            match element(part, 1) {
+                Some(object) if is_quoted => {
+                    bytes.push(b'\'')?;
+                    bytes.extend_from_slice(&form_text(alloc, object, texts)?)?;
+                }
+                _ => bytes.extend_from_slice(&form_text(alloc, part, texts)?)?,
+            }
+        }
+    }
+    bytes.push(b')')?;
     Ok(bytes)
 }
 
@@ -244,20 +272,6 @@ pub(crate) fn conjuncts<'a>(
         keeps_calls: false,
     };
     parted(alloc, texts, hyp, parting)
-}
-
-/// A conclusion, and the sides and parts of what it says.
-pub(crate) fn claims<'a>(
-    alloc: Global,
-    texts: &Texts,
-    concl: &'a Tree,
-) -> Result<Vec<Part<'a>>, NoMemory> {
-    let parting = Parting {
-        heads: "EQUAL = EQL EQ < <= > >= AND OR NOT IMPLIES IFF",
-        deepest: 3,
-        keeps_calls: true,
-    };
-    parted(alloc, texts, concl, parting)
 }
 
 /// Whether a symbol stands outside quotes in what is left on a stack.

@@ -1,6 +1,6 @@
 //! The events of a book taken in once more, without deciding a theorem, up to a place that is to be explained.
 
-ghost use Rattle.std.specs.Prelude.{◌≡◌, [], IfOk, MatchResult};
+ghost use Rattle.std.specs.Prelude.{◌≡◌, ◌≢◌, [], IfOk, IfSome, MatchOption, MatchResult};
 ghost use Rattle.gl_logic.specs.Names.{with_name};
 ghost use Rattle.event_world.specs.Seen.{event_seen};
 ghost use Rattle.event_world.specs.Suits.{Suits};
@@ -79,7 +79,7 @@ fn take_event<R: Threads + Sync>(
 }
 
 /// Takes a form in. Its fault, where it is refused; the state is then as before.
-fn take_form<R: Threads + Sync>(
+pub fn take_form<R: Threads + Sync>(
     rt: &R,
     alloc: Global,
     form: &Form,
@@ -162,6 +162,25 @@ impl Replay {
         ensures { result.now ≡ self.now.state }
     {
         &self.state
+    }
+
+    /// The state in front of an item, where that is where the replay stands.
+    pub fn state_at(&self, item: u64) -> Option<&State>
+        ensures there { MatchOption result (self.now.next ≢ item) (λ _. self.now.next ≡ item) }
+        ensures state { IfSome result (λ s. s.now ≡ self.now.state) }
+    {
+        if self.next == item {
+            Some(&self.state)
+        } else {
+            None
+        }
+    }
+
+    /// The state so far, itself.
+    pub fn into_state(self) -> State
+        ensures { result ≡ self.state }
+    {
+        self.state
     }
 
     /// Takes items in, up to the one of a number or the first that is refused.

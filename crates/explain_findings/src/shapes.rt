@@ -1,6 +1,7 @@
 //! Shapes in words, and the conjuncts that keep a variable within its shape.
 
 use crate::forms::{printed, word_of};
+use crate::making::{call, call_on, call_on_two, quoted, word};
 use explain_report::Report;
 use gl_logic::{NoMemory, Texts, Tree};
 use shape_spec::Shape;
@@ -64,90 +65,74 @@ pub(crate) fn put_shape(alloc: Global, texts: &Texts, report: &mut Report, shape
     }
 }
 
-/// Puts a call on an argument.
-fn put_call(report: &mut Report, head: &str, argument: &[u8]) {
-    report.say("(");
-    report.say(head);
-    report.say(" ");
-    report.text(argument);
-    report.say(")");
-}
-
-/// Puts a call on a number and another argument.
-fn put_call_on(report: &mut Report, head: &str, number: usize, argument: &[u8]) {
-    report.say("(");
-    report.say(head);
-    report.say(" ");
-    report.number(number as u64);
-    report.say(" ");
-    report.text(argument);
-    report.say(")");
-}
-
-/// Puts the term of what stands behind so many conses at a place.
-fn put_behind(report: &mut Report, place: &[u8], count: usize) {
-    for _ in 0..count {
-        report.say("(CDR ");
-    }
-    report.text(place);
-    report.times(count, b')');
-}
-
 /// The term of what stands behind so many conses at a place.
-fn behind(alloc: Global, place: &[u8], count: usize) -> Result<Vec<u8>, NoMemory> {
-    let mut text = Report::new(alloc);
-    put_behind(&mut text, place, count);
-    text.into_bytes()
+fn behind(alloc: Global, texts: &mut Texts, place: &Tree, count: usize) -> Result<Tree, NoMemory> {
+    let mut term = place.copy(alloc)?;
+    for _ in 0..count {
+        term = call_on(alloc, texts, b"CDR", term)?;
+    }
+    Ok(term)
 }
 
 /// The term of an element of the list at a place: by its number, where the list ends in NIL.
 fn element_at(
     alloc: Global,
-    place: &[u8],
+    texts: &mut Texts,
+    place: &Tree,
     number: usize,
     is_proper: bool,
-) -> Result<Vec<u8>, NoMemory> {
-    let mut text = Report::new(alloc);
+) -> Result<Tree, NoMemory> {
     if is_proper {
-        put_call_on(&mut text, "NTH", number, place);
-    } else {
-        text.say("(CAR ");
-        put_behind(&mut text, place, number);
-        text.say(")");
+        let number = Tree::int(number as i128);
+        return call_on_two(alloc, texts, b"NTH", number, place.copy(alloc)?);
     }
-    text.into_bytes()
+    let rest = behind(alloc, texts, place, number)?;
+    call_on(alloc, texts, b"CAR", rest)
 }
 
-/// Puts that so many conses stand at a place, and behind them NIL.
-fn put_proper(report: &mut Report, place: &[u8], count: usize) {
-    put_call(report, "TRUE-LISTP", place);
-    report.say(" (EQUAL ");
-    report.number(count as u64);
-    report.say(" ");
-    put_call(report, "LEN", place);
-    report.say(")");
+/// Puts the terms last that say that so many conses stand at a place, and behind them NIL.
+fn push_proper(
+    alloc: Global,
+    texts: &mut Texts,
+    place: &Tree,
+    count: usize,
+    terms: &mut Vec<Tree>,
+) -> Result<(), NoMemory> {
+    terms.push(call_on(alloc, texts, b"TRUE-LISTP", place.copy(alloc)?)?)?;
+    let length = call_on(alloc, texts, b"LEN", place.copy(alloc)?)?;
+    terms.push(call_on_two(alloc, texts, b"EQUAL", Tree::int(count as i128), length)?)?;
+    Ok(())
 }
 
-/// Puts that so many conses stand at a place, and behind them NIL, where the list is to end so.
-fn put_length(report: &mut Report, place: &[u8], count: usize, is_proper: bool) {
+/// Puts the terms last that say that so many conses stand at a place, and behind them NIL, where the list is to end so.
+fn push_length(
+    alloc: Global,
+    texts: &mut Texts,
+    place: &Tree,
+    count: usize,
+    is_proper: bool,
+    terms: &mut Vec<Tree>,
+) -> Result<(), NoMemory> {
     if is_proper {
-        return put_proper(report, place, count);
+        return push_proper(alloc, texts, place, count, terms);
     }
-    report.say("T");
+    terms.push(word(texts, b"T")?)?;
     for number in 0..count {
-        report.say(" (CONSP ");
-        put_behind(report, place, number);
-        report.say(")");
+        let rest = behind(alloc, texts, place, number)?;
+        terms.push(call_on(alloc, texts, b"CONSP", rest)?)?;
     }
+    Ok(())
 }
 
-/// Puts the equality of an object with a place.
-fn put_equality(alloc: Global, texts: &Texts, report: &mut Report, object: &Tree, place: &[u8]) {
-    report.say("(EQUAL '");
-    report.made(printed(alloc, object, texts));
-    report.say(" ");
-    report.text(place);
-    report.say(")");
+/// The equality of an object with a place.
+fn equality(
+    alloc: Global,
+    texts: &mut Texts,
+    object: &Tree,
+    place: &Tree,
+) -> Result<Tree, NoMemory> {
+    let object = quoted(alloc, texts, object)?;
+    call_on_two(alloc, texts, b"EQUAL", object, place.copy(alloc)?)
 }
 
 /// Whether a shape is NIL alone.
@@ -158,49 +143,69 @@ fn is_nil(texts: &Texts, shape: &Shape) -> bool {
     }
 }
 
-/// Puts the term that is not NIL exactly where the object at a place, the text of a term, is of a shape. Cover sees that it is.
-pub(crate) fn put_conjunct(
+/// The term that an integer at a place is of so many bits, its sign among them, or natural of one bit less.
+fn is_integer(
     alloc: Global,
-    texts: &Texts,
-    report: &mut Report,
+    texts: &mut Texts,
+    bits: usize,
+    place: &Tree,
+    is_natural: bool,
+) -> Result<Tree, NoMemory> {
+    let place = place.copy(alloc)?;
+    if is_natural && 1 < bits {
+        return call_on_two(
+            alloc,
+            texts,
+            b"UNSIGNED-BYTE-P",
+            Tree::int((bits - 1) as i128),
+            place,
+        );
+    }
+    call_on_two(
+        alloc,
+        texts,
+        b"SIGNED-BYTE-P",
+        Tree::int(bits as i128),
+        place,
+    )
+}
+
+/// The term that is not NIL exactly where the object at a place, a term, is of a shape, or of that with all of its integers
+/// natural. Cover sees that it is.
+pub(crate) fn conjunct(
+    alloc: Global,
+    texts: &mut Texts,
     shape: &Shape,
-    place: &[u8],
-) {
+    place: &Tree,
+    is_natural: bool,
+) -> Result<Tree, NoMemory> {
     if let Some(indices) = shape.as_integer() {
-        return put_call_on(report, "SIGNED-BYTE-P", indices.len(), place);
+        return is_integer(alloc, texts, indices.len(), place, is_natural);
     }
     match shape {
-        Shape::Boolean(_) => put_call(report, "BOOLEANP", place),
-        Shape::Constant(object) => put_equality(alloc, texts, report, object, place),
+        Shape::Boolean(_) => call_on(alloc, texts, b"BOOLEANP", place.copy(alloc)?),
+        Shape::Constant(object) => equality(alloc, texts, object, place),
         Shape::Choice(_, first, second) => {
-            report.say("(OR ");
-            put_conjunct(alloc, texts, report, first, place);
-            report.say(" ");
-            put_conjunct(alloc, texts, report, second, place);
-            report.say(")");
+            let first = conjunct(alloc, texts, first, place, is_natural)?;
+            let second = conjunct(alloc, texts, second, place, is_natural)?;
+            call_on_two(alloc, texts, b"OR", first, second)
         }
         Shape::List(elements, tail) => {
             let is_proper = is_nil(texts, tail);
             let count = elements.len();
-            report.say("(AND ");
-            put_length(report, place, count, is_proper);
+            let mut terms = Vec::new(alloc);
+            push_length(alloc, texts, place, count, is_proper, &mut terms)?;
             for i in 0..elements.len() {
+                let at = element_at(alloc, texts, place, i, is_proper)?;
                 let element = &elements[elements.len() - 1 - i];
-                report.say(" ");
-                match element_at(alloc, place, i, is_proper) {
-                    Ok(at) => put_conjunct(alloc, texts, report, element, &at),
-                    Err(_) => report.refuse(),
-                }
+                terms.push(conjunct(alloc, texts, element, &at, is_natural)?)?;
             }
             if !is_proper {
-                report.say(" ");
-                match behind(alloc, place, count) {
-                    Ok(end) => put_conjunct(alloc, texts, report, tail, &end),
-                    Err(_) => report.refuse(),
-                }
+                let end = behind(alloc, texts, place, count)?;
+                terms.push(conjunct(alloc, texts, tail, &end, is_natural)?)?;
             }
-            report.say(")");
+            call(alloc, texts, b"AND", terms)
         }
-        Shape::Integer(_) => {}
+        Shape::Integer(_) => Ok(Tree::nil()),
     }
 }

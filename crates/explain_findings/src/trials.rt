@@ -1,284 +1,255 @@
-//! What may decide an event that is left undecided, in the order that costs least.
+//! What may decide an event that is left undecided.
 
 ghost use Rattle.std.specs.Prelude.{◌≡◌, true, false};
 
-use crate::forms::{form_text, option_of};
+use crate::forms::{event_text, form_text};
+use crate::pace::{Pace, with_cells, with_room, with_steps};
 use crate::reordered::{mixed, narrow_first, narrowed, narrowed_hypothesis};
-use crate::theorem_text::{Theorem, by_cases, changed, theorem_of, without_clocks};
-use explain_report::Report;
+use crate::theorem::{Theorem, by_cases, changed, theorem_of, without_clocks};
+use explain_report::{Cause, Report};
 use gl_base::limits::Limits;
 use gl_logic::{NoMemory, Texts, Tree};
 use shape_spec::Mode;
 use std::alloc::Global;
 
-/// What is tried: what changes in the book or in the words of the command, the event then, the mode, and the limits. A hint
-/// proves nothing of the theorem itself.
+/// What is tried: what changes in the book, which is nothing where only the limits change, the form of the event then, the mode,
+/// and how far that is. A hint proves nothing of the theorem itself.
 #[derive(Drop)]
 pub(crate) struct Trial {
     pub change: Vec<u8>,
-    pub text: Vec<u8>,
+    pub form: Tree,
     pub mode: Option<Mode>,
-    pub limits: Limits,
     pub is_hint: bool,
+    pub pace: Pace,
 }
 
 impl Trial {
     /// The event itself, or one that says the same: what is found out is an answer to it.
-    fn same(change: Vec<u8>, text: Vec<u8>, mode: Option<Mode>, limits: Limits) -> Trial
+    fn same(change: Vec<u8>, form: Tree, mode: Option<Mode>, pace: Pace) -> Trial
         ensures { result.is_hint ≡ false }
     {
         Trial {
             change,
-            text,
+            form,
             mode,
-            limits,
             is_hint: false,
+            pace,
         }
     }
 
     /// A theorem of narrower widths, whose hypothesis says more.
-    fn narrower(change: Vec<u8>, text: Vec<u8>, limits: Limits) -> Trial
+    fn narrower(change: Vec<u8>, form: Tree, pace: Pace) -> Trial
         ensures { result.is_hint ≡ true }
     {
         Trial {
             change,
-            text,
+            form,
             mode: None,
-            limits,
             is_hint: true,
+            pace,
         }
     }
 }
 
-/// Trials in their order, of an event under limits.
+/// What is known of the run that left an event undecided: its limits, its microseconds, and the mode of its theorem, where it
+/// is one that is not by cases.
+#[derive(Clone, Copy)]
+pub(crate) struct Spent {
+    pub limits: Limits,
+    pub micros: u64,
+    pub mode: Option<Mode>,
+}
+
+impl Spent {
+    /// Whether the run tried a mode too, behind the one of the theorem.
+    fn has_tried(&self, mode: Mode) -> bool {
+        match self.mode {
+            Some(Mode::Bdd) => true,
+            Some(Mode::Param) => mode != Mode::Bdd,
+            Some(Mode::Sat) | None => false,
+        }
+    }
+}
+
+/// Trials of an event, in the order in which those that cost the same are tried.
 #[derive(Drop)]
-pub(crate) struct Ladder {
+pub(crate) struct Ladder<'a> {
     alloc: Global,
-    event: Vec<u8>,
-    // whether the event is a theorem by cases
-    is_by_cases: bool,
-    limits: Limits,
+    event: &'a Tree,
+    spent: Spent,
     pub trials: Vec<Trial>,
 }
 
-impl Ladder {
-    /// Adds another text.
-    fn push_text(&mut self, change: Vec<u8>, text: Vec<u8>) -> Result<(), NoMemory> {
-        self.trials
-            .push(Trial::same(change, text, None, self.limits))?;
+impl<'a> Ladder<'a> {
+    /// Adds another form, from few nodes and clauses on.
+    fn push_form(&mut self, change: Vec<u8>, form: Tree) -> Result<(), NoMemory> {
+        let pace = Pace::from_little(&self.spent.limits);
+        self.trials.push(Trial::same(change, form, None, pace))?;
         Ok(())
     }
 
-    /// Adds the same event in a mode and under limits.
-    fn push_same(
+    /// Adds the same event in a mode.
+    fn push_same(&mut self, words: &str, mode: Option<Mode>, pace: Pace) -> Result<(), NoMemory> {
+        let change = words.as_bytes().to_vec(self.alloc)?;
+        let form = self.event.copy(self.alloc)?;
+        self.trials.push(Trial::same(change, form, mode, pace))?;
+        Ok(())
+    }
+
+    /// Adds the event, in a mode, beyond the limits of its run, where there are others, and how much they grow in a round.
+    fn push_beyond(
         &mut self,
         words: &str,
         mode: Option<Mode>,
-        limits: Limits,
+        most: Limits,
+        growth: u64,
     ) -> Result<(), NoMemory> {
-        let change = words.as_bytes().to_vec(self.alloc)?;
-        let text = self.event.clone()?;
-        self.trials.push(Trial::same(change, text, mode, limits))?;
-        Ok(())
-    }
-
-    /// Adds the same event after other words of the command, where these change a limit.
-    fn push_option(&mut self, words: &str, limits: Limits) -> Result<(), NoMemory> {
-        if limits == self.limits {
+        if most == self.spent.limits {
             return Ok(());
         }
-        self.push_same(words, None, limits)
+        let pace = Pace::beyond(&self.spent.limits, most, self.spent.micros, growth);
+        self.push_same(words, mode, pace)
     }
 
-    /// Adds the same event behind a mode. A theorem by cases is tried in its own mode alone, so no mode is named for it.
+    /// Adds the same event behind a mode that is not its own: beyond the limits under which its run has tried that.
     fn push_mode(&mut self, words: &str, mode: Mode) -> Result<(), NoMemory> {
-        if self.is_by_cases {
+        let limits = self.spent.limits;
+        if self.spent.mode == None || self.spent.mode == Some(mode) {
             return Ok(());
         }
-        self.push_same(words, Some(mode), self.limits)
+        if self.spent.has_tried(mode) {
+            let most = with_room(&limits, 4_000_000, 1_000_000);
+            return self.push_beyond(words, Some(mode), most, 16);
+        }
+        self.push_same(words, Some(mode), Pace::from_little(&limits))
+    }
+
+    /// Adds each mode that the theorem does not have.
+    fn push_modes(&mut self) -> Result<(), NoMemory> {
+        self.push_mode("(gl-bdd-mode)", Mode::Bdd)?;
+        self.push_mode("(gl-param-mode)", Mode::Param)?;
+        self.push_mode("(gl-satlink-mode)", Mode::Sat)
     }
 
     /// Adds other bindings than a theorem has.
-    fn push_bindings(&mut self, theorem: &Theorem, bindings: &[u8]) -> Result<(), NoMemory> {
-        if bindings == theorem.bindings.as_slice() {
+    fn push_bindings(
+        &mut self,
+        texts: &mut Texts,
+        theorem: &Theorem,
+        bindings: &Tree,
+    ) -> Result<(), NoMemory> {
+        if bindings.same(theorem.bindings) {
             return Ok(());
         }
-        let change = option_text(self.alloc, bindings)?;
-        let text = changed(self.alloc, theorem, &theorem.hyp, bindings)?;
-        self.push_text(change, text)
-    }
-
-    /// Adds two orders of indices, which may be the same.
-    fn push_both(
-        &mut self,
-        theorem: &Theorem,
-        first: &[u8],
-        second: &[u8],
-    ) -> Result<(), NoMemory> {
-        self.push_bindings(theorem, first)?;
-        if second != first {
-            self.push_bindings(theorem, second)?;
-        }
-        Ok(())
+        let change = option_text(self.alloc, texts, bindings)?;
+        let form = changed(self.alloc, texts, theorem, theorem.hyp, bindings)?;
+        self.push_form(change, form)
     }
 
     /// Adds the orders of indices: equal widths mixed, and then the narrow ones in front.
-    fn push_orders(&mut self, theorem: &Option<Theorem>) -> Result<(), NoMemory> {
-        let Some(theorem) = theorem else {
+    fn push_orders(&mut self, texts: &mut Texts, theorem: &Theorem) -> Result<(), NoMemory> {
+        let first = mixed(self.alloc, texts, &theorem.bound)?;
+        let second = narrow_first(self.alloc, texts, &theorem.bound)?;
+        self.push_bindings(texts, theorem, &first)?;
+        if second.same(&first) {
             return Ok(());
-        };
-        let first = mixed(self.alloc, &theorem.bound)?;
-        let second = narrow_first(self.alloc, &theorem.bound)?;
-        self.push_both(theorem, &first, &second)
-    }
-
-    /// Adds a text that is told as it is, where there is one.
-    fn push_whole(&mut self, text: Option<Vec<u8>>) -> Result<(), NoMemory> {
-        match text {
-            Some(text) => self.push_text(text.clone()?, text),
-            None => Ok(()),
         }
+        self.push_bindings(texts, theorem, &second)
     }
 
     /// Adds narrower widths, which are a hint.
-    fn push_narrowed(&mut self, theorem: &Theorem) -> Result<(), NoMemory> {
-        let bindings = narrowed(self.alloc, &theorem.bound)?;
-        let text = narrowed_text(self.alloc, theorem, &bindings)?;
-        self.trials
-            .push(Trial::narrower(bindings, text, self.limits))?;
+    fn push_narrowed(&mut self, texts: &mut Texts, theorem: &Theorem) -> Result<(), NoMemory> {
+        let bindings = narrowed(self.alloc, texts, &theorem.bound)?;
+        let hyp = narrowed_hypothesis(self.alloc, texts, &theorem.bound, theorem.hyp)?;
+        let form = changed(self.alloc, texts, theorem, &hyp, &bindings)?;
+        let change = form_text(self.alloc, &bindings, texts)?;
+        let pace = Pace::from_little(&self.spent.limits);
+        self.trials.push(Trial::narrower(change, form, pace))?;
         Ok(())
     }
 
     /// Adds the theorem by cases, where some variable has few values, and narrower widths, which are a hint.
-    fn push_others(&mut self, theorem: &Option<Theorem>) -> Result<(), NoMemory> {
+    fn push_others(
+        &mut self,
+        texts: &mut Texts,
+        theorem: &Option<Theorem>,
+    ) -> Result<(), NoMemory> {
         let Some(theorem) = theorem else {
             return Ok(());
         };
-        self.push_whole(by_cases(self.alloc, theorem)?)?;
-        self.push_narrowed(theorem)
+        if let Some(form) = by_cases(self.alloc, texts, theorem)? {
+            let change = event_text(self.alloc, &form, texts)?;
+            self.push_form(change, form)?;
+        }
+        self.push_narrowed(texts, theorem)
     }
 
     /// Adds what may decide a theorem that took all nodes.
-    fn push_of_nodes(&mut self, theorem: &Option<Theorem>) -> Result<(), NoMemory> {
-        let limits = with_nodes(&self.limits);
-        self.push_orders(theorem)?;
-        self.push_option("--nodes 4000000", limits)?;
-        self.push_mode("(gl-satlink-mode)", Mode::Sat)?;
-        self.push_mode("(gl-param-mode)", Mode::Param)?;
-        self.push_others(theorem)
+    fn push_of_nodes(&mut self, texts: &mut Texts) -> Result<(), NoMemory> {
+        let most = with_room(&self.spent.limits, 4_000_000, 1_000_000);
+        let theorem = theorem_of(self.alloc, texts, self.event)?;
+        if let Some(theorem) = &theorem {
+            self.push_orders(texts, theorem)?;
+        }
+        self.push_beyond("", None, most, 16)?;
+        self.push_modes()?;
+        self.push_others(texts, &theorem)
     }
 
-    /// Adds what may decide a theorem whose search learned all clauses.
-    fn push_of_clauses(&mut self, theorem: &Option<Theorem>) -> Result<(), NoMemory> {
-        let limits = with_clauses(&self.limits);
-        self.push_option("--clauses 1000000", limits)?;
-        self.push_mode("(gl-bdd-mode)", Mode::Bdd)?;
-        self.push_mode("(gl-param-mode)", Mode::Param)?;
-        self.push_others(theorem)
+    /// Adds what may decide a theorem whose search learned all clauses: no order of indices changes that.
+    fn push_of_clauses(&mut self, texts: &mut Texts) -> Result<(), NoMemory> {
+        let limits = self.spent.limits;
+        let theorem = theorem_of(self.alloc, texts, self.event)?;
+        self.push_modes()?;
+        self.push_beyond("", None, with_room(&limits, limits.nodes, 1_000_000), 16)?;
+        self.push_others(texts, &theorem)
+    }
+
+    /// Adds the event without its clocks.
+    fn push_unclocked(&mut self, texts: &Texts) -> Result<(), NoMemory> {
+        let form = without_clocks(self.alloc, texts, self.event)?;
+        let change = form_text(self.alloc, &form, texts)?;
+        let pace = Pace::once(&self.spent.limits);
+        self.trials.push(Trial::same(change, form, None, pace))?;
+        Ok(())
     }
 }
 
 /// The bindings of a theorem as its option.
-fn option_text(alloc: Global, bindings: &[u8]) -> Result<Vec<u8>, NoMemory> {
+fn option_text(alloc: Global, texts: &Texts, bindings: &Tree) -> Result<Vec<u8>, NoMemory> {
     let mut text = Report::new(alloc);
     text.say(":G-BINDINGS ");
-    text.text(bindings);
+    text.made(form_text(alloc, bindings, texts));
     text.into_bytes()
 }
 
-/// A theorem with narrower bindings, and with a hypothesis that keeps its variables within them.
-fn narrowed_text(alloc: Global, theorem: &Theorem, bindings: &[u8]) -> Result<Vec<u8>, NoMemory> {
-    let hyp = narrowed_hypothesis(alloc, &theorem.bound, &theorem.hyp)?;
-    changed(alloc, theorem, &hyp, bindings)
-}
-
-fn with_nodes(limits: &Limits) -> Limits {
-    Limits {
-        steps: limits.steps,
-        cells: limits.cells,
-        nodes: 4_000_000,
-        clauses: limits.clauses,
-        enum_bits: limits.enum_bits,
-        workers: limits.workers,
-    }
-}
-
-fn with_clauses(limits: &Limits) -> Limits {
-    Limits {
-        steps: limits.steps,
-        cells: limits.cells,
-        nodes: limits.nodes,
-        clauses: 1_000_000,
-        enum_bits: limits.enum_bits,
-        workers: limits.workers,
-    }
-}
-
-fn with_steps(limits: &Limits) -> Limits {
-    Limits {
-        steps: 99_999_999,
-        cells: limits.cells,
-        nodes: limits.nodes,
-        clauses: limits.clauses,
-        enum_bits: limits.enum_bits,
-        workers: limits.workers,
-    }
-}
-
-fn with_cells(limits: &Limits) -> Limits {
-    Limits {
-        steps: limits.steps,
-        cells: 4_000_000,
-        nodes: limits.nodes,
-        clauses: limits.clauses,
-        enum_bits: limits.enum_bits,
-        workers: limits.workers,
-    }
-}
-
-/// Adds what may decide a theorem that took all nodes, or whose search learned all clauses.
-fn push_searches(
-    ladder: &mut Ladder,
-    texts: &Texts,
-    form: &Tree,
-    is_of_nodes: bool,
-) -> Result<(), NoMemory> {
-    let theorem = theorem_of(ladder.alloc, texts, form)?;
-    if is_of_nodes {
-        ladder.push_of_nodes(&theorem)
-    } else {
-        ladder.push_of_clauses(&theorem)
-    }
-}
-
 /// Adds what may decide an event that is undecided for a cause.
-fn push_all(ladder: &mut Ladder, texts: &Texts, form: &Tree, word: &str) -> Result<(), NoMemory> {
-    let limits = ladder.limits;
-    match word {
-        "nodes" => push_searches(ladder, texts, form, true),
-        "clauses" => push_searches(ladder, texts, form, false),
-        "steps" => ladder.push_option("--steps 99999999", with_steps(&limits)),
-        "cells" => ladder.push_option("--cells 4000000", with_cells(&limits)),
-        "clock" => ladder.push_whole(Some(without_clocks(ladder.alloc, texts, form)?)),
+fn push_all(ladder: &mut Ladder, texts: &mut Texts, cause: Option<Cause>) -> Result<(), NoMemory> {
+    let limits = ladder.spent.limits;
+    match cause {
+        Some(Cause::Nodes) => ladder.push_of_nodes(texts),
+        Some(Cause::Clauses) => ladder.push_of_clauses(texts),
+        Some(Cause::Steps) => ladder.push_beyond("", None, with_steps(&limits), u64::MAX),
+        Some(Cause::Cells) => ladder.push_beyond("", None, with_cells(&limits), u64::MAX),
+        Some(Cause::Clock) => ladder.push_unclocked(texts),
         _ => Ok(()),
     }
 }
 
 /// What may decide an event that is undecided for a cause.
-pub(crate) fn ladder_of(
+pub(crate) fn ladder_of<'a>(
     alloc: Global,
-    texts: &Texts,
-    form: &Tree,
-    limits: &Limits,
-    word: &str,
-) -> Result<Ladder, NoMemory> {
+    texts: &mut Texts,
+    form: &'a Tree,
+    spent: Spent,
+    cause: Option<Cause>,
+) -> Result<Ladder<'a>, NoMemory> {
     let mut ladder = Ladder {
         alloc,
-        event: form_text(alloc, form, texts)?,
-        is_by_cases: option_of(texts, form, b":PARAM-BINDINGS").is_some(),
-        limits: *limits,
+        event: form,
+        spent,
         trials: Vec::new(alloc),
     };
-    push_all(&mut ladder, texts, form, word)?;
+    push_all(&mut ladder, texts, cause)?;
     Ok(ladder)
 }

@@ -1,16 +1,14 @@
 //! The conjunct of a hypothesis under which nothing is left: of a theorem, and of each case.
 
 use crate::asker::Asker;
-use crate::decision::Outcome;
 use crate::evaluation::put_front;
-use crate::forms::{
-    Part, bindings_form, conjuncts, element, form_text, head_of, operands, option_of, printed,
-    word_of,
-};
-use crate::reading::bindings_of_text;
-use crate::shapes::put_conjunct;
-use explain_report::Report;
+use crate::forms::{bindings_form, conjuncts, element, option_of, printed, word_of};
+use crate::making::{binding, call, call_on, call_on_two, list, word};
+use crate::reading::bindings_in;
+use crate::shapes::conjunct;
+use explain_report::{Report, Verdict};
 use gl_logic::{NoMemory, Texts, Tree};
+use shape_spec::Bindings;
 use std::alloc::Global;
 use std::thread::Threads;
 
@@ -20,38 +18,36 @@ const MOST_PAIRS: usize = 16;
 /// Of how many cases it is told.
 const MOST_CASES: usize = 16;
 
-/// The hypothesis that keeps variables within their shapes and says no more; none where the text is of no bindings.
-fn shape_hypothesis(
-    alloc: Global,
-    texts: &mut Texts,
-    bindings: &[u8],
-) -> Result<Option<Vec<u8>>, NoMemory> {
-    let Some(all) = bindings_of_text(alloc, texts, bindings)? else {
-        return Ok(None);
-    };
-    let mut hyp = Report::new(alloc);
-    hyp.say("(and t");
-    for i in 0..all.len() {
-        hyp.say(" ");
-        put_conjunct(
-            alloc,
-            texts,
-            &mut hyp,
-            all.shape(i),
-            texts.text(all.variable(i)),
-        );
-    }
-    hyp.say(")");
-    Ok(Some(hyp.into_bytes()?))
+/// A term of a hypothesis, and how it is shown.
+#[derive(Drop)]
+struct Term {
+    form: Tree,
+    text: Vec<u8>,
 }
 
-/// What is asked: a theorem's name, its bindings, the hypothesis of their shapes, and the terms of its own hypothesis.
+/// What is asked: a theorem's name, its bindings, the hypothesis that keeps its variables within their shapes and says no more,
+/// and the terms of its own hypothesis.
 #[derive(Drop)]
 struct Question<'a> {
     name: &'a Tree,
-    shapes: Vec<u8>,
-    bindings: Vec<u8>,
-    terms: Vec<Vec<u8>>,
+    shapes: Tree,
+    bindings: Tree,
+    terms: Vec<Term>,
+}
+
+/// The hypothesis that keeps variables within their shapes and says no more.
+fn shape_hypothesis(
+    alloc: Global,
+    texts: &mut Texts,
+    bindings: &Bindings,
+) -> Result<Tree, NoMemory> {
+    let mut terms = Vec::new(alloc);
+    terms.push(word(texts, b"T")?)?;
+    for i in 0..bindings.len() {
+        let place = Tree::symbol(bindings.variable(i));
+        terms.push(conjunct(alloc, texts, bindings.shape(i), &place, false)?)?;
+    }
+    call(alloc, texts, b"AND", terms)
 }
 
 /// The question of a theorem's form, or of a case of it, whose bindings and terms are these; none where they are no bindings.
@@ -59,16 +55,16 @@ fn question_of<'a>(
     alloc: Global,
     texts: &mut Texts,
     form: &'a Tree,
-    bindings: Vec<u8>,
-    terms: Vec<Vec<u8>>,
+    bindings: Tree,
+    terms: Vec<Term>,
 ) -> Result<Option<Question<'a>>, NoMemory> {
     let Some(name) = element(form, 1) else {
         return Ok(None);
     };
-    match shape_hypothesis(alloc, texts, &bindings)? {
-        Some(shapes) => Ok(Some(Question {
+    match bindings_in(alloc, texts, &bindings)? {
+        Some(all) => Ok(Some(Question {
             name,
-            shapes,
+            shapes: shape_hypothesis(alloc, texts, &all)?,
             bindings,
             terms,
         })),
@@ -76,44 +72,23 @@ fn question_of<'a>(
     }
 }
 
-/// Terms, each behind a blank.
-fn terms_text(alloc: Global, terms: &[Vec<u8>]) -> Result<Vec<u8>, NoMemory> {
-    let mut text = Report::new(alloc);
-    for term in terms {
-        text.say(" ");
-        text.text(term.as_slice());
-    }
-    text.into_bytes()
-}
-
-/// Two terms, each behind a blank.
-fn pair_text(alloc: Global, first: &[u8], second: &[u8]) -> Result<Vec<u8>, NoMemory> {
-    let mut text = Report::new(alloc);
-    text.say(" ");
-    text.text(first);
-    text.say(" ");
-    text.text(second);
-    text.into_bytes()
-}
-
-/// The theorem that no input of the shapes meets these terms, each of which stands behind a blank.
-fn theorem_text(
+/// The theorem that no input of the shapes meets these terms.
+fn theorem_of(
     alloc: Global,
-    texts: &Texts,
+    texts: &mut Texts,
     question: &Question,
-    terms: &[u8],
-) -> Result<Vec<u8>, NoMemory> {
-    let mut text = Report::new(alloc);
-    text.say("(def-gl-thm ");
-    text.text(word_of(texts, question.name));
-    text.say(" :hyp ");
-    text.text(&question.shapes);
-    text.say(" :concl (not (and t");
-    text.text(terms);
-    text.say(")) :g-bindings ");
-    text.text(&question.bindings);
-    text.say(")");
-    text.into_bytes()
+    terms: Vec<Tree>,
+) -> Result<Tree, NoMemory> {
+    let met = call(alloc, texts, b"AND", terms)?;
+    let mut parts = Vec::new(alloc);
+    parts.push(question.name.copy(alloc)?)?;
+    parts.push(word(texts, b":HYP")?)?;
+    parts.push(question.shapes.copy(alloc)?)?;
+    parts.push(word(texts, b":CONCL")?)?;
+    parts.push(call_on(alloc, texts, b"NOT", met)?)?;
+    parts.push(word(texts, b":G-BINDINGS")?)?;
+    parts.push(question.bindings.copy(alloc)?)?;
+    call(alloc, texts, b"DEF-GL-THM", parts)
 }
 
 /// Whether an input of the shapes meets some terms.
@@ -125,47 +100,19 @@ enum Left {
     Open(&'static str),
 }
 
-/// Whether an input of the shapes meets these terms, each of which stands behind a blank.
+/// Whether an input of the shapes meets these terms.
 fn left_under<R: Threads + Sync>(
     asker: &Asker<R>,
     texts: &mut Texts,
     question: &Question,
-    terms: &[u8],
+    terms: Vec<Tree>,
 ) -> Result<Left, NoMemory> {
-    let text = theorem_text(asker.alloc, texts, question, terms)?;
-    match asker.decide(texts, &text)?.outcome {
-        Outcome::Proved | Outcome::Vacuous => Ok(Left::Nothing),
-        Outcome::Open(cause) => Ok(Left::Open(cause)),
-        Outcome::Refuted | Outcome::Valued => Ok(Left::Something),
-    }
-}
-
-/// The texts of parts.
-fn texts_of(alloc: Global, texts: &Texts, parts: &[Part]) -> Result<Vec<Vec<u8>>, NoMemory> {
-    let mut terms = Vec::new(alloc);
-    for part in parts {
-        terms.push(printed(alloc, part.tree, texts)?)?;
-    }
-    Ok(terms)
-}
-
-/// The texts of the conjuncts of a hypothesis, and none where there is none.
-fn terms_of(alloc: Global, texts: &Texts, form: &Tree) -> Result<Vec<Vec<u8>>, NoMemory> {
-    match option_of(texts, form, b":HYP") {
-        Some(hyp) => {
-            let parts = conjuncts(alloc, texts, hyp)?;
-            texts_of(alloc, texts, &parts)
-        }
-        None => Ok(Vec::new(alloc)),
-    }
-}
-
-/// The first terms of a list.
-fn first_terms(terms: &[Vec<u8>], count: usize) -> &[Vec<u8>] {
-    if count <= terms.len() {
-        &terms[..count]
-    } else {
-        terms
+    let theorem = theorem_of(asker.alloc, texts, question, terms)?;
+    let found = asker.decide(texts, &theorem)?;
+    match (found.lack(), found.verdict) {
+        (Some(word), _) => Ok(Left::Open(word)),
+        (None, Verdict::Proved | Verdict::Vacuous) => Ok(Left::Nothing),
+        (None, _) => Ok(Left::Something),
     }
 }
 
@@ -176,8 +123,12 @@ fn left_under_first<R: Threads + Sync>(
     question: &Question,
     count: usize,
 ) -> Result<Left, NoMemory> {
-    let terms = terms_text(asker.alloc, first_terms(&question.terms, count))?;
-    left_under(asker, texts, question, &terms)
+    let mut terms = Vec::new(asker.alloc);
+    terms.push(word(texts, b"T")?)?;
+    for term in question.terms.iter().take(count) {
+        terms.push(term.form.copy(asker.alloc)?)?;
+    }
+    left_under(asker, texts, question, terms)
 }
 
 /// Whether an input of the shapes meets two terms.
@@ -185,16 +136,19 @@ fn left_under_pair<R: Threads + Sync>(
     asker: &Asker<R>,
     texts: &mut Texts,
     question: &Question,
-    first: &[u8],
-    second: &[u8],
+    first: &Term,
+    second: &Term,
 ) -> Result<Left, NoMemory> {
-    let terms = pair_text(asker.alloc, first, second)?;
-    left_under(asker, texts, question, &terms)
+    let mut terms = Vec::new(asker.alloc);
+    terms.push(word(texts, b"T")?)?;
+    terms.push(first.form.copy(asker.alloc)?)?;
+    terms.push(second.form.copy(asker.alloc)?)?;
+    left_under(asker, texts, question, terms)
 }
 
 /// What is found of a question's terms.
 #[derive(Clone, Copy, Debug, PartialEq, Eq)]
-enum Found {
+enum Emptied {
     /// The number of the first term with which and with those before it nothing is left, from 0; that of all where something is.
     First(usize),
     /// It is undecided, by a cause, whether something is left under the first so many.
@@ -206,7 +160,7 @@ fn first_empty<R: Threads + Sync>(
     asker: &Asker<R>,
     texts: &mut Texts,
     question: &Question,
-) -> Result<Found, NoMemory> {
+) -> Result<Emptied, NoMemory> {
     let mut low = 0;
     let mut high = question.terms.len();
     for _ in 0..64 {
@@ -218,10 +172,10 @@ fn first_empty<R: Threads + Sync>(
         match left_under_first(asker, texts, question, count)? {
             Left::Nothing => high = middle,
             Left::Something => low = count,
-            Left::Open(cause) => return Ok(Found::Open(count, cause)),
+            Left::Open(cause) => return Ok(Emptied::Open(count, cause)),
         }
     }
-    Ok(Found::First(low))
+    Ok(Emptied::First(low))
 }
 
 /// Puts the earlier terms each of which excludes a term by itself.
@@ -235,10 +189,10 @@ fn put_excluded<R: Threads + Sync>(
     let Some(last) = question.terms.get(number) else {
         return Ok(());
     };
-    for term in first_terms(&question.terms, number.min(MOST_PAIRS)) {
+    for term in question.terms.iter().take(number.min(MOST_PAIRS)) {
         if left_under_pair(asker, texts, question, term, last)? == Left::Nothing {
             report.say("   by itself it excludes:\n");
-            put_term(report, term.as_slice());
+            put_term(report, term);
         }
     }
     Ok(())
@@ -254,9 +208,9 @@ fn put_open(report: &mut Report, count: usize, cause: &str) {
 }
 
 /// Puts a term on a line of its own.
-fn put_term(report: &mut Report, term: &[u8]) {
+fn put_term(report: &mut Report, term: &Term) {
     report.say("     ");
-    put_front(report, term);
+    put_front(report, &term.text);
     report.say("\n");
 }
 
@@ -266,15 +220,15 @@ fn put_found<R: Threads + Sync>(
     texts: &mut Texts,
     report: &mut Report,
     question: &Question,
-    found: Found,
+    found: Emptied,
 ) -> Result<(), NoMemory> {
     match found {
-        Found::Open(count, cause) => {
+        Emptied::Open(count, cause) => {
             report.say("   ");
             put_open(report, count, cause);
             Ok(())
         }
-        Found::First(number) => {
+        Emptied::First(number) => {
             let Some(term) = question.terms.get(number) else {
                 return Ok(());
             };
@@ -283,29 +237,43 @@ fn put_found<R: Threads + Sync>(
             } else {
                 "   of the shapes something meets the conjuncts in front of this one, and nothing meets it too:\n"
             });
-            put_term(report, term.as_slice());
+            put_term(report, term);
             put_excluded(asker, texts, report, question, number)
         }
     }
 }
 
 /// Puts what is found of the terms of a case's question, the whole theorem's being another.
-fn put_found_of_case(report: &mut Report, question: &Question, found: Found, whole: Found) {
+fn put_found_of_case(report: &mut Report, question: &Question, found: Emptied, whole: Emptied) {
     match found {
-        Found::Open(count, cause) => put_open(report, count, cause),
-        Found::First(_) if found == whole => report.say("the same conjunct leaves nothing\n"),
-        Found::First(number) => match question.terms.get(number) {
+        Emptied::Open(count, cause) => put_open(report, count, cause),
+        Emptied::First(_) if found == whole => report.say("the same conjunct leaves nothing\n"),
+        Emptied::First(number) => match question.terms.get(number) {
             Some(term) => {
                 report.say("it is this one that leaves nothing:\n");
-                put_term(report, term.as_slice());
+                put_term(report, term);
             }
             None => report.say("something is left\n"),
         },
     }
 }
 
-/// The text of what a case is of: the terms of the parameters where they are its constants.
-fn case_term(
+/// The terms of a theorem's hypothesis, and none where it has none.
+fn terms_of(alloc: Global, texts: &Texts, form: &Tree) -> Result<Vec<Term>, NoMemory> {
+    let mut terms = Vec::new(alloc);
+    if let Some(hyp) = option_of(texts, form, b":HYP") {
+        for part in &conjuncts(alloc, texts, hyp)? {
+            terms.push(Term {
+                form: part.tree.copy(alloc)?,
+                text: printed(alloc, part.tree, texts)?,
+            })?;
+        }
+    }
+    Ok(terms)
+}
+
+/// How it is shown what a case is of.
+fn case_text(
     alloc: Global,
     texts: &Texts,
     constants: &Tree,
@@ -330,30 +298,26 @@ fn case_term(
     text.into_bytes()
 }
 
-/// The text of a case's bindings, behind the mark of the cases, a quote or a backquote.
-fn case_bindings(
+/// What a case is of: a term where the parameters are its constants.
+fn case_term(
     alloc: Global,
-    texts: &Texts,
-    mark: &str,
-    bindings: &Tree,
-) -> Result<Vec<u8>, NoMemory> {
-    let mut text = Report::new(alloc);
-    text.say(mark);
-    text.made(form_text(alloc, bindings, texts));
-    text.into_bytes()
-}
-
-/// The terms of a theorem's hypothesis, and what a case is of, by its constants and a term.
-fn terms_of_case(
-    alloc: Global,
-    texts: &Texts,
-    form: &Tree,
+    texts: &mut Texts,
     constants: &Tree,
     term: &Tree,
-) -> Result<Vec<Vec<u8>>, NoMemory> {
-    let mut terms = terms_of(alloc, texts, form)?;
-    terms.push(case_term(alloc, texts, constants, term)?)?;
-    Ok(terms)
+) -> Result<Term, NoMemory> {
+    let mut bound = Vec::new(alloc);
+    for number in 0..constants.elements().len() {
+        if let Some(constant) = element(constants, number) {
+            if let (Some(name), Some(object)) = (element(constant, 0), element(constant, 1)) {
+                bound.push(binding(alloc, texts, name.copy(alloc)?, object)?)?;
+            }
+        }
+    }
+    let bound = list(alloc, bound)?;
+    Ok(Term {
+        form: call_on_two(alloc, texts, b"LET", bound, term.copy(alloc)?)?,
+        text: case_text(alloc, texts, constants, term)?,
+    })
 }
 
 /// The question of a case, whose cases stand behind a mark.
@@ -361,7 +325,7 @@ fn question_of_case<'a>(
     alloc: Global,
     texts: &mut Texts,
     form: &'a Tree,
-    mark: &str,
+    mark: &Tree,
     case: &Tree,
 ) -> Result<Option<Question<'a>>, NoMemory> {
     let (Some(constants), Some(bindings), Some(term)) = (
@@ -371,18 +335,12 @@ fn question_of_case<'a>(
     ) else {
         return Ok(None);
     };
-    let terms = terms_of_case(alloc, texts, form, constants, term)?;
-    let bindings = case_bindings(alloc, texts, mark, bindings)?;
-    question_of(alloc, texts, form, bindings, terms)
-}
-
-/// The mark in front of cases.
-fn mark_of(texts: &Texts, cases: &Tree) -> &'static str {
-    if head_of(texts, cases) == b"`".as_slice() {
-        "`"
-    } else {
-        "'"
-    }
+    let mut terms = terms_of(alloc, texts, form)?;
+    terms.push(case_term(alloc, texts, constants, term)?)?;
+    let mut marked = Vec::new(alloc);
+    marked.push(mark.copy(alloc)?)?;
+    marked.push(bindings.copy(alloc)?)?;
+    question_of(alloc, texts, form, list(alloc, marked)?, terms)
 }
 
 /// Puts of each case under which conjunct nothing is left of its own shapes.
@@ -392,10 +350,9 @@ fn put_cases<R: Threads + Sync>(
     report: &mut Report,
     form: &Tree,
     cases: &Tree,
-    whole: Found,
+    whole: Emptied,
 ) -> Result<(), NoMemory> {
-    let mark = mark_of(texts, cases);
-    let Some(list) = operands(cases).first() else {
+    let (Some(mark), Some(list)) = (element(cases, 0), element(cases, 1)) else {
         return Ok(());
     };
     for number in 0..list.elements().len().min(MOST_CASES) {
@@ -422,8 +379,7 @@ fn question_of_whole<'a>(
         return Ok(None);
     };
     let terms = terms_of(alloc, texts, form)?;
-    let bindings = form_text(alloc, bindings, texts)?;
-    question_of(alloc, texts, form, bindings, terms)
+    question_of(alloc, texts, form, bindings.copy(alloc)?, terms)
 }
 
 /// Puts the first conjunct of a theorem's hypothesis under which nothing is left, and of a theorem by cases that of each case.

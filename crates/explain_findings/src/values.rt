@@ -1,7 +1,8 @@
 //! Values of terms.
 
 use crate::forms::printed;
-use gl_book::{Answer, Cause};
+use explain_report::Report;
+use gl_book::{Answer, Cause, cause_word};
 use gl_logic::{NoMemory, Texts};
 use std::alloc::Global;
 
@@ -9,38 +10,33 @@ use std::alloc::Global;
 #[derive(Drop)]
 pub(crate) enum Value {
     Is(Vec<u8>),
-    Lacks(&'static str),
+    Lacks(Cause),
     Unknown,
 }
 
-/// The word of a cause, and what it means.
-fn words_of(cause: Cause) -> &'static str {
+/// What a cause means.
+fn meaning_of(cause: Cause) -> &'static str {
     match cause {
-        Cause::Width => "width: some integer on the way is outside 128 bits",
-        Cause::Steps => "steps: its evaluation visits more subterms than `--steps` says",
-        Cause::Cells => "cells: its evaluation makes more objects than `--cells` says",
-        Cause::Size => "size: it is too large to print",
-        Cause::Memory => "memory: the system refused it",
+        Cause::Width => "some integer on the way is outside 128 bits",
+        Cause::Steps => "its evaluation visits more subterms than `--steps` says",
+        Cause::Cells => "its evaluation makes more objects than `--cells` says",
+        Cause::Size => "it is too large to print",
+        Cause::Memory => "the system refused it",
     }
 }
 
-/// The word of a cause.
-pub(crate) fn word_of(cause: Cause) -> &'static str {
-    match words_of(cause).split_once(": ") {
-        Some((word, _)) => word,
-        None => "",
-    }
+/// Puts why a value lacks: the word of the cause, and what it means.
+pub(crate) fn put_lack(report: &mut Report, cause: Cause) {
+    report.say(cause_word(cause));
+    report.say(": ");
+    report.say(meaning_of(cause));
 }
 
 /// The value that is answered.
-pub(crate) fn value_of(
-    alloc: Global,
-    texts: &Texts,
-    answer: Option<Answer>,
-) -> Result<Value, NoMemory> {
+pub(crate) fn value_of(alloc: Global, texts: &Texts, answer: Answer) -> Result<Value, NoMemory> {
     match answer {
-        Some(Answer::Value(value)) => Ok(Value::Is(printed(alloc, &value, texts)?)),
-        Some(Answer::Undecided(cause)) => Ok(Value::Lacks(words_of(cause))),
+        Answer::Value(value) => Ok(Value::Is(printed(alloc, &value, texts)?)),
+        Answer::Undecided(cause) => Ok(Value::Lacks(cause)),
         _ => Ok(Value::Unknown),
     }
 }

@@ -110,7 +110,7 @@ fn words_of_term(fault: TermFault) -> Wording {
         TermFault::UnknownFunction => said(
             "V4",
             "is no macro, no primitive and no definition here",
-            "define it in front of its use; two that call each other go into one `mutual-recursion`",
+            "a function of your own is defined in front of its use; two that call each other go into one `mutual-recursion`",
         ),
         TermFault::WrongCount => said(
             "V5",
@@ -158,7 +158,7 @@ fn words_of_event(fault: EventFault) -> Wording {
         EventFault::NotAdmitted(_) => said(
             "V8",
             "is a recursive call under which no measure is shown to fall",
-            "steps: `(- n 1)` where `(zp n)` is false, `(cdr l)` where `(endp l)` is false or `(consp l)` holds, `(floor n 2)` or `(ash n -1)` where `(zp n)` is false; to count up to n, state `(declare (xargs :measure (nfix (- n i))))` and test `(zp (- n i))`; else add a formal that counts down",
+            "steps: `(- n 1)` where `(zp n)` is false, `(cdr l)` where `(endp l)` is false or `(consp l)` holds, `(floor n 2)` or `(ash n -1)` where `(zp n)` is false; to count up to n, state `(declare (xargs :measure (nfix (- n i))))` and test `(zp (- n i))`; else, and in a `mutual-recursion`, add a formal that counts down at each call",
         ),
         EventFault::BadBindings => said(
             "V10",
@@ -168,12 +168,12 @@ fn words_of_event(fault: EventFault) -> Wording {
         EventFault::BadOption => said(
             "V11",
             "is an option, a keyword or a declaration that there is not, one given twice, or one with another value",
-            "a theorem has `:hyp`, `:concl`, `:g-bindings`, `:hyp-clk` and `:concl-clk`; `xargs` has `:measure`, which is `(acl2-count v)`, `(len v)`, `(nfix v)`, `(nfix (- b a))` or `(make-ord 1 (+ 1 m) n)` of two of these",
+            "leave out what is not among these: a theorem has `:hyp`, `:concl`, `:g-bindings`, `:hyp-clk` and `:concl-clk`; `xargs` has `:measure`, which is `(acl2-count v)`, `(len v)`, `(nfix v)`, `(nfix (- b a))` or `(make-ord 1 (+ 1 m) n)` of two of these",
         ),
         EventFault::BadCases => said(
             "V13",
             "are no cases",
-            "each is `(((parameter object) ..) bindings)`, there are 1 to 64, all have the same parameters in the same order, and no parameter is a name that `:hyp`, `:concl` or the bindings use",
+            "each is `(((parameter object) ..) bindings)` with bindings as `((x ,(g-int 0 1 9)) ..)` under a backquote and no `auto-bindings`, there are 1 to 64, all have the same parameters in the same order, and no parameter is a name that `:hyp`, `:concl` or the bindings use",
         ),
         EventFault::Memory => said("memory", "takes more memory than there is", ""),
     }

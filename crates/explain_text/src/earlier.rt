@@ -1,37 +1,31 @@
 //! Where a name was taken.
 
-use crate::spots::{Spot, Spots, name_of};
+use crate::places::{Places, name_in};
 use book_shelf::{Item, Library};
-use explain_findings::head_of;
 use explain_report::Report;
-use gl_logic::{Texts, Tree};
+use gl_logic::{TextId, Texts, Tree, World};
 
-/// Whether a form is a named event of this name, or a clique with a member of it.
-fn takes(texts: &Texts, form: &Tree, name: &[u8]) -> bool {
-    let head = head_of(texts, form);
-    if head == b"MUTUAL-RECURSION".as_slice() {
-        for member in form.elements() {
-            if name_of(texts, member) == name {
-                return true;
-            }
-        }
-        return false;
+/// Whether a form is another one, or a clique with that member.
+fn has(form: &Tree, other: &Tree) -> bool {
+    if form.same(other) {
+        return true;
     }
-    let is_named = head == b"DEFUN".as_slice()
-        || head == b"DEFCONST".as_slice()
-        || head == b"DEF-GL-THM".as_slice()
-        || head == b"DEF-GL-PARAM-THM".as_slice();
-    is_named && name_of(texts, form) == name
+    for member in form.elements() {
+        if member.same(other) {
+            return true;
+        }
+    }
+    false
 }
 
-/// The number of the first item in front of one that takes a name.
-fn taken_by(library: &Library, texts: &Texts, name: &[u8], end: u64) -> Option<u64> {
+/// The number of the first item in front of one whose form this is, or which has it as a member.
+fn item_of(library: &Library, form: &Tree, end: u64) -> Option<u64> {
     for item in 0..end {
         if item >= library.items.len() {
             return None;
         }
-        if let Item::Form(form) = library.items.at(item) {
-            if takes(texts, &form.tree, name) {
+        if let Item::Form(other) = library.items.at(item) {
+            if has(&other.tree, form) {
                 return Some(item);
             }
         }
@@ -39,27 +33,49 @@ fn taken_by(library: &Library, texts: &Texts, name: &[u8], end: u64) -> Option<u
     None
 }
 
-/// Puts the place of an event that took a name.
-fn put_spot(report: &mut Report, spots: &Spots, spot: Spot, name: &[u8]) {
-    report.place(spots.file(spot), spot.line as u64, spot.column as u64);
-    report.say("`");
-    report.text(name);
-    report.say("` is taken here\n");
+/// The number of the item in front of one that took a name, as the world behind those has noted it.
+fn taken_by(library: &Library, world: &World, name: TextId, end: u64) -> Option<u64> {
+    item_of(library, world.noted(name)?, end)
 }
 
 /// Puts where a name was taken in front of an item. Whether it was taken by an item.
 fn put_taken(
     report: &mut Report,
     library: &Library,
-    spots: &Spots,
+    places: &Places,
+    world: &World,
     texts: &Texts,
-    name: &[u8],
+    name: TextId,
     item: u64,
 ) -> bool {
-    if let Some(number) = taken_by(library, texts, name, item) {
-        if let Some(spot) = spots.items.get(number as usize) {
-            put_spot(report, spots, *spot, name);
-            return true;
+    let Some(number) = taken_by(library, world, name, item) else {
+        return false;
+    };
+    let Some(place) = places.items.get(number as usize) else {
+        return false;
+    };
+    report.place(places.file(*place), place.line as u64, place.column as u64);
+    report.say("`");
+    report.text(texts.text(name));
+    report.say("` is taken here\n");
+    true
+}
+
+/// Puts where the first name of a clique's members that was taken in front of an item was taken. Whether one was.
+fn put_member_taken(
+    report: &mut Report,
+    library: &Library,
+    places: &Places,
+    world: &World,
+    texts: &Texts,
+    clique: &Tree,
+    item: u64,
+) -> bool {
+    for member in clique.elements() {
+        if let Some(name) = name_in(member) {
+            if put_taken(report, library, places, world, texts, name, item) {
+                return true;
+            }
         }
     }
     false
@@ -69,7 +85,8 @@ fn put_taken(
 pub(crate) fn put_earlier(
     report: &mut Report,
     library: &Library,
-    spots: &Spots,
+    places: &Places,
+    world: &World,
     texts: &Texts,
     item: u64,
 ) {
@@ -79,19 +96,11 @@ pub(crate) fn put_earlier(
     let Item::Form(form) = library.items.at(item) else {
         return;
     };
-    let mut is_told = put_taken(
-        report,
-        library,
-        spots,
-        texts,
-        name_of(texts, &form.tree),
-        item,
-    );
-    for member in form.tree.elements() {
-        if !is_told && !member.elements().is_empty() {
-            is_told = put_taken(report, library, spots, texts, name_of(texts, member), item);
-        }
-    }
+    let form = &form.tree;
+    let is_told = match name_in(form) {
+        Some(name) => put_taken(report, library, places, world, texts, name, item),
+        None => put_member_taken(report, library, places, world, texts, form, item),
+    };
     if !is_told {
         report.say(
             "   = note: it is a primitive, a macro, or a definition that each book begins with\n",

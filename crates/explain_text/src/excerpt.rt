@@ -1,6 +1,6 @@
 //! A line of a text, with marks under a part of it.
 
-use crate::span::{Span, column_of, cut, line_end, line_of, line_start};
+use book_faults::{Span, column_of, cut, line_end, line_of, line_start};
 use explain_report::Report;
 
 /// How many bytes of a line are shown, and how many in front of a part that stands further to the right.

@@ -1,9 +1,7 @@
 //! The tests that govern a call in the text of a definition, its measure, and the row of the table of steps that is nearest.
 
-use crate::elements::{elements, form_alone};
 use crate::excerpt::put_part;
-use crate::span::{Span, is_word, token, whole};
-use crate::terms::head_of;
+use book_faults::{Span, elements, form_alone, head_of, is_word, token, whole};
 use explain_findings::is_among;
 use explain_report::Report;
 use gl_logic::NoMemory;
@@ -33,6 +31,9 @@ fn put_test(
     holds: bool,
 ) -> Result<(), NoMemory> {
     let form = form_alone(alloc, text, test)?;
+    if is_word(token(text, form), b"t") {
+        return Ok(());
+    }
     report.say("   = note: around it ");
     put_part(report, text, form, MOST_NAMED);
     report.say(if holds { " holds\n" } else { " is false\n" });
@@ -257,7 +258,9 @@ fn put_row(alloc: Global, report: &mut Report, text: &[u8], call: Span) -> Resul
             return Ok(());
         }
     }
-    report.say("   = note: no argument is made smaller as a row of the table has it\n");
+    report.say(
+        "   = note: no argument is made smaller as a row of the table has it; what `let` binds is not looked up: write `(ash n -1)` itself in the call\n",
+    );
     Ok(())
 }
 

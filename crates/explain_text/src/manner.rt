@@ -14,14 +14,16 @@ pub enum Format {
     Html,
 }
 
-/// How a run is told: the format; of text whether it has colors, and whether seconds and a summary are told; and whether what may
-/// decide an event that is undecided is tried.
+/// How a run is told: the format; of text whether it has colors, whether seconds and a summary are told, and whether included
+/// books that have nothing to tell are shown too; and for how many seconds in all is tried what may decide the events that are
+/// undecided, if at all.
 #[derive(Clone, Copy, Debug, PartialEq, Eq)]
 pub struct Manner {
     pub format: Format,
     pub colors: bool,
     pub seconds: bool,
-    pub tries: bool,
+    pub shows_all: bool,
+    pub tries: Option<u32>,
 }
 
 /// What ends a color.

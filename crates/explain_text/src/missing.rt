@@ -1,9 +1,8 @@
 //! What an event lacks that has not its parts.
 
-use crate::elements::elements;
-use crate::known::entry_of;
-use crate::span::{Span, byte_at, is_word, token, whole};
-use crate::terms::head_of;
+use crate::expected::put_memoize_options;
+use crate::known::{entry_of, instead_of_book, string_in};
+use book_faults::{Span, byte_at, elements, head_of, is_word, token, whole};
 use explain_report::Report;
 use gl_logic::NoMemory;
 use std::alloc::Global;
@@ -76,6 +75,21 @@ fn put_odd_keyword(report: &mut Report, text: &[u8], parts: &[Span]) {
     }
 }
 
+/// Puts what stands here for a book of ACL2 that is included.
+fn put_foreign_book(report: &mut Report, event: &[u8]) {
+    let name = string_in(event);
+    let instead = match instead_of_book(name) {
+        Some(instead) => instead,
+        None =>
+            "leave out what stands behind the name, and name a book by its path from the current folder, as in (include-book \"books/lists\")",
+    };
+    report.say("   = help: `");
+    report.text(name);
+    report.say("` is a book of ACL2's; here: ");
+    report.say(instead);
+    report.say("; `port/gl_port` writes a whole book of ACL2's in the words of this language\n");
+}
+
 /// Puts what an event lacks, and its form.
 pub(crate) fn put_missing(
     alloc: Global,
@@ -85,6 +99,11 @@ pub(crate) fn put_missing(
     let all = whole(event);
     let parts = elements(alloc, event, all)?;
     let head = head_of(event, &parts);
+    put_memoize_options(alloc, report, event)?;
+    if is_word(head, b"include-book") {
+        put_foreign_book(report, event);
+        return Ok(());
+    }
     if let Some(required) = entry_of(REQUIRED, head) {
         put_odd_keyword(report, event, &parts);
         put_left_out(report, event, &parts, required);

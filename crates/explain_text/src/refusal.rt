@@ -1,72 +1,66 @@
 //! A refusal in words: its place, what is wrong there, the line with marks under the part at fault, and help.
 
-use crate::blame::{Blamed, Judge, blame, odd_option};
+use crate::below::put_below;
 use crate::codes::{Fault, words_of};
-use crate::elements::{behind_forms, elements, form_alone, offset_of};
 use crate::excerpt::{put_excerpt, put_part, put_place};
+use crate::expected::{put_expected, put_expected_shape, put_odd_options};
 use crate::governing::put_call;
-use crate::items::{odd_binding, odd_case, odd_part, unbound};
-use crate::known::{instead_of_event, instead_of_shape, instead_of_term, nearest_function};
+use crate::known::{
+    includes_book, instead_of_book, instead_of_event, instead_of_shape, instead_of_term,
+    nearest_function, string_in,
+};
+use crate::message::{MOST_NAMED, Marked, Refusal, put_help, put_message};
 use crate::missing::put_missing;
-use crate::span::{Span, cut, is_word, token, whole, without_package};
-use crate::terms::{head_of, terms_of_event};
+use book_faults::{
+    AtFault, Judge, Span, at_fault, behind_forms, byte_at, cut, element_of, elements, form_alone,
+    head_of, is_word, offset_of, terms_of_event, theorem_bindings, token, unbound, whole,
+    without_package,
+};
 use book_shelf::ShelfCode;
 use event_world::EventFault;
-use explain_findings::bindings_of_text;
+use explain_findings::{FormFault, bindings_of_text};
 use explain_report::Report;
 use gl_logic::{FnId, NoMemory, Texts, World};
 use gl_translate::TermFault;
 use sexp_reader::ReadCode;
 use std::alloc::Global;
 
-/// How many bytes of a form are named in words.
-const MOST_NAMED: usize = 60;
-
 /// How many counts of arguments are tried.
 const MOST_COUNTED: u64 = 9;
 
-/// The text that a refusal is of, and where.
+/// The part of a form that is at fault: where it stands in its text, the form, and where in that it and what is around it stand.
 #[derive(Clone, Copy)]
-pub(crate) struct Refusal<'a> {
-    pub file: &'a [u8],
-    pub text: &'a [u8],
-    pub line: u32,
-    pub column: u32,
-    pub fault: Fault,
+pub(crate) struct Mark<'a> {
+    pub span: Span,
+    pub event: &'a [u8],
+    pub part: Span,
+    pub around: Span,
 }
 
-/// What a message says: the part of the text that is marked, and whether it is named in front of the words.
-#[derive(Clone, Copy)]
-struct Marked {
-    span: Span,
-    is_named: bool,
-}
-
-/// Puts what helps, on a line of its own.
-fn put_help(report: &mut Report, help: &str) {
-    if help.is_empty() {
-        return;
+/// What is wrong with a part: of bindings which of the two things it may be.
+fn title_of(
+    alloc: Global,
+    texts: &mut Texts,
+    refusal: &Refusal,
+    mark: Mark,
+) -> Result<&'static str, NoMemory> {
+    let is_bad_event = refusal.fault == Fault::Form(FormFault::Event(EventFault::BadEvent));
+    if is_bad_event && includes_book(mark.event) {
+        if instead_of_book(string_in(mark.event)).is_some() {
+            return Ok("includes a book of ACL2's");
+        }
     }
-    report.say("   = help: ");
-    report.say(help);
-    report.say("\n");
-}
-
-/// Puts the first lines of a message: place, code and words, and the excerpt.
-fn put_message(report: &mut Report, refusal: &Refusal, marked: Marked) {
-    let words = words_of(refusal.fault);
-    put_place(report, refusal.file, refusal.text, marked.span.start);
-    report.say("error[");
-    report.say(words.code);
-    report.say("]: ");
-    if marked.is_named {
-        report.say("`");
-        put_part(report, refusal.text, marked.span, MOST_NAMED);
-        report.say("` ");
+    if refusal.fault != Fault::Form(FormFault::Event(EventFault::BadBindings)) {
+        return Ok(words_of(refusal.fault).title);
     }
-    report.say(words.title);
-    report.say("\n");
-    put_excerpt(report, refusal.text, marked.span);
+    if mark.part != mark.around {
+        return Ok("is no binding");
+    }
+    if bindings_of_text(alloc, texts, cut(mark.event, mark.around))?.is_some() {
+        Ok("are bindings that lack a variable of the theorem")
+    } else {
+        Ok("are no bindings")
+    }
 }
 
 /// Where the form of a refusal begins: at the end where the text has no such place.
@@ -106,14 +100,7 @@ pub(crate) fn explain_text_fault(
             end: start.saturating_add(1),
         }
     };
-    put_message(
-        report,
-        refusal,
-        Marked {
-            span,
-            is_named: false,
-        },
-    );
+    explain_span(alloc, report, refusal, span);
     if refusal.fault == Fault::Shelf(ShelfCode::Text(ReadCode::EndInside)) {
         put_open_form(alloc, report, refusal)?;
     }
@@ -121,9 +108,42 @@ pub(crate) fn explain_text_fault(
     Ok(())
 }
 
+/// Explains a fault of a text at a part of it.
+pub(crate) fn explain_span(alloc: Global, report: &mut Report, refusal: &Refusal, span: Span) {
+    let title = words_of(refusal.fault).title;
+    let marked = Marked {
+        span,
+        is_named: false,
+        title,
+    };
+    put_message(alloc, report, refusal, marked);
+}
+
+/// Explains a constant without a value, at a part of a text.
+pub(crate) fn put_constant_fault(
+    alloc: Global,
+    report: &mut Report,
+    refusal: &Refusal,
+    span: Span,
+) {
+    let title = words_of(refusal.fault).title;
+    let marked = Marked {
+        span,
+        is_named: true,
+        title,
+    };
+    put_message(alloc, report, refusal, marked);
+}
+
 /// Puts where the form begins that is not closed.
 fn put_open_form(alloc: Global, report: &mut Report, refusal: &Refusal) -> Result<(), NoMemory> {
     let start = behind_forms(alloc, refusal.text)?;
+    put_open(report, refusal, start);
+    Ok(())
+}
+
+/// Puts where what is open begins.
+pub(crate) fn put_open(report: &mut Report, refusal: &Refusal, start: usize) {
     put_place(report, refusal.file, refusal.text, start);
     report.say("what is open begins here\n");
     put_excerpt(
@@ -134,18 +154,6 @@ fn put_open_form(alloc: Global, report: &mut Report, refusal: &Refusal) -> Resul
             end: start.saturating_add(1),
         },
     );
-    Ok(())
-}
-
-/// Puts the words of a fault whose text is not at hand.
-pub(crate) fn put_words(report: &mut Report, fault: Fault) {
-    let words = words_of(fault);
-    report.say("error[");
-    report.say(words.code);
-    report.say("]: ");
-    report.say(words.title);
-    report.say("\n");
-    put_help(report, words.help);
 }
 
 /// A part moved by an offset.
@@ -156,97 +164,13 @@ fn moved(span: Span, by: usize) -> Span {
     }
 }
 
-/// The element of a list of this number, alone; the list where there is none.
-fn element_of(alloc: Global, text: &[u8], list: Span, number: usize) -> Result<Span, NoMemory> {
-    match elements(alloc, text, list)?.get(number) {
-        Some(part) => form_alone(alloc, text, *part),
-        None => Ok(list),
-    }
-}
-
-/// The head of the term at fault.
-fn head_at_fault(
-    alloc: Global,
-    judge: &Judge,
-    texts: &mut Texts,
-    event: &[u8],
-) -> Result<Span, NoMemory> {
-    let Blamed { span, text } = blame(alloc, judge, texts, event)?;
-    element_of(alloc, &text, span, 0)
-}
-
-/// The term at fault.
-fn term_at_fault(
-    alloc: Global,
-    judge: &Judge,
-    texts: &mut Texts,
-    event: &[u8],
-) -> Result<Span, NoMemory> {
-    let Blamed { span, text } = blame(alloc, judge, texts, event)?;
-    form_alone(alloc, &text, span)
-}
-
-/// The part at fault of the form that is malformed.
-fn malformed_part(
-    alloc: Global,
-    judge: &Judge,
-    texts: &mut Texts,
-    event: &[u8],
-) -> Result<Span, NoMemory> {
-    let Blamed { span, text } = blame(alloc, judge, texts, event)?;
-    let form = form_alone(alloc, &text, span)?;
-    odd_part(alloc, judge, texts, &text, form)
-}
-
-/// The case at fault of a theorem by cases.
-fn case_at_fault(
-    alloc: Global,
-    judge: &Judge,
-    texts: &mut Texts,
-    event: &[u8],
-) -> Result<Span, NoMemory> {
-    let cases = bindings_of(alloc, event, b":param-bindings")?;
-    odd_case(alloc, judge, texts, event, cases)
-}
-
-/// The part at fault of an event, by its code.
-fn part_at_fault(
-    alloc: Global,
-    judge: &Judge,
-    texts: &mut Texts,
-    event: &[u8],
-) -> Result<Span, NoMemory> {
-    let all = whole(event);
-    match judge.fault {
-        EventFault::UnknownEvent => element_of(alloc, event, all, 0),
-        EventFault::Redefined => element_of(alloc, event, all, 1),
-        EventFault::BadOption => odd_option(alloc, judge, texts, event),
-        EventFault::Term(TermFault::UnknownFunction) => head_at_fault(alloc, judge, texts, event),
-        EventFault::Term(TermFault::TooDeep) | EventFault::BadEvent => Ok(all),
-        EventFault::Term(TermFault::BadUse) => malformed_part(alloc, judge, texts, event),
-        EventFault::Term(_) | EventFault::NotAdmitted(_) => {
-            term_at_fault(alloc, judge, texts, event)
-        }
-        EventFault::BadBindings => {
-            let bindings = theorem_bindings(alloc, texts, event)?;
-            odd_binding(alloc, texts, event, bindings)
-        }
-        EventFault::BadCases => case_at_fault(alloc, judge, texts, event),
-        EventFault::Memory => Ok(all),
-    }
-}
-
-/// The value behind a keyword of an event; the event where there is none.
-fn bindings_of(alloc: Global, event: &[u8], keyword: &[u8]) -> Result<Span, NoMemory> {
+/// The name of the function that an event defines; empty where it defines none.
+fn own_name(alloc: Global, event: &[u8]) -> Result<&[u8], NoMemory> {
     let parts = elements(alloc, event, whole(event))?;
-    let mut is_next = false;
-    for part in &parts {
-        if is_next {
-            return form_alone(alloc, event, *part);
-        }
-        is_next = is_word(token(event, *part), keyword);
+    match parts.get(1) {
+        Some(name) if is_word(head_of(event, &parts), b"defun") => Ok(token(event, *name)),
+        _ => Ok(&[]),
     }
-    Ok(whole(event))
 }
 
 /// Puts what may be meant by a name that is no function.
@@ -254,6 +178,7 @@ fn put_function_help(
     alloc: Global,
     report: &mut Report,
     word: &[u8],
+    own: &[u8],
     world: &World,
     texts: &Texts,
 ) -> Result<(), NoMemory> {
@@ -262,7 +187,7 @@ fn put_function_help(
         put_instead(report, "word", instead);
         return Ok(());
     }
-    let nearest = nearest_function(alloc, word, world, texts)?;
+    let nearest = nearest_function(alloc, word, own, world, texts)?;
     if !nearest.name.is_empty() {
         report.say("   = help: a function of a near name is `");
         report.text(&nearest.name);
@@ -435,21 +360,6 @@ fn count_taken(head: &[u8], world: &World, texts: &Texts) -> Option<u64> {
     None
 }
 
-/// The bindings of a theorem; of one by cases the cases, where its cover has bindings.
-fn theorem_bindings(alloc: Global, texts: &mut Texts, event: &[u8]) -> Result<Span, NoMemory> {
-    let parts = elements(alloc, event, whole(event))?;
-    let head = head_of(event, &parts);
-    drop(parts);
-    if !is_word(head, b"def-gl-param-thm") {
-        return bindings_of(alloc, event, b":g-bindings");
-    }
-    let cover = bindings_of(alloc, event, b":cov-bindings")?;
-    if bindings_of_text(alloc, texts, cut(event, cover))?.is_none() {
-        return Ok(cover);
-    }
-    bindings_of(alloc, event, b":param-bindings")
-}
-
 /// Puts the variable of a theorem that its bindings lack, where they are bindings.
 fn put_unbound(
     alloc: Global,
@@ -464,9 +374,9 @@ fn put_unbound(
     }
     let all = whole(event);
     let terms = terms_of_event(alloc, event, all)?;
-    if let Some(word) = unbound(alloc, judge, texts, event, bindings, &terms)? {
+    for word in &unbound(alloc, judge, texts, event, bindings, &terms)? {
         report.say("   = note: `");
-        report.text(cut(event, word));
+        report.text(cut(event, *word));
         report.say("` is a variable of the theorem and has no shape\n");
     }
     Ok(())
@@ -478,16 +388,22 @@ fn put_help_of_part(
     report: &mut Report,
     judge: &Judge,
     texts: &mut Texts,
-    event: &[u8],
-    part: Span,
+    mark: Mark,
 ) -> Result<(), NoMemory> {
+    let Mark {
+        event,
+        part,
+        around,
+        ..
+    } = mark;
     match judge.fault {
         EventFault::UnknownEvent => {
             put_event_help(report, token(event, part));
             Ok(())
         }
         EventFault::Term(TermFault::UnknownFunction) => {
-            put_function_help(alloc, report, token(event, part), judge.world, texts)
+            let own = own_name(alloc, event)?;
+            put_function_help(alloc, report, token(event, part), own, judge.world, texts)
         }
         EventFault::Term(TermFault::UnboundVariable) => put_formals(alloc, report, event),
         EventFault::Term(TermFault::WrongCount) => {
@@ -495,8 +411,22 @@ fn put_help_of_part(
         }
         EventFault::BadEvent => put_missing(alloc, report, event),
         EventFault::NotAdmitted(_) => put_call(alloc, report, event, part),
+        EventFault::Term(TermFault::BadUse) => put_expected(alloc, report, event, around),
+        EventFault::BadOption => put_odd_options(alloc, report, event, part),
         EventFault::BadBindings => {
             put_shape_help(report, event, part);
+            if part != around {
+                put_expected_shape(alloc, report, event, part, around)?;
+            } else if byte_at(event, part.start) == b'('
+                && !is_word(
+                    head_of(event, &elements(alloc, event, part)?),
+                    b"auto-bindings",
+                )
+            {
+                report.say(
+                    "   = note: a quote or a backquote is missing in front: `'((x (:g-integer 0 1 2)))`\n",
+                );
+            }
             put_unbound(alloc, report, judge, texts, event)
         }
         _ => Ok(()),
@@ -513,18 +443,40 @@ pub(crate) fn explain_event_fault(
 ) -> Result<(), NoMemory> {
     let form = form_of(alloc, refusal)?;
     let event = cut(refusal.text, form);
-    let part = part_at_fault(alloc, judge, texts, event)?;
-    let span = moved(part, form.start);
-    put_message(
-        report,
-        refusal,
-        Marked {
-            span,
-            is_named: true,
-        },
-    );
-    put_help_of_part(alloc, report, judge, texts, event, part)?;
-    put_help(report, words_of(refusal.fault).help);
+    let AtFault { part, around } = at_fault(alloc, judge, texts, event)?;
+    let mark = Mark {
+        span: moved(part, form.start),
+        event,
+        part,
+        around,
+    };
+    put_form_fault(alloc, report, refusal, judge, texts, mark)?;
+    if judge.fault != EventFault::BadEvent || !includes_book(event) {
+        put_help(report, words_of(refusal.fault).help);
+    }
+    Ok(())
+}
+
+/// Explains the fault of a form whose part is known.
+pub(crate) fn put_form_fault(
+    alloc: Global,
+    report: &mut Report,
+    refusal: &Refusal,
+    judge: &Judge,
+    texts: &mut Texts,
+    mark: Mark,
+) -> Result<(), NoMemory> {
+    let title = title_of(alloc, texts, refusal, mark)?;
+    let marked = Marked {
+        span: mark.span,
+        is_named: true,
+        title,
+    };
+    put_message(alloc, report, refusal, marked);
+    put_help_of_part(alloc, report, judge, texts, mark)?;
+    if judge.fault == EventFault::Term(TermFault::UnknownFunction) {
+        put_below(report, refusal.text, mark.span);
+    }
     Ok(())
 }
 
@@ -536,14 +488,7 @@ pub(crate) fn explain_constant(
 ) -> Result<(), NoMemory> {
     let form = form_of(alloc, refusal)?;
     let span = element_of(alloc, refusal.text, form, 2)?;
-    put_message(
-        report,
-        refusal,
-        Marked {
-            span,
-            is_named: true,
-        },
-    );
+    put_constant_fault(alloc, report, refusal, span);
     put_help(report, words_of(refusal.fault).help);
     Ok(())
 }

@@ -5,12 +5,13 @@ use clap::ArgMatches;
 use command_line::{number_in, text_of};
 use gl_base::status::Status;
 
-/// Why a run failed, other than for want of a text.
+/// Why a run failed, in front of the name of the text that it read last, where it failed for want of that.
 pub(crate) fn complaint_of(status: Status) -> Option<&'static str> {
     match status {
-        Status::WriteFault => Some("explain: cannot write to standard output"),
+        Status::ReadFault => Some("cannot read "),
+        Status::WriteFault => Some("cannot write to standard output"),
         Status::NoMemory => Some(
-            "explain: the system refused memory; give the process more, or lower --nodes, --cells, --clauses or --workers",
+            "the system refused memory; give the process more, or lower --nodes, --cells, --clauses or --workers",
         ),
         _ => None,
     }

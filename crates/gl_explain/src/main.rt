@@ -2,18 +2,23 @@
 #![tactic(auto)]
 
 mod complaint;
+mod ticker;
 mod words;
 
 use clap::error::ErrorKind as ClapKind;
 use clap::{ArgMatches, Error};
 use command_line::{FileShelf, WordsEnd, WriterSink, limits_of, words_of};
 use complaint::{complain_of_words, complaint_of};
-use explain_text::{NamingShelf, Outlet, explain_book};
+use explain_report::put_status;
+use explain_text::{Explained, Format, NamingShelf, Outlet, Progress, explain_book};
+use gl_base::limits::Limits;
+use gl_base::sink::Sink;
 use gl_base::status::Status;
 use std::io::{self, IsTerminal, Write};
 use std::process::ExitCode;
 use std::rt::{Clock, Env, Files};
-use std::thread::Threads;
+use std::thread::{self, Threads};
+use ticker::tick;
 use words::{command, manner_of};
 
 /// What is known of the streams of the process: which of them are terminals, and standard error.
@@ -96,19 +101,45 @@ fn run<R: Files + Print + Eprint + AllocGlobal + Threads + Sync + Clock, E: Writ
         notes: if is_error_terminal { Some(notes) } else { None },
         manner,
     };
-    let mut shelf = NamingShelf::new(rt.alloc(), FileShelf::new(rt));
-    let status = explain_book(rt, rt.alloc(), name, &limits, &mut shelf, outlet);
-    complain(rt, status, shelf.last_name());
+    let progress = Progress::new();
+    let (_, status) = thread::join(
+        rt,
+        || tick(rt, &progress, is_error_terminal),
+        || explain(rt, name, &limits, outlet, &progress),
+    );
     status
 }
 
-/// Says on standard error why a run failed.
-fn complain<R: Eprint>(rt: &R, status: Status, name: &str) {
-    let _told = match status {
-        Status::ReadFault => eprintln!(rt; "explain: cannot read {name}"),
-        _ => match complaint_of(status) {
-            Some(words) => rt.eprintln(words),
-            None => Ok(()),
-        },
+/// Explains a book, and says on standard error why that failed.
+fn explain<
+    R: Files + Print + Eprint + AllocGlobal + Threads + Sync + Clock,
+    K: Sink + Drop,
+    E: Sink + Drop,
+>(rt: &R, name: &str, limits: &Limits, outlet: Outlet<K, E>, progress: &Progress) -> Status {
+    let format = outlet.manner.format;
+    let mut shelf = NamingShelf::new(rt.alloc(), FileShelf::new(rt));
+    let alloc = rt.alloc();
+    let Explained { status, .. } = explain_book(
+        rt, alloc, name, limits, &mut shelf, outlet, progress,
+    );
+    progress.end();
+    complain(rt, format, status, shelf.last_name());
+    status
+}
+
+/// Says on standard error why a run failed, and in JSON as an object too, where that can still be written.
+fn complain<R: Print + Eprint + AllocGlobal>(rt: &R, format: Format, status: Status, name: &str) {
+    let Some(words) = complaint_of(status) else {
+        return;
     };
+    let name = if status == Status::ReadFault {
+        name
+    } else {
+        ""
+    };
+    let _told = eprintln!(rt; "explain: {words}{name}");
+    if format == Format::Json {
+        let mut out = WriterSink::new(io::writer(rt));
+        let _put = put_status(rt.alloc(), &mut out, status.code(), words, name);
+    }
 }

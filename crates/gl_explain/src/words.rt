@@ -1,7 +1,7 @@
 //! The words of the command line.
 
 use clap::{Arg, ArgAction, ArgMatches, Command};
-use command_line::text_of;
+use command_line::{number_in, text_of};
 use explain_text::{Format, Manner};
 use std::alloc::{AllocError, Global};
 
@@ -20,7 +20,7 @@ pub(crate) struct Range {
 }
 
 /// The options with numbers.
-pub(crate) const RANGES: [Range; 6] = [
+pub(crate) const RANGES: [Range; 7] = [
     Range {
         name: "workers",
         least: 1,
@@ -51,7 +51,17 @@ pub(crate) const RANGES: [Range; 6] = [
         least: 0,
         most: 16,
     },
+    SECONDS,
 ];
+
+/// For how many seconds in all is tried what may decide an event.
+const SECONDS: Range = Range {
+    name: "seconds",
+    least: 1,
+    most: 99_999,
+};
+
+const USUAL_SECONDS: u32 = 60;
 
 fn with_option<'a>(
     alloc: Global,
@@ -72,10 +82,22 @@ fn with_manner<'a>(alloc: Global, command: Command<'a>) -> Result<Command<'a>, A
         "What is written: text, json or html",
     )?;
     let command = command.arg(
+        Arg::new(alloc, "all")
+            .long("all")
+            .help("Shows included books whole that have nothing to tell")
+            .action(ArgAction::SetTrue),
+    )?;
+    let command = command.arg(
         Arg::new(alloc, "try")
             .long("try")
             .help("Tries what may decide an event that is undecided")
             .action(ArgAction::SetTrue),
+    )?;
+    let command = with_option(
+        alloc,
+        command,
+        "seconds",
+        "For how long --try goes on in all, 1 to 99999, usually 60",
     )?;
     with_option(
         alloc,
@@ -140,6 +162,19 @@ fn format_of(matches: &ArgMatches) -> Option<Format> {
     }
 }
 
+/// For how many seconds is tried what may decide an event: none where that is not asked for.
+fn tries_of(matches: &ArgMatches) -> Option<Option<u32>> {
+    let seconds = match text_of(matches, SECONDS.name) {
+        Some(text) => number_in(text, SECONDS.least, SECONDS.most)?,
+        None => USUAL_SECONDS,
+    };
+    Some(if matches.get_flag("try") {
+        Some(seconds)
+    } else {
+        None
+    })
+}
+
 /// How a run is told, where each word is one that its option takes: on a terminal, and with `--color always`, with seconds; in
 /// colors there, but for `--color never`.
 pub(crate) fn manner_of(matches: &ArgMatches, is_terminal: bool) -> Option<Manner> {
@@ -154,6 +189,7 @@ pub(crate) fn manner_of(matches: &ArgMatches, is_terminal: bool) -> Option<Manne
         format,
         colors,
         seconds,
-        tries: matches.get_flag("try"),
+        shows_all: matches.get_flag("all"),
+        tries: tries_of(matches)?,
     })
 }

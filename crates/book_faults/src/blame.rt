@@ -4,7 +4,7 @@
 //! Else it is the first of these terms such that the form keeps its fault with those behind that one replaced. So it is
 //! the translator that judges, and nothing here knows what a fault is.
 
-use crate::elements::{elements, form_alone};
+use crate::form_elements::{elements, form_alone};
 use crate::span::{Span, cut, is_word, whole};
 use crate::terms::{head_of, terms_of_event, terms_of_term};
 use event_world::{EventFault, event_of};
@@ -23,7 +23,7 @@ const MOST_OPTIONS: usize = 64;
 /// What is asked of each text of a form, in a world and for functions whose calls are kept: whether it means no event for the
 /// same reason.
 #[derive(Clone, Copy)]
-pub(crate) struct Judge<'a> {
+pub struct Judge<'a> {
     pub world: &'a World,
     pub memoized: &'a FnSet,
     pub fault: EventFault,
@@ -38,7 +38,7 @@ fn is_same(fault: EventFault, other: EventFault) -> bool {
 }
 
 /// The fault of a text's first form, where it is one.
-fn fault_of(
+pub fn fault_of(
     alloc: Global,
     judge: &Judge,
     texts: &mut Texts,
@@ -71,12 +71,7 @@ fn fault_of(
 
 impl<'a> Judge<'a> {
     /// Whether a text's first form has the fault.
-    pub(crate) fn refuses(
-        &self,
-        alloc: Global,
-        texts: &mut Texts,
-        text: &[u8],
-    ) -> Result<bool, NoMemory> {
+    pub fn refuses(&self, alloc: Global, texts: &mut Texts, text: &[u8]) -> Result<bool, NoMemory> {
         match fault_of(alloc, self, texts, text)? {
             Some(fault) => Ok(is_same(fault, self.fault)),
             None => Ok(false),
@@ -151,7 +146,7 @@ fn first_faulty(
 
 /// The part that is at fault, and the text in which all terms behind it are replaced.
 #[derive(Drop)]
-pub(crate) struct Blamed {
+pub struct Blamed {
     pub span: Span,
     pub text: Vec<u8>,
 }
@@ -197,7 +192,7 @@ fn further_in(
 }
 
 /// The part of an event's text that is at fault: a term of it, or the whole.
-pub(crate) fn blame(
+pub fn blame(
     alloc: Global,
     judge: &Judge,
     texts: &mut Texts,
@@ -217,7 +212,7 @@ pub(crate) fn blame(
 }
 
 /// A text without a part of it.
-pub(crate) fn taken_out(alloc: Global, text: &[u8], part: Span) -> Result<Vec<u8>, NoMemory> {
+pub fn taken_out(alloc: Global, text: &[u8], part: Span) -> Result<Vec<u8>, NoMemory> {
     let mut out = Report::new(alloc);
     out.text(cut(
         text,
@@ -285,7 +280,7 @@ fn fault_without(
 
 /// The first option of an event without which it is not refused as before; the event where there is none. Without a required
 /// one it lacks a part.
-pub(crate) fn odd_option(
+pub fn odd_option(
     alloc: Global,
     judge: &Judge,
     texts: &mut Texts,

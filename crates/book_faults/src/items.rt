@@ -1,7 +1,7 @@
 //! The item of a list that is at fault: of bindings, of cases, of the clauses of a form.
 
 use crate::blame::{Judge, taken_out};
-use crate::elements::{elements, form_alone};
+use crate::form_elements::{elements, form_alone};
 use crate::span::{Span, byte_at, cut, is_word, token};
 use crate::terms::{all_from, head_of};
 use explain_findings::{bindings_of_text, is_bound};
@@ -23,6 +23,9 @@ fn quoted_elements(alloc: Global, text: &[u8], span: Span) -> Result<Vec<Span>, 
         return elements(alloc, text, list);
     }
     let parts = elements(alloc, text, span)?;
+    if !is_word(head_of(text, &parts), b"auto-bindings") {
+        return Ok(Vec::new(alloc));
+    }
     all_from(alloc, &parts, 1)
 }
 
@@ -55,7 +58,7 @@ fn refuses_up_to(
 }
 
 /// The first of some items such that an event keeps its fault with those behind it taken out; the whole where there is none.
-pub(crate) fn first_odd(
+pub fn first_odd(
     alloc: Global,
     judge: &Judge,
     texts: &mut Texts,
@@ -74,7 +77,7 @@ pub(crate) fn first_odd(
 }
 
 /// The case that is at fault among those behind a keyword.
-pub(crate) fn odd_case(
+pub fn odd_case(
     alloc: Global,
     judge: &Judge,
     texts: &mut Texts,
@@ -103,7 +106,7 @@ fn parts_of(alloc: Global, text: &[u8], form: Span) -> Result<Vec<Span>, NoMemor
 }
 
 /// The part of a malformed form that is at fault; the form where there is none.
-pub(crate) fn odd_part(
+pub fn odd_part(
     alloc: Global,
     judge: &Judge,
     texts: &mut Texts,
@@ -139,7 +142,7 @@ fn binds_up_to(
 }
 
 /// The first item of bindings such that those up to it are none; the bindings where there is none.
-pub(crate) fn odd_binding(
+pub fn odd_binding(
     alloc: Global,
     texts: &mut Texts,
     event: &[u8],
@@ -155,7 +158,7 @@ pub(crate) fn odd_binding(
 }
 
 /// Whether a word may be a variable.
-fn may_be_variable(word: &[u8]) -> bool {
+pub(crate) fn may_be_variable(word: &[u8]) -> bool {
     let is_odd = match word {
         [] => true,
         [first, ..] => {
@@ -236,7 +239,7 @@ fn all_bound_but(
 }
 
 /// The words of some terms that may be variables, each once.
-fn words_of(alloc: Global, text: &[u8], terms: &[Span]) -> Result<Vec<Span>, NoMemory> {
+pub fn words_in(alloc: Global, text: &[u8], terms: &[Span]) -> Result<Vec<Span>, NoMemory> {
     let mut words = Vec::new(alloc);
     for term in terms {
         add_words(text, *term, &mut words)?;
@@ -258,22 +261,23 @@ fn is_unbound(
     judge.refuses(alloc, texts, &tried)
 }
 
-/// The first word of some terms that is a variable of them and not bound.
-pub(crate) fn unbound(
+/// The words of some terms that are variables of them and not bound.
+pub fn unbound(
     alloc: Global,
     judge: &Judge,
     texts: &mut Texts,
     event: &[u8],
     bindings: Span,
     terms: &[Span],
-) -> Result<Option<Span>, NoMemory> {
-    let words = words_of(alloc, event, terms)?;
+) -> Result<Vec<Span>, NoMemory> {
+    let mut found = Vec::new(alloc);
+    let words = words_in(alloc, event, terms)?;
     for (i, word) in words.iter().enumerate() {
         if !is_bound(alloc, texts, cut(event, bindings), cut(event, *word))? {
             if is_unbound(alloc, judge, texts, event, bindings, &words, i)? {
-                return Ok(Some(*word));
+                found.push(*word)?;
             }
         }
     }
-    Ok(None)
+    Ok(found)
 }

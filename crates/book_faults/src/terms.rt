@@ -1,6 +1,6 @@
 //! Where the terms of a form stand: of an event, and of a term.
 
-use crate::elements::elements;
+use crate::form_elements::elements;
 use crate::span::{Span, is_word, token, without_package};
 use explain_findings::is_among;
 use gl_logic::NoMemory;
@@ -10,7 +10,7 @@ use std::alloc::Global;
 type Spans = Vec<Span>;
 
 /// The spans from a number on.
-pub(crate) fn all_from(alloc: Global, spans: &[Span], first: usize) -> Result<Spans, NoMemory> {
+pub fn all_from(alloc: Global, spans: &[Span], first: usize) -> Result<Spans, NoMemory> {
     let mut found = Vec::new(alloc);
     for (i, span) in spans.iter().enumerate() {
         if first <= i {
@@ -96,7 +96,7 @@ fn inside_each(
 }
 
 /// The word with which a list of these elements begins, without a package.
-pub(crate) fn head_of<'a>(text: &'a [u8], parts: &[Span]) -> &'a [u8] {
+pub fn head_of<'a>(text: &'a [u8], parts: &[Span]) -> &'a [u8] {
     match parts.first() {
         Some(part) => without_package(token(text, *part)),
         None => &[],
@@ -104,7 +104,7 @@ pub(crate) fn head_of<'a>(text: &'a [u8], parts: &[Span]) -> &'a [u8] {
 }
 
 /// The terms of an event, in the order of the text.
-pub(crate) fn terms_of_event(alloc: Global, text: &[u8], event: Span) -> Result<Spans, NoMemory> {
+pub fn terms_of_event(alloc: Global, text: &[u8], event: Span) -> Result<Spans, NoMemory> {
     let parts = elements(alloc, text, event)?;
     let head = head_of(text, &parts);
     if is_among(head, "value-triple assert-event") {
@@ -142,7 +142,7 @@ fn terms_of_case(alloc: Global, text: &[u8], parts: &[Span]) -> Result<Spans, No
 }
 
 /// The terms that a term is made of, in the order of the text.
-pub(crate) fn terms_of_term(alloc: Global, text: &[u8], term: Span) -> Result<Spans, NoMemory> {
+pub fn terms_of_term(alloc: Global, text: &[u8], term: Span) -> Result<Spans, NoMemory> {
     let parts = elements(alloc, text, term)?;
     let head = head_of(text, &parts);
     if head.is_empty() || is_word(head, b"quote") {

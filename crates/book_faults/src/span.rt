@@ -2,13 +2,13 @@
 
 /// A part of a text, by the offset of its first byte and the one behind its last.
 #[derive(Clone, Copy, Debug, PartialEq, Eq)]
-pub(crate) struct Span {
+pub struct Span {
     pub start: usize,
     pub end: usize,
 }
 
 /// All of a text.
-pub(crate) fn whole(text: &[u8]) -> Span {
+pub fn whole(text: &[u8]) -> Span {
     Span {
         start: 0,
         end: text.len(),
@@ -16,7 +16,7 @@ pub(crate) fn whole(text: &[u8]) -> Span {
 }
 
 /// The bytes of a part, and none where the text has no such part.
-pub(crate) fn cut(text: &[u8], span: Span) -> &[u8] {
+pub fn cut(text: &[u8], span: Span) -> &[u8] {
     if span.start <= span.end && span.end <= text.len() {
         &text[span.start..span.end]
     } else {
@@ -25,7 +25,7 @@ pub(crate) fn cut(text: &[u8], span: Span) -> &[u8] {
 }
 
 /// A byte of a text, and 0 behind its end.
-pub(crate) fn byte_at(text: &[u8], offset: usize) -> u8 {
+pub fn byte_at(text: &[u8], offset: usize) -> u8 {
     if offset < text.len() { text[offset] } else { 0 }
 }
 
@@ -35,7 +35,7 @@ fn ends_token(byte: u8) -> bool {
 }
 
 /// The length of the token with which a text begins.
-pub(crate) fn token_len(text: &[u8]) -> usize {
+pub fn token_len(text: &[u8]) -> usize {
     for (i, byte) in text.iter().enumerate() {
         if ends_token(*byte) {
             return i;
@@ -45,19 +45,19 @@ pub(crate) fn token_len(text: &[u8]) -> usize {
 }
 
 /// The token with which a part begins: no byte where it begins otherwise.
-pub(crate) fn token(text: &[u8], span: Span) -> &[u8] {
+pub fn token(text: &[u8], span: Span) -> &[u8] {
     let bytes = cut(text, span);
     let end = token_len(bytes);
     cut(bytes, Span { start: 0, end })
 }
 
 /// Whether two words differ in case alone.
-pub(crate) fn is_word(word: &[u8], other: &[u8]) -> bool {
+pub fn is_word(word: &[u8], other: &[u8]) -> bool {
     word.eq_ignore_ascii_case(other)
 }
 
 /// A name without the prefix of a package that is dropped.
-pub(crate) fn without_package(word: &[u8]) -> &[u8] {
+pub fn without_package(word: &[u8]) -> &[u8] {
     let end = word.len();
     if is_word(cut(word, Span { start: 0, end: 6 }), b"acl2::") {
         cut(word, Span { start: 6, end })
@@ -69,7 +69,7 @@ pub(crate) fn without_package(word: &[u8]) -> &[u8] {
 }
 
 /// The number of the line in which an offset stands, from 1.
-pub(crate) fn line_of(text: &[u8], offset: usize) -> u64 {
+pub fn line_of(text: &[u8], offset: usize) -> u64 {
     let mut line: u64 = 1;
     for byte in cut(
         text,
@@ -86,7 +86,7 @@ pub(crate) fn line_of(text: &[u8], offset: usize) -> u64 {
 }
 
 /// Where the line of an offset begins.
-pub(crate) fn line_start(text: &[u8], offset: usize) -> usize {
+pub fn line_start(text: &[u8], offset: usize) -> usize {
     let mut start = 0;
     for (i, byte) in cut(
         text,
@@ -106,7 +106,7 @@ pub(crate) fn line_start(text: &[u8], offset: usize) -> usize {
 }
 
 /// Where the line of an offset ends.
-pub(crate) fn line_end(text: &[u8], offset: usize) -> usize {
+pub fn line_end(text: &[u8], offset: usize) -> usize {
     let rest = cut(
         text,
         Span {
@@ -123,7 +123,7 @@ pub(crate) fn line_end(text: &[u8], offset: usize) -> usize {
 }
 
 /// The column of an offset in its line, in bytes from 1.
-pub(crate) fn column_of(text: &[u8], offset: usize) -> u64 {
+pub fn column_of(text: &[u8], offset: usize) -> u64 {
     let before = offset.saturating_sub(line_start(text, offset)) as u64;
     before.saturating_add(1)
 }

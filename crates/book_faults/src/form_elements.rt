@@ -75,7 +75,7 @@ fn offsets_of(alloc: Global, text: &[u8], places: &[Place]) -> Result<Vec<usize>
 }
 
 /// The offset of a line and a column.
-pub(crate) fn offset_of(
+pub fn offset_of(
     alloc: Global,
     text: &[u8],
     line: u32,
@@ -122,7 +122,7 @@ fn offsets_read(alloc: Global, text: &[u8]) -> Result<Vec<usize>, NoMemory> {
 
 /// The elements of the list that a part of a text is, each from its first byte to the next element or the list's end, and
 /// none where the part is no list.
-pub(crate) fn elements(alloc: Global, text: &[u8], span: Span) -> Result<Vec<Span>, NoMemory> {
+pub fn elements(alloc: Global, text: &[u8], span: Span) -> Result<Vec<Span>, NoMemory> {
     if byte_at(text, span.start) != b'(' {
         return Ok(Vec::new(alloc));
     }
@@ -139,7 +139,7 @@ pub(crate) fn elements(alloc: Global, text: &[u8], span: Span) -> Result<Vec<Spa
 }
 
 /// A part without the blanks at its end.
-pub(crate) fn without_blanks(text: &[u8], span: Span) -> Span {
+pub fn without_blanks(text: &[u8], span: Span) -> Span {
     let mut end = span.start;
     for (i, byte) in cut(text, span).iter().enumerate() {
         if *byte > 32 {
@@ -153,7 +153,7 @@ pub(crate) fn without_blanks(text: &[u8], span: Span) -> Span {
 }
 
 /// The form with which a part begins, without what stands behind it.
-pub(crate) fn form_alone(alloc: Global, text: &[u8], span: Span) -> Result<Span, NoMemory> {
+pub fn form_alone(alloc: Global, text: &[u8], span: Span) -> Result<Span, NoMemory> {
     let start = span.start;
     if byte_at(text, start) == b'(' {
         let parts = elements(alloc, text, span)?;
@@ -200,6 +200,16 @@ fn behind_gaps(text: &[u8], start: usize) -> usize {
     text.len()
 }
 
+/// The offsets of a text's whole forms; none of one that is too long.
+pub fn offsets_of_forms(alloc: Global, text: &[u8]) -> Result<Vec<usize>, NoMemory> {
+    let Some(read) = forms_of(alloc, text)? else {
+        return Ok(Vec::new(alloc));
+    };
+    let places = places_of(alloc, &read.list)?;
+    drop(read);
+    offsets_of(alloc, text, &places)
+}
+
 /// The offset of the last of a text's whole forms.
 fn last_form(alloc: Global, text: &[u8], forms: &Forms) -> Result<Option<usize>, NoMemory> {
     let places = places_of(alloc, &forms.list)?;
@@ -207,7 +217,7 @@ fn last_form(alloc: Global, text: &[u8], forms: &Forms) -> Result<Option<usize>,
 }
 
 /// Where what stands behind the whole forms of a text begins.
-pub(crate) fn behind_forms(alloc: Global, text: &[u8]) -> Result<usize, NoMemory> {
+pub fn behind_forms(alloc: Global, text: &[u8]) -> Result<usize, NoMemory> {
     let Some(read) = forms_of(alloc, text)? else {
         return Ok(0);
     };
