@@ -19,24 +19,29 @@ use Rattle.event_world.specs.declared.word.EventWord.{EventWord}
 use Rattle.event_world.specs.declared.word.EventWord.TheVariants as word
 use Rattle.event_world.specs.EventSeen.{TheoremSeen, EventSeen, Nothing, Redundant, RedundantClique, SetMode, Memoize, Unmemoize, Value, Assert, Defun, Defconst, Theorem, Cases, Clique}
 use Rattle.event_world.specs.Outcomes.{Outcome, found_or, holds_or}
-use Rattle.event_world.specs.EventWords.{word_of, behind_head}
+use Rattle.event_world.specs.EventForms.{word_in, redundant_by, checked, event_by}
+use Rattle.event_world.specs.EventWords.{behind_head}
 use Rattle.event_world.specs.PartsOf.{is_empty, one_of, two_of, three_of}
 use Rattle.event_world.specs.NamesMeant.{is_taken}
 use Rattle.event_world.specs.Declares.{stated_measure}
-use Rattle.event_world.specs.PlainMeant.{is_package, is_book, closed_meant, evaluation_meant, function_in, memo_meant, constant_in, defconst_meant}
+use Rattle.event_world.specs.PlainForms.{is_package, is_book, evaluation_by, function_in, memo_by, constant_in, defconst_by}
+use Rattle.event_world.specs.PlainMeant.{closed_meant}
 use Rattle.event_world.specs.DefunMeant.{defun_parts, formals_meant, body_meant, admitted, definition_made, defun_meant}
-use Rattle.event_world.specs.CliqueMeant.{clique_parts, all_stated, are_new, all_made, owns_of, members_meant, with_settled, clique_admitted, clique_judged, clique_made, clique_meant}
+use Rattle.event_world.specs.CliqueForms.{clique_parts, all_stated, are_new, all_made, clique_made, clique_by}
+use Rattle.event_world.specs.CliqueMeant.{owns_of, members_meant, with_settled, clique_admitted, clique_judged}
 use Rattle.admission.specs.Refused.{first_refused}
-use Rattle.event_world.specs.TheoremMeant.{theorem_parts, clocks_meant, claim_meant, hyp_meant, bound_meant, theorem_made, theorem_meant}
+use Rattle.event_world.specs.TheoremForms.{theorem_parts, theorem_by}
+use Rattle.event_world.specs.TheoremMeant.{clocks_meant, claim_meant, hyp_meant, bound_meant, theorem_made}
 use Rattle.shape_spec.specs.TheoremSeen.{set_by}
 use Rattle.gl_cases.specs.ParamMade.{param_set}
 use Rattle.event_world.specs.KeywordTexts.{case_texts, option_texts}
-use Rattle.event_world.specs.CasesMeant.{cases_parts, quoted_cases, cases_claimed, param_meant}
-use Rattle.event_world.specs.RedundantMeant.{repeated_name, repeated_member, are_repeated, checked_repeated, redundant, redundant_meant}
-use Rattle.event_world.specs.EventMeant.{checked, unless_redundant, event_meant}
+use Rattle.event_world.specs.CasesForms.{cases_parts, quoted_cases, cases_claimed, param_by}
+use Rattle.event_world.specs.RedundantMeant.{repeated_name, repeated_member, are_repeated, checked_repeated, redundant}
+use Rattle.event_world.specs.EventMeant.{unless_redundant, event_meant}
 use Rattle.event_world.specs.Suits.{Suits, IsNewTheorem}
 use Rattle.event_world.proofs.Inversions.{given, same_given, no_code, found_ok, holds_ok, then_ok, none_some, map_some, if_some, or_true}
 use Rattle.event_world.proofs.SuitedEvents.{event_suits}
+use Rattle.event_world.proofs.EventTables.{event_is}
 use Rattle.gl_logic.specs.FreeVariables.{is_free_in}
 use Rattle.admission.proofs.Arguments.{eqb_turned}
 use Rattle.shape_spec.specs.Indices.{variables_of}
@@ -60,15 +65,15 @@ module _ (memoized : List ℕ) where
   plain_place t event e p h = holds_ok code.BadEvent t (given event) e h (λ z q. placed_at event e p q)
 
   module _ (names : List (List ℕ)) (w : WorldSeen) where
-    evaluation_place : (event : Exp → EventSeen) (parts : List Object) (e : EventSeen) → ((t : Exp) → HasPlace memoized (event t)) → evaluation_meant names w event parts ≡ Ok e → HasPlace memoized e
+    evaluation_place : (event : Exp → EventSeen) (parts : List Object) (e : EventSeen) → ((t : Exp) → HasPlace memoized (event t)) → evaluation_by names w event parts ≡ Ok e → HasPlace memoized e
     evaluation_place event parts e p h =
         found_ok code.BadEvent (one_of parts) _ e h (λ form hf q.
         then_ok (closed_meant names w form) _ e q (λ t ht r. placed_at (event t) e (p t) r))
 
-    memo_place : (event : ℕ → EventSeen) (parts : List Object) (e : EventSeen) → ((f : ℕ) → HasPlace memoized (event f)) → memo_meant names w event parts ≡ Ok e → HasPlace memoized e
+    memo_place : (event : ℕ → EventSeen) (parts : List Object) (e : EventSeen) → ((f : ℕ) → HasPlace memoized (event f)) → memo_by names w event parts ≡ Ok e → HasPlace memoized e
     memo_place event parts e p h = then_ok (function_in names w parts) _ e h (λ f hf r. placed_at (event f) e (p f) r)
 
-    defconst_place : (parts : List Object) (e : EventSeen) → defconst_meant names w parts ≡ Ok e → HasPlace memoized e
+    defconst_place : (parts : List Object) (e : EventSeen) → defconst_by names w parts ≡ Ok e → HasPlace memoized e
     defconst_place parts e h =
         found_ok code.BadEvent (option_and_then (constant_in names) (two_of parts)) _ e h (λ p hp k.
         holds_ok code.Redefined (not (is_taken names w p.name)) _ e k (λ new q.
@@ -91,7 +96,7 @@ module _ (memoized : List ℕ) where
     settled_place first ds None e h = placed_at (Clique (with_settled first ds)) e tt h
     settled_place first ds (Some i) e h = no_code (code.NotAdmitted i) e h
 
-    clique_place : (parts : List Object) (e : EventSeen) → clique_meant names w parts ≡ Ok e → HasPlace memoized e
+    clique_place : (parts : List Object) (e : EventSeen) → clique_by names w parts ≡ Ok e → HasPlace memoized e
     clique_place parts e h =
         found_ok code.BadEvent (clique_parts names parts) (clique_made names w) e h (λ ps hps h1.
         found_ok code.BadOption (all_stated names ps) _ e h1 (λ ss hss h2.
@@ -100,7 +105,7 @@ module _ (memoized : List ℕ) where
         then_ok (members_meant names w (owns_of ms) ms) (clique_judged w) e h4 (λ ds hds h5.
         settled_place (length w.definitions) ds (first_refused (length w.definitions) (map settled ds)) e h5)))))
 
-    theorem_place : (now : Mode) (parts : List Object) (e : EventSeen) → theorem_meant names w now memoized parts ≡ Ok e → HasPlace memoized e
+    theorem_place : (now : Mode) (parts : List Object) (e : EventSeen) → theorem_by names w now memoized parts ≡ Ok e → HasPlace memoized e
     theorem_place now parts e h =
         found_ok code.BadEvent (theorem_parts names parts) _ e h (λ p hp h1.
         found_ok code.BadOption (clocks_meant names option_texts p.options) _ e h1 (λ clocks hk h2.
@@ -108,9 +113,9 @@ module _ (memoized : List ℕ) where
         then_ok (hyp_meant names w p.hyp) _ e h3 (λ a ha h4.
         then_ok (claim_meant names w p.concl) _ e h4 (λ c hc h5.
         then_ok (bound_meant names p.bindings a c) _ e h5 (λ b hb r.
-        placed_at (Theorem (theorem_made now memoized p clocks a c b)) e refl r))))))
+        placed_at (Theorem (theorem_made now memoized p.name clocks a c b)) e refl r))))))
 
-    param_place : (now : Mode) (parts : List Object) (e : EventSeen) → param_meant names w now memoized parts ≡ Ok e → HasPlace memoized e
+    param_place : (now : Mode) (parts : List Object) (e : EventSeen) → param_by names w now memoized parts ≡ Ok e → HasPlace memoized e
     param_place now parts e h =
         found_ok code.BadEvent (cases_parts names parts) _ e h (λ p hp h1.
         found_ok code.BadOption (clocks_meant names case_texts p.options) _ e h1 (λ clocks hk h2.
@@ -147,7 +152,7 @@ module _ (memoized : List ℕ) where
     members_place None e h = none_some e h
     members_place (Some ns) e h = if_some (are_repeated ns) (RedundantClique ns) e h (λ t q. subst (HasPlace memoized) q tt)
 
-    redundant_place : (k : EventWord) (form : Object) (o : Option (List Object)) (e : EventSeen) → redundant_meant names w k form o ≡ Some e → HasPlace memoized e
+    redundant_place : (k : EventWord) (form : Object) (o : Option (List Object)) (e : EventSeen) → redundant_by names w k form o ≡ Some e → HasPlace memoized e
     redundant_place word.InPackage form o e h = none_some e h
     redundant_place word.IncludeBook form o e h = none_some e h
     redundant_place word.Defun form o e h = repeated_place form e h
@@ -167,11 +172,11 @@ module _ (memoized : List ℕ) where
     unless_place (Some r) further e f g h = placed_at r e (f r refl) h
     unless_place None further e f g h = g h
 
-    pub meant_place : (now : Mode) (form : Object) (e : EventSeen) → event_meant names w now memoized form ≡ Ok e → HasPlace memoized e
+    pub meant_place : (now : Mode) (form : Object) (e : EventSeen) → event_by names w now memoized form ≡ Ok e → HasPlace memoized e
     meant_place now form e h =
         let parts = elements (behind_head form) in
-        found_ok code.UnknownEvent (word_of names form) _ e h (λ k hk q.
-        unless_place (redundant_meant names w k form parts) (found_or code.BadEvent parts (checked names w now memoized k)) e
+        found_ok code.UnknownEvent (word_in names form) _ e h (λ k hk q.
+        unless_place (redundant_by names w k form parts) (found_or code.BadEvent parts (checked names w now memoized k)) e
         (λ r hr. redundant_place k form parts r hr)
         (λ z. found_ok code.BadEvent parts (checked names w now memoized k) e z (λ xs hxs y. checked_place now k xs e y)) q)
 
@@ -211,4 +216,4 @@ of_definitions w memoized (Clique ds) fs s p = tt
 of_definitions w memoized (RedundantClique ns) fs s p = tt
 
 pub answerable : (names : List (List ℕ)) (w : WorldSeen) (now : Mode) (memoized : List ℕ) (form : Object) (e : EventSeen) → All (λ f. f < length w.definitions) memoized → event_meant names w now memoized form ≡ Ok e → IsAnswerable w.definitions memoized e
-answerable names w now memoized form e fs h = record { functions = fs; event = of_definitions w memoized e fs (event_suits names w now memoized form e h) (meant_place memoized names w now form e h) }
+answerable names w now memoized form e fs h = record { functions = fs; event = of_definitions w memoized e fs (event_suits names w now memoized form e h) (meant_place memoized names w now form e (sym (event_is names w now memoized form) ∙ h)) }

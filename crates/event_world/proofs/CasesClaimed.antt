@@ -7,7 +7,8 @@ use Rattle.gl_logic.specs.Wording.{all_meant}
 use Rattle.event_world.specs.declared.fault.EventFault.{EventFault}
 use Rattle.event_world.specs.declared.fault.EventFault.TheVariants as code
 use Rattle.event_world.specs.Outcomes.{Outcome, found_or}
-use Rattle.event_world.specs.CasesMeant.{CasesParts, QuotedCases, case_bound, claim_of, parts_bound, parts_claimed}
+use Rattle.event_world.specs.CasesForms.{CasesParts, parts_bound, parts_claimed}
+use Rattle.event_world.specs.CasesMeant.{QuotedCases, case_bound, claim_of}
 
 both_or : {A B C : Type 0} → (c : EventFault) → (x : Option A) → (y : Option B) → (next : A → B → Outcome C) → found_or c x (λ a. found_or c y (λ b. next a b)) ≡ found_or {A = A × B} c (option_and_then (λ a. option_map (λ b. (a, b)) y) x) (λ p. next p.0 p.1)
 both_or c (Some a) (Some b) next = refl

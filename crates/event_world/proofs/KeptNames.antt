@@ -4,7 +4,8 @@ use Rattle.std.specs.Prelude.{bytes_eq}
 use Rattle.std.specs.List.{list_any, list_all}
 use Rattle.gl_logic.specs.Object.{Object, Int, Character, Symbol, Text, Cons}
 use Rattle.gl_logic.specs.Lists.{elements_of, tail_of}
-use Rattle.event_world.specs.CasesMeant.{CasesParts, CaseParts, has_any, has_any_in, is_without, are_without}
+use Rattle.event_world.specs.CasesForms.{CasesParts, has_any_in, is_without, are_without}
+use Rattle.event_world.specs.CasesMeant.{CaseParts, has_any}
 
 or_assoc : (a b c : Bool) → (a || (b || c)) ≡ ((b || a) || c)
 or_assoc true true c = refl

@@ -20,7 +20,8 @@ use Rattle.event_world.specs.PartsOf.{two_in}
 use Rattle.event_world.specs.KeywordTexts.{case_texts}
 use Rattle.event_world.specs.Keywords.{pairs_of, value_of}
 use Rattle.event_world.specs.TheoremMeant.{clocks_meant}
-use Rattle.event_world.specs.CasesMeant.{CasesParts, with_forms, forms_in, named_forms, cases_parts, CaseParts, QuotedCases, constant_of, constant_meant, if_apart, constants_meant, case_of, case_meant, are_cases, if_cases, is_quoting, cases_of, are_kept, if_kept, quoted_cases, case_bound, param_bound, cases_claimed, param_meant}
+use Rattle.event_world.specs.CasesForms.{CasesParts, with_forms, forms_in, named_forms, cases_parts, is_kept, if_kept, quoted_cases, cases_claimed, param_by}
+use Rattle.event_world.specs.CasesMeant.{CaseParts, QuotedCases, constant_of, constant_meant, if_apart, constants_meant, case_of, case_meant, are_cases, if_cases, is_quoting, cases_of, case_bound, param_bound}
 use Rattle.event_world.proofs.LaterTexts.{map_has, then_has, then_same, cond_has, all_meant_same, all_meant_has, Known, IsKnown, later, spells_same, elements_known, two_in_known, plain_same, plain_known, taken_same, PairKnown, pairs_same, pairs_known, value_same, value_known}
 use Rattle.event_world.proofs.LaterShapes.{bindings_same}
 use Rattle.event_world.proofs.LaterTheorems.{found_same, anything, clocks_same, claim_same, hyp_same}
@@ -142,7 +143,7 @@ module _ (names more : List (List ℕ)) (n : ℕ) (unnamed : number_of [] names 
   quoted_known p k =
       then_has QuotedKnown QuotedKnown (if_kept p) (option_and_then (cases_of names) (two_in p.cases))
       (then_has Two QuotedKnown (cases_of names) (two_in p.cases) (two_in_known names more p.cases k.cases) cases_of_known)
-      (λ q z. cond_has QuotedKnown (are_kept p q.cases) (Some q) None z tt)
+      (λ q z. cond_has QuotedKnown (is_kept p q.cases) (Some q) None z tt)
 
   -- ---- the bindings, and the whole
   case_bound_same : (mark : Object) → Here mark → (c : CaseParts) → CaseKnown c → case_bound new mark c ≡ case_bound names mark c
@@ -161,7 +162,7 @@ module _ (names more : List (List ℕ)) (n : ℕ) (unnamed : number_of [] names 
   abbrev set_with : Mode → List ℕ → ℕ × ℕ → Outcome ParamSeen → Outcome EventSeen
   set_with now memoized clocks o = and_then o (λ thm. Ok (Cases (param_set clocks.0 clocks.1 now memoized thm)))
 
-  pub param_same : (now : Mode) (memoized : List ℕ) (xs : List Object) → Every Here xs → param_meant new w now memoized xs ≡ param_meant names w now memoized xs
+  pub param_same : (now : Mode) (memoized : List ℕ) (xs : List Object) → Every Here xs → param_by new w now memoized xs ≡ param_by names w now memoized xs
   param_same now memoized xs h =
       ap (λ o. found_or code.BadEvent o (λ p. found_or code.BadOption (clocks_meant new case_texts p.options) (λ clocks. found_or code.BadCases (quoted_cases new p) (λ q. holds_or code.Redefined (not (is_taken new w p.name)) (set_with now memoized clocks (cases_claimed new w p q)))))) (parts_same xs h)
       ∙ found_same PartsKnown code.BadEvent (cases_parts names xs) _ _ (parts_known xs h) (λ p k.

@@ -20,21 +20,26 @@ use Rattle.event_world.specs.declared.word.EventWord.{EventWord}
 use Rattle.event_world.specs.declared.word.EventWord.TheVariants as word
 use Rattle.event_world.specs.EventSeen.{EventSeen, Nothing, Value, Assert, Memoize, Unmemoize, Defconst}
 use Rattle.event_world.specs.Outcomes.{and_then, found_or, holds_or, of_term}
-use Rattle.event_world.specs.EventWords.{event_word, word_of, behind_head}
+use Rattle.event_world.specs.EventForms.{event_word, word_in, redundant_by, checked, meant_behind, event_by}
+use Rattle.event_world.specs.EventWords.{behind_head}
 use Rattle.event_world.specs.PartsOf.{one_of, two_of, three_of, two_in, three_in, four_in, split_last}
 use Rattle.event_world.specs.NamesMeant.{plain_name, constant_name, is_taken}
 use Rattle.event_world.specs.Keywords.{pairs_of, value_of, are_options}
 use Rattle.event_world.specs.KeywordTexts.{xargs_texts}
-use Rattle.event_world.specs.MeasureMeant.{is_formal, of_formal, gap_of, of_gap, of_part, natural_of, natural_meant, is_one, one_more_of, ordinal_of, measure_meant}
+use Rattle.event_world.specs.MeasureMeant.{is_formal, of_formal, gap_of, of_gap, of_part, natural_meant, is_one, one_more_of, ordinal_of, measure_meant}
 use Rattle.event_world.specs.Declares.{is_text, is_declare, is_ignored, declared_pairs, all_pairs, pairs_before, xargs_of, stated_of, stated_in, stated_measure}
-use Rattle.event_world.specs.DefunMeant.{DefunParts, texts_in, may_stand_before, with_body, named_parts, defun_parts, checked_formals, formals_meant, body_meant, judged, definition_made, defun_made, defun_meant}
-use Rattle.event_world.specs.CliqueMeant.{headed_parts, member_parts, are_members, checked_members, clique_parts, StatedMember, stated_member, all_stated, is_new, are_new, MadeMember, made_member, all_made, owns_of, members_meant, clique_judged, clique_made, clique_meant}
-use Rattle.event_world.specs.PlainMeant.{is_string, is_package, is_book, quoted_in, quoted_part, function_named, memo_meant, closed_meant, evaluation_meant, ConstantParts, constant_with, constant_in, defconst_meant}
-use Rattle.event_world.specs.RedundantMeant.{repeated_name, repeated_member, checked_repeated, redundant_clique, redundant_meant}
-use Rattle.event_world.specs.EventMeant.{checked, unless_redundant, meant_behind, event_meant}
+use Rattle.event_world.specs.DefunMeant.{DefunParts, texts_in, may_stand_before, with_body, named_parts, defun_parts, checked_formals, formals_meant, body_meant, judged, definition_made, defun_meant}
+use Rattle.event_world.specs.DefunForms.{defun_made}
+use Rattle.event_world.specs.CliqueMeant.{headed_parts, member_parts, are_members, StatedMember, stated_member, MadeMember, made_member, owns_of, members_meant, clique_judged}
+use Rattle.event_world.specs.CliqueForms.{checked_members, clique_parts, all_stated, is_new, are_new, all_made, clique_made, clique_by}
+use Rattle.event_world.specs.PlainMeant.{is_string, function_named, closed_meant}
+use Rattle.event_world.specs.PlainForms.{is_package, is_book, quoted_in, quoted_part, memo_by, evaluation_by, ConstantParts, constant_with, constant_in, defconst_by}
+use Rattle.event_world.specs.RedundantMeant.{repeated_name, repeated_member, checked_repeated, redundant_clique}
+use Rattle.event_world.specs.EventMeant.{unless_redundant, event_meant}
 use Rattle.event_world.proofs.LaterTexts.{map_has, then_has, then_same, both_has, cond_has, all_meant_same, all_meant_has, all_same, every_append, one_has, two_has, three_has, split_has, Known, IsKnown, later, text_same, spells_same, elements_known, two_in_known, three_in_known, four_in_known, plain_same, plain_known, constant_same, constant_known, taken_same, PairKnown, pairs_same, pairs_known, value_same, value_known, options_same}
 use Rattle.event_world.proofs.LaterTheorems.{found_same, anything, translated_same, theorem_same}
 use Rattle.event_world.proofs.LaterCases.{param_same}
+use Rattle.event_world.proofs.EventTables.{event_is}
 
 module _ (names more : List (List ℕ)) (n : ℕ) (unnamed : number_of [] names ≡ Some n) (w : WorldSeen) where
   abbrev Here : Object → Type 0
@@ -62,7 +67,7 @@ module _ (names more : List (List ℕ)) (n : ℕ) (unnamed : number_of [] names 
   part_same formals k (Text z) h g = gap_same formals k (three_in (Text z)) h (three_in_known names more (Text z) g)
   part_same formals k (Cons a d) h g = gap_same formals k (three_in (Cons a d)) h (three_in_known names more (Cons a d) g)
 
-  natural_at : (formals : List Object) (o : Option (Object × Object)) → IfSome o (λ p. Here p.0 × Here p.1) → natural_of new formals o ≡ natural_of names formals o
+  natural_at : (formals : List Object) (o : Option (Object × Object)) → IfSome o (λ p. Here p.0 × Here p.1) → option_and_then (λ p. of_part new formals p.0 p.1) o ≡ option_and_then (λ p. of_part names formals p.0 p.1) o
   natural_at formals None h = refl
   natural_at formals (Some p) h = part_same formals p.0 p.1 h.0 h.1
 
@@ -259,7 +264,7 @@ module _ (names more : List (List ℕ)) (n : ℕ) (unnamed : number_of [] names 
       (λ i. holds_or code.Redefined (all_same StatedKnown (is_new new w) (is_new names w) ss k (λ s z. ap not (taken_at s.parts.name z.name)) i) (found_or (code.Term term_fault.BadUse) (all_meant_same StatedKnown (made_member new) (made_member names) ss k made_member_same i) (λ made. and_then (members_meant new w (owns_of made) made) (clique_judged w))))
       ∙ ap (holds_or code.Redefined (are_new names w ss)) (found_same (Every MadeKnown) (code.Term term_fault.BadUse) (all_made names ss) _ _ (all_meant_has StatedKnown MadeKnown (made_member names) ss k made_member_known) (λ ms z. ap (λ o. and_then o (clique_judged w)) (members_same (owns_of ms) ms z))))
 
-  clique_same : (xs : List Object) → Every Here xs → clique_meant new w xs ≡ clique_meant names w xs
+  clique_same : (xs : List Object) → Every Here xs → clique_by new w xs ≡ clique_by names w xs
   clique_same xs h =
       ap (λ o. found_or code.BadEvent (checked_members o) (clique_made new w)) (all_meant_same Here (member_parts new) (member_parts names) xs h member_parts_same)
       ∙ found_same (Every DefunKnown) code.BadEvent (clique_parts names xs) (clique_made new w) (clique_made names w) (members_known (all_meant (member_parts names) xs) (all_meant_has Here DefunKnown (member_parts names) xs h member_parts_known)) clique_made_same
@@ -285,13 +290,13 @@ module _ (names more : List (List ℕ)) (n : ℕ) (unnamed : number_of [] names 
       then_same Here (λ x. option_and_then (quoted_in new) (two_in x)) (λ x. option_and_then (quoted_in names) (two_in x)) (one_of xs) (one_has Here xs h)
       (λ x k. then_same (λ p. Here p.0 × Here p.1) (quoted_in new) (quoted_in names) (two_in x) (two_in_known names more x k) (λ p z. ap (λ b. cond b (Some p.1) None) (spelled (codes "QUOTE") p.0 z.0)))
 
-  memo_same : (event : ℕ → EventSeen) (xs : List Object) → Every Here xs → memo_meant new w event xs ≡ memo_meant names w event xs
+  memo_same : (event : ℕ → EventSeen) (xs : List Object) → Every Here xs → memo_by new w event xs ≡ memo_by names w event xs
   memo_same event xs h = ap (λ o. and_then (found_or code.BadEvent o (λ x. found_or (code.Term term_fault.UnknownFunction) (function_named w x) (λ f. Ok f))) (λ f. Ok (event f))) (quoted_same xs h)
 
   closed_same : (form : Object) → Here form → closed_meant new w form ≡ closed_meant names w form
   closed_same form h = ap of_term (translated_same names more n unnamed w (record { vars = []; every = false; own = [] }) form h)
 
-  evaluation_same : (event : Exp → EventSeen) (xs : List Object) → Every Here xs → evaluation_meant new w event xs ≡ evaluation_meant names w event xs
+  evaluation_same : (event : Exp → EventSeen) (xs : List Object) → Every Here xs → evaluation_by new w event xs ≡ evaluation_by names w event xs
   evaluation_same event xs h = found_same Here code.BadEvent (one_of xs) _ _ (one_has Here xs h) (λ form k. ap (λ o. and_then o (λ t. Ok (event t))) (closed_same form k))
 
   record ConstantKnown (p : ConstantParts) : Type 0 where
@@ -305,7 +310,7 @@ module _ (names more : List (List ℕ)) (n : ℕ) (unnamed : number_of [] names 
   constant_with_known None form h k = tt
   constant_with_known (Some c) form h k = record { name = h; form = k }
 
-  defconst_same : (xs : List Object) → Every Here xs → defconst_meant new w xs ≡ defconst_meant names w xs
+  defconst_same : (xs : List Object) → Every Here xs → defconst_by new w xs ≡ defconst_by names w xs
   defconst_same xs h =
       ap (λ o. found_or code.BadEvent o (λ p. holds_or code.Redefined (not (is_taken new w p.name)) (and_then (closed_meant new w p.form) (λ t. Ok (Defconst p.name t)))))
       (then_same (λ p. Here p.0 × Here p.1) (constant_in new) (constant_in names) (two_of xs) (two_has Here xs h) (λ p k. constant_in_same p k.0))
@@ -340,7 +345,7 @@ module _ (names more : List (List ℕ)) (n : ℕ) (unnamed : number_of [] names 
   redundant_clique_same : (o : Option (List Object)) → IfSome o (Every Here) → redundant_clique new w o ≡ redundant_clique names w o
   redundant_clique_same o h = ap checked_repeated (then_same (Every Here) (all_meant (repeated_member new w)) (all_meant (repeated_member names w)) o h (λ xs k. all_meant_same Here (repeated_member new w) (repeated_member names w) xs k repeated_same))
 
-  redundant_same : (k : EventWord) (form : Object) (o : Option (List Object)) → IfSome o (Every Here) → redundant_meant new w k form o ≡ redundant_meant names w k form o
+  redundant_same : (k : EventWord) (form : Object) (o : Option (List Object)) → IfSome o (Every Here) → redundant_by new w k form o ≡ redundant_by names w k form o
   redundant_same word.InPackage form o h = refl
   redundant_same word.IncludeBook form o h = refl
   redundant_same word.Defun form o h = refl
@@ -359,7 +364,7 @@ module _ (names more : List (List ℕ)) (n : ℕ) (unnamed : number_of [] names 
   behind_same : (now : Mode) (memoized : List ℕ) (k : EventWord) (form : Object) (o : Option (List Object)) → IfSome o (Every Here) → meant_behind new w now memoized k form o ≡ meant_behind names w now memoized k form o
   behind_same now memoized k form o h = λ i. unless_redundant (redundant_same k form o h i) (found_same (Every Here) code.BadEvent o (checked new w now memoized k) (checked names w now memoized k) h (checked_same now memoized k) i)
 
-  word_same : (form : Object) → Here form → word_of new form ≡ word_of names form
+  word_same : (form : Object) → Here form → word_in new form ≡ word_in names form
   word_same (Int z) h = refl
   word_same (Character z) h = refl
   word_same (Symbol z) h = refl
@@ -377,12 +382,15 @@ module _ (names more : List (List ℕ)) (n : ℕ) (unnamed : number_of [] names 
   behind_known (Text z) h = h
   behind_known (Cons a d) h = h.1
 
-  event_same : (now : Mode) (memoized : List ℕ) (form : Object) → Here form → event_meant new w now memoized form ≡ event_meant names w now memoized form
+  event_same : (now : Mode) (memoized : List ℕ) (form : Object) → Here form → event_by new w now memoized form ≡ event_by names w now memoized form
   event_same now memoized form h =
       let parts = elements (behind_head form) in
       let known = elements_known names more (behind_head form) (behind_known form h) in
       ap (λ o. found_or code.UnknownEvent o (λ k. meant_behind new w now memoized k form parts)) (word_same form h)
-      ∙ found_same (λ k. Unit {0}) code.UnknownEvent (word_of names form) _ _ (anything (word_of names form)) (λ k z. behind_same now memoized k form parts known)
+      ∙ found_same (λ k. Unit {0}) code.UnknownEvent (word_in names form) _ _ (anything (word_in names form)) (λ k z. behind_same now memoized k form parts known)
+
+later_by : (names table : List (List ℕ)) (n : ℕ) (w : WorldSeen) (now : Mode) (memoized : List ℕ) (form : Object) → number_of [] names ≡ Some n → Extends names table → IsNumbered (length names) form → event_by names w now memoized form ≡ event_by table w now memoized form
+later_by names table n w now memoized form h x k = sym (ap (λ (l : List (List ℕ)). event_by l w now memoized form) x.1 ∙ event_same names x.0 n h w now memoized form k)
 
 pub event_later : (names table : List (List ℕ)) (n : ℕ) (w : WorldSeen) (now : Mode) (memoized : List ℕ) (form : Object) → number_of [] names ≡ Some n → Extends names table → IsNumbered (length names) form → event_meant names w now memoized form ≡ event_meant table w now memoized form
-event_later names table n w now memoized form h x k = sym (ap (λ (l : List (List ℕ)). event_meant l w now memoized form) x.1 ∙ event_same names x.0 n h w now memoized form k)
+event_later names table n w now memoized form h x k = event_is names w now memoized form ∙ (later_by names table n w now memoized form h x k ∙ sym (event_is table w now memoized form))

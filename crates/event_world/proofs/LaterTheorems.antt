@@ -18,7 +18,8 @@ use Rattle.event_world.specs.Outcomes.{Outcome, and_then, found_or, holds_or, of
 use Rattle.event_world.specs.NamesMeant.{plain_name, is_taken}
 use Rattle.event_world.specs.Keywords.{pairs_of, value_of}
 use Rattle.event_world.specs.KeywordTexts.{option_texts}
-use Rattle.event_world.specs.TheoremMeant.{TheoremParts, with_required, with_options, theorem_parts, clock_of, clocks_with, clocks_meant, claim_meant, hyp_meant, binds, bound_meant, theorem_made, theorem_claimed, theorem_meant}
+use Rattle.event_world.specs.TheoremForms.{TheoremParts, with_required, with_options, theorem_parts, theorem_claimed, theorem_by}
+use Rattle.event_world.specs.TheoremMeant.{clock_of, clocks_with, clocks_meant, claim_meant, hyp_meant, binds, bound_meant, theorem_made}
 use Rattle.event_world.proofs.LaterTexts.{Known, IsKnown, later, plain_same, plain_known, taken_same, PairKnown, pairs_same, pairs_known, value_same, value_known, options_same}
 use Rattle.event_world.proofs.LaterShapes.{bindings_same}
 
@@ -101,9 +102,9 @@ module _ (names more : List (List ℕ)) (n : ℕ) (unnamed : number_of [] names 
 
   claimed_same : (now : Mode) (memoized : List ℕ) (p : TheoremParts) (clocks : ℕ × ℕ) → TheoremKnown p → theorem_claimed new w now memoized p clocks ≡ theorem_claimed names w now memoized p clocks
   claimed_same now memoized p clocks h =
-      (λ i. and_then (hyp_same p.hyp h.hyp i) (λ a. and_then (claim_same p.concl h.concl i) (λ c. and_then (bound_same p.bindings a c h.bindings i) (λ b. Ok (Theorem (theorem_made now memoized p clocks a c b))))))
+      (λ i. and_then (hyp_same p.hyp h.hyp i) (λ a. and_then (claim_same p.concl h.concl i) (λ c. and_then (bound_same p.bindings a c h.bindings i) (λ b. Ok (Theorem (theorem_made now memoized p.name clocks a c b))))))
 
-  pub theorem_same : (now : Mode) (memoized : List ℕ) (xs : List Object) → Every Here xs → theorem_meant new w now memoized xs ≡ theorem_meant names w now memoized xs
+  pub theorem_same : (now : Mode) (memoized : List ℕ) (xs : List Object) → Every Here xs → theorem_by new w now memoized xs ≡ theorem_by names w now memoized xs
   theorem_same now memoized xs h =
       ap (λ o. found_or code.BadEvent o (λ p. found_or code.BadOption (clocks_meant new option_texts p.options) (λ clocks. holds_or code.Redefined (not (is_taken new w p.name)) (theorem_claimed new w now memoized p clocks)))) (theorem_parts_same xs h)
       ∙ found_same TheoremKnown code.BadEvent (theorem_parts names xs) _ _ (theorem_parts_known xs h) (λ p k.

@@ -23,4 +23,5 @@ pub mod Suited
 pub mod SuitedCliques
 pub mod SuitedCases
 pub mod KeptNames
+pub mod EventTables
 pub mod SuitedEvents

@@ -17,13 +17,16 @@ use Rattle.gl_logic.specs.declared.prim.Primitive.TheVariants as prim
 use Rattle.gl_translate.specs.declared.fault.TermFault.TheVariants as term_fault
 use Rattle.gl_translate.specs.declared.macros.Macro.{Macro}
 use Rattle.gl_translate.specs.declared.macros.Macro.TheVariants as macro
-use Rattle.gl_translate.specs.Setting.{Setting, spelling}
-use Rattle.gl_logic.specs.Wording.{first_byte, is_mark}
-use Rattle.gl_translate.specs.Meaning.{Meaning, Outcome, and_then, within, fault, literal, symbol, symbol_inside, variable, every_part, if_form, prim_form, call_form, call_with, count_at, numbered_call, function_names, place_after, number_named, place_call, named_call}
+use Rattle.gl_translate.specs.Setting.{Setting}
+use Rattle.gl_logic.specs.Wording.{first_byte, is_mark, text_of}
+use Rattle.gl_translate.specs.Meaning.{Meaning, Outcome, and_then, within, fault, literal, symbol, symbol_inside, variable, every_part, if_form, prim_form, call_form, call_with, count_at, numbered_call, function_names, number_named, place_call, named_call}
 use Rattle.gl_translate.specs.Parts.{Part, all_means}
-use Rattle.gl_translate.specs.Macros.{and_form, sum_form, minus_form, of_one, of_two, macro_form, prim1, prim2, path_form}
-use Rattle.gl_translate.specs.Words.{macro_named, prim_named, is_path, letters_of}
-use Rattle.gl_translate.specs.Translation.{if_call, quote_call, of_prim, of_function, of_macro, headed, list_meaning, meaning, meanings, bindings, parts, are_in}
+use Rattle.gl_translate.specs.Macros.{if_call, quote_call, and_form, sum_form, minus_form, of_one, of_two, prim1, prim2, path_form}
+use Rattle.gl_translate.specs.Words.{prim_named, is_path, letters_of}
+use Rattle.gl_translate.specs.Heads.{macro_named, macro_form, of_macro}
+use Rattle.gl_translate.proofs.Tables.{headed_is}
+use Rattle.gl_translate.proofs.FunctionPlaces.{place_cons}
+use Rattle.gl_translate.specs.Translation.{of_prim, of_function, headed, list_meaning, meaning, meanings, bindings, parts, are_in}
 use Rattle.event_world.specs.PreludeForms.{Source, Word, Number, Pair, Spells, AreSpelled}
 use Rattle.event_world.proofs.PreludeMeant.{one, two, place, word_meant, if_meant, macro_meant, Function, word_place, count_of, counted_meant, placed_meant, prim_meant, function_meant, headed_meant, is_mark_word, and_meant, form_meant, forms_meant, size}
 use Rattle.event_world.specs.PreludeTerms.{named, all_named}
@@ -210,7 +213,7 @@ module _ (names : List (List ℕ)) (table : IsTable names) (functions own : List
       let p = or_parts (bytes_eq w (96 ∷ [])) (bytes_eq w (44 ∷ [])) q in
       λ i. unmarked_at h w 2 (96 ∷ []) a f.2 p.0 i || unmarked_at h w 3 (44 ∷ []) a f.3 p.1 i
 
-  spelled : (h : ℕ) (w : List ℕ) → slice_get names h ≡ Some w → spelling s h ≡ w
+  spelled : (h : ℕ) (w : List ℕ) → slice_get names h ≡ Some w → text_of names h ≡ w
   spelled h w a = get_or_from_slice_get names h w [] a
 
   -- ---- symbols
@@ -258,26 +261,6 @@ module _ (names : List (List ℕ)) (table : IsTable names) (functions own : List
   word_means formals t w e f a q around l = within_is (λ b n. symbol_inside s t b) around (omega (arith, l)) ∙ symbol_inside_means formals t w e f a q
 
   -- ---- functions
-  place_cons : (n : ℕ) (ns : List ℕ) (name : ℕ) → place_of (n ∷ ns) name ≡ cond (eqb name n) (Some 0) (option_map suc (place_of ns name))
-  place_cons n ns name = grind arith
-
-  after_zero : (o : Option ℕ) → option_map (λ i. 0 + i) o ≡ o
-  after_zero None = refl
-  after_zero (Some i) = ap Some (omega arith)
-
-  after_more : (n : ℕ) (b : Bool) (o p : Option ℕ) → place_after (suc n) (cond b (Some 0) (option_map suc o)) p ≡ cond b (Some 0) (option_map suc (place_after n o p))
-  after_more n true o p = refl
-  after_more n false None None = refl
-  after_more n false None (Some i) = ap Some (omega arith)
-  after_more n false (Some f) p = refl
-
-  together : (fs gs : List (ℕ × ℕ)) (t : ℕ) → place_after (length fs) (place_of (function_names fs) t) (place_of (function_names gs) t) ≡ place_of (function_names (fs ++ gs)) t
-  together [] gs t = after_zero (place_of (function_names gs) t)
-  together (f ∷ fs) gs t =
-      ap (λ o. place_after (suc (length fs)) o (place_of (function_names gs) t)) (place_cons f.0 (function_names fs) t)
-      ∙ (after_more (length fs) (eqb t f.0) (place_of (function_names fs) t) (place_of (function_names gs) t)
-      ∙ (ap (λ o. cond (eqb t f.0) (Some 0) (option_map suc o)) (together fs gs t) ∙ sym (place_cons f.0 (function_names (fs ++ gs)) t)))
-
   pub placed_at : (fs : List (ℕ × ℕ)) (gs : List Function) (t : ℕ) (w : List ℕ) → AreFunctions names fs gs → slice_get names t ≡ Some w → place_of (function_names fs) t ≡ word_place w gs
   placed_at [] [] t w h a = refl
   placed_at [] (g ∷ gs) t w h a = absurd h
@@ -312,7 +295,7 @@ module _ (names : List (List ℕ)) (table : IsTable names) (functions own : List
 
     prim_call_means : (t : ℕ) (w : List ℕ) (ps : List Part) (es : List Exp) (o : Option Primitive) (e : Exp) → slice_get names t ≡ Some w → AllMean k (all_means ps) es → prim_meant gs w es o ≡ Some e → Means (k + 3) (of_prim s t ps o) e
     prim_call_means t w ps es None e a h q =
-        let n : number_named s t ≡ word_place w gs = together functions own t ∙ placed_at (functions ++ own) gs t w known a in
+        let n : number_named s t ≡ word_place w gs = placed_at (functions ++ own) gs t w known a in
         same_means (k + 3) (named_call s t (all_means ps)) (place_call s (all_means ps) (word_place w gs)) e (ap (place_call s (all_means ps)) n) (placed_means (all_means ps) es (word_place w gs) e h q)
     prim_call_means t w ps es (Some p) e a h q0 =
         let l = same_count k (all_means ps) es h in
@@ -335,7 +318,7 @@ module _ (names : List (List ℕ)) (table : IsTable names) (functions own : List
     headed_means : (t : ℕ) (w : List ℕ) (ps : List Part) (es : List Exp) (e : Exp) → slice_get names t ≡ Some w → AllMean k (all_means ps) es → headed_meant gs w es ≡ Some e → Means (k + 3) (headed s t ps) e
     headed_means t w ps es e a h q =
         same_means (k + 3) (headed s t ps) (cond (bytes_eq w (codes "IF")) (if_call (all_means ps)) (cond (bytes_eq w (codes "QUOTE")) (quote_call ps) (of_macro s t ps (macro_named w)))) e
-        (ap (λ (u : List ℕ). cond (bytes_eq u (codes "IF")) (if_call (all_means ps)) (cond (bytes_eq u (codes "QUOTE")) (quote_call ps) (of_macro s t ps (macro_named u)))) (spelled t w a))
+        (headed_is s t ps ∙ ap (λ (u : List ℕ). cond (bytes_eq u (codes "IF")) (if_call (all_means ps)) (cond (bytes_eq u (codes "QUOTE")) (quote_call ps) (of_macro s t ps (macro_named u)))) (spelled t w a))
         (elim (bytes_eq w (codes "IF")) as (λ b. cond b (if_meant es) (cond (bytes_eq w (codes "QUOTE")) None (function_meant gs w es (macro_named w))) ≡ Some e → Means (k + 3) (cond b (if_call (all_means ps)) (cond (bytes_eq w (codes "QUOTE")) (quote_call ps) (of_macro s t ps (macro_named w)))) e) [
           | true ↦ λ r. if_meant_means k (all_means ps) es e h r
           | false ↦ elim (bytes_eq w (codes "QUOTE")) as (λ b. cond b None (function_meant gs w es (macro_named w)) ≡ Some e → Means (k + 3) (cond b (quote_call ps) (of_macro s t ps (macro_named w))) e) [

@@ -10,7 +10,8 @@ use Rattle.gl_logic.specs.declared.prim.Primitive.TheVariants as prim
 use Rattle.gl_translate.specs.declared.macros.Macro.{Macro}
 use Rattle.gl_translate.specs.declared.macros.Macro.TheVariants as macro
 use Rattle.gl_logic.specs.Wording.{first_byte}
-use Rattle.gl_translate.specs.Words.{macro_named, prim_named, is_path}
+use Rattle.gl_translate.specs.Words.{prim_named, is_path}
+use Rattle.gl_translate.specs.Heads.{macro_named}
 use Rattle.event_world.specs.PreludeForms.{Source, Word, Number, Pair}
 
 -- a formal stands as its place; None where the form is none of this table

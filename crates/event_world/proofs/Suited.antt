@@ -32,12 +32,14 @@ use Rattle.shape_spec.specs.declared.theorem.Mode.{Mode}
 use Rattle.event_world.specs.declared.fault.EventFault.TheVariants as code
 use Rattle.event_world.specs.EventSeen.{EventSeen, Defun, Defconst, Theorem}
 use Rattle.event_world.specs.NamesMeant.{is_word, is_taken, plain_name}
-use Rattle.event_world.specs.PlainMeant.{closed_meant, evaluation_meant, function_in, function_named, quoted_part, memo_meant, constant_in, defconst_meant}
+use Rattle.event_world.specs.PlainMeant.{closed_meant, function_named}
+use Rattle.event_world.specs.PlainForms.{evaluation_by, function_in, quoted_part, memo_by, constant_in, defconst_by}
 use Rattle.event_world.specs.PartsOf.{one_of, two_of}
 use Rattle.event_world.specs.DefunMeant.{defun_parts, formals_meant, checked_formals, are_formals, body_meant, admitted, definition_made, defun_meant}
 use Rattle.event_world.specs.Declares.{stated_measure}
 use Rattle.event_world.specs.KeywordTexts.{option_texts}
-use Rattle.event_world.specs.TheoremMeant.{theorem_parts, clocks_meant, claim_meant, hyp_meant, has_only, have_only, binds, bound_meant, theorem_made, theorem_meant}
+use Rattle.event_world.specs.TheoremForms.{theorem_parts, theorem_by}
+use Rattle.event_world.specs.TheoremMeant.{clocks_meant, claim_meant, hyp_meant, has_only, have_only, binds, bound_meant, theorem_made}
 use Rattle.event_world.specs.Suits.{IsClosedTerm, IsNewName, Suits}
 use Rattle.event_world.proofs.Inversions.{same_given, no_code, none_some, or_true, then_ok, found_ok, holds_ok, term_ok, true_not_false, and_true, not_turns, unless_true, not_some, none_of, some_same, map_some, if_some, different_names}
 
@@ -69,13 +71,13 @@ closed_suits names w form t e =
     }
 
 -- ---- events without a name, and constants
-pub evaluation_suits : (names : List (List ℕ)) (w : WorldSeen) (event : Exp → EventSeen) (parts : List Object) (e : EventSeen) → ((t : Exp) → IsClosedTerm w t → Suits w (event t)) → evaluation_meant names w event parts ≡ Ok e → Suits w e
+pub evaluation_suits : (names : List (List ℕ)) (w : WorldSeen) (event : Exp → EventSeen) (parts : List Object) (e : EventSeen) → ((t : Exp) → IsClosedTerm w t → Suits w (event t)) → evaluation_by names w event parts ≡ Ok e → Suits w e
 evaluation_suits names w event parts e k h =
     found_ok code.BadEvent (one_of parts) _ e h (λ form p q.
     then_ok (closed_meant names w form) _ e q (λ t ht r.
     subst (Suits w) (same_given (event t) e r) (k t (closed_suits names w form t ht))))
 
-pub defconst_suits : (names : List (List ℕ)) (w : WorldSeen) (parts : List Object) (e : EventSeen) → defconst_meant names w parts ≡ Ok e → Suits w e
+pub defconst_suits : (names : List (List ℕ)) (w : WorldSeen) (parts : List Object) (e : EventSeen) → defconst_by names w parts ≡ Ok e → Suits w e
 defconst_suits names w parts e h =
     found_ok code.BadEvent (option_and_then (constant_in names) (two_of parts)) _ e h (λ p hp k.
     holds_ok code.Redefined (not (is_taken names w p.name)) _ e k (λ new q.
@@ -99,7 +101,7 @@ function_below w (Character z) f e = absurd cc
 function_below w (Text z) f e = absurd cc
 function_below w (Cons a d) f e = absurd cc
 
-pub memo_suits : (names : List (List ℕ)) (w : WorldSeen) (event : ℕ → EventSeen) (parts : List Object) (e : EventSeen) → ((f : ℕ) → f < length w.definitions → Suits w (event f)) → memo_meant names w event parts ≡ Ok e → Suits w e
+pub memo_suits : (names : List (List ℕ)) (w : WorldSeen) (event : ℕ → EventSeen) (parts : List Object) (e : EventSeen) → ((f : ℕ) → f < length w.definitions → Suits w (event f)) → memo_by names w event parts ≡ Ok e → Suits w e
 memo_suits names w event parts e k h =
     then_ok (function_in names w parts) _ e h (λ f hf r.
     found_ok code.BadEvent (quoted_part names parts) _ f hf (λ x hx q.
@@ -190,7 +192,7 @@ bound_ok names form h c b e g =
     let t' : binds b h c ≡ true = subst (λ (z : List (ℕ × ShapeSeen)). binds z h c ≡ true) (same_given a b r) t in
     and_true (has_only (are_in (variables_of b)) h) (has_only (are_in (variables_of b)) c) t' g))
 
-pub theorem_suits : (names : List (List ℕ)) (w : WorldSeen) (now : Mode) (memoized : List ℕ) (parts : List Object) (e : EventSeen) → theorem_meant names w now memoized parts ≡ Ok e → Suits w e
+pub theorem_suits : (names : List (List ℕ)) (w : WorldSeen) (now : Mode) (memoized : List ℕ) (parts : List Object) (e : EventSeen) → theorem_by names w now memoized parts ≡ Ok e → Suits w e
 theorem_suits names w now memoized parts e h =
     found_ok code.BadEvent (theorem_parts names parts) _ e h (λ p hp h1.
     found_ok code.BadOption (clocks_meant names option_texts p.options) _ e h1 (λ clocks hk h2.
@@ -199,7 +201,7 @@ theorem_suits names w now memoized parts e h =
     then_ok (claim_meant names w p.concl) _ e h4 (λ c hc h5.
     then_ok (bound_meant names p.bindings a c) _ e h5 (λ b hb r.
     bound_ok names p.bindings a c b hb (λ ba bc.
-    subst (Suits w) (same_given (Theorem (theorem_made now memoized p clocks a c b)) e r) (record {
+    subst (Suits w) (same_given (Theorem (theorem_made now memoized p.name clocks a c b)) e r) (record {
       name = new_name names w p.name new;
       hyp = hyp_term names w p.hyp a ha;
       concl = claim_term names w p.concl c hc;

@@ -28,7 +28,8 @@ use Rattle.event_world.specs.KeywordTexts.{case_texts}
 use Rattle.event_world.specs.NamesMeant.{is_taken}
 use Rattle.event_world.specs.PartsOf.{two_in}
 use Rattle.event_world.specs.TheoremMeant.{clocks_meant, claim_meant, hyp_meant, has_only}
-use Rattle.event_world.specs.CasesMeant.{CasesParts, CaseParts, QuotedCases, cases_parts, case_meant, variables_of_case, parameters, are_cases, if_cases, is_quoting, cases_of, are_kept, if_kept, quoted_cases, case_bound, binds_its_own, are_bound, cases_claimed, param_meant}
+use Rattle.event_world.specs.CasesForms.{CasesParts, cases_parts, is_kept, if_kept, quoted_cases, cases_claimed, param_by}
+use Rattle.event_world.specs.CasesMeant.{CaseParts, QuotedCases, case_meant, variables_of_case, parameters, are_cases, if_cases, is_quoting, cases_of, case_bound, binds_its_own, are_bound}
 use Rattle.event_world.specs.Suits.{IsNewName, IsNewTheorem, IsNewParam, Suits}
 use Rattle.event_world.proofs.Inversions.{same_given, then_ok, found_ok, holds_ok, and_true, map_some, if_some, none_some, some_same}
 use Rattle.event_world.proofs.Suited.{new_name, only_free, claim_term, hyp_term}
@@ -65,7 +66,7 @@ quoted_few mark false o q h e = none_some q e
 few_cases : (names : List (List ℕ)) (p : CasesParts) (q : QuotedCases) → quoted_cases names p ≡ Some q → length q.cases ≤ 64
 few_cases names p q h =
     then_some (if_kept p) (option_and_then (cases_of names) (two_in p.cases)) q h (λ r hr e.
-    if_some (are_kept p r.cases) r q e (λ t same.
+    if_some (is_kept p r.cases) r q e (λ t same.
     then_some (cases_of names) (two_in p.cases) r hr (λ x hx z.
     let few = quoted_few x.0 (is_quoting names x.0) (option_and_then if_cases (option_and_then (all_meant (case_meant names)) (elements x.1))) r (λ cs k. listed_few (option_and_then (all_meant (case_meant names)) (elements x.1)) cs k) z in
     omega (arith, few, ap (λ (s : QuotedCases). length s.cases) same))))
@@ -125,7 +126,7 @@ claimed_suits names w p q thm name hq h =
     subst (IsNewParam w) (same_given (parts_made whole t b cs) thm r)
     (parts_new w whole t b cs name (hyp_term names w p.hyp a ha) (claim_term names w p.concl c hc) (claim_term names w p.term t ht) few bound)))))))
 
-pub param_suits : (names : List (List ℕ)) (w : WorldSeen) (now : Mode) (memoized : List ℕ) (parts : List Object) (e : EventSeen) → param_meant names w now memoized parts ≡ Ok e → Suits w e
+pub param_suits : (names : List (List ℕ)) (w : WorldSeen) (now : Mode) (memoized : List ℕ) (parts : List Object) (e : EventSeen) → param_by names w now memoized parts ≡ Ok e → Suits w e
 param_suits names w now memoized parts e h =
     found_ok code.BadEvent (cases_parts names parts) _ e h (λ p hp h1.
     found_ok code.BadOption (clocks_meant names case_texts p.options) _ e h1 (λ clocks hk h2.

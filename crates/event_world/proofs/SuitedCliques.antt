@@ -31,7 +31,8 @@ use Rattle.event_world.specs.PartsOf.{is_empty}
 use Rattle.event_world.specs.NamesMeant.{plain_name}
 use Rattle.event_world.specs.Declares.{stated_measure}
 use Rattle.event_world.specs.DefunMeant.{DefunParts, formals_meant, body_meant}
-use Rattle.event_world.specs.CliqueMeant.{are_members, checked_members, clique_parts, member_parts, StatedMember, stated_member, all_stated, is_new, are_new, MadeMember, made_member, all_made, owns_of, member_meant, members_meant, unmeasured, with_settled, clique_admitted, clique_judged, clique_made, clique_meant}
+use Rattle.event_world.specs.CliqueMeant.{are_members, member_parts, StatedMember, stated_member, MadeMember, made_member, owns_of, member_meant, members_meant, unmeasured, with_settled, clique_admitted, clique_judged}
+use Rattle.event_world.specs.CliqueForms.{checked_members, clique_parts, all_stated, is_new, are_new, all_made, clique_made, clique_by}
 use Rattle.event_world.specs.Suits.{HasAllGround, IsNewName, IsNewClique, Suits}
 use Rattle.event_world.proofs.Inversions.{same_given, no_code, then_ok, found_ok, holds_ok, term_ok, true_not_false, and_true, some_same, none_some, map_some, if_some, different_names}
 use Rattle.event_world.proofs.Suited.{new_name, formals_differ}
@@ -259,7 +260,7 @@ pairwise_length P [] (y ∷ ys) h = absurd h
 pairwise_length P (x ∷ xs) [] h = absurd h
 pairwise_length P (x ∷ xs) (y ∷ ys) h = let e = pairwise_length P xs ys h.1 in omega (arith, e)
 
-pub clique_suits : (names : List (List ℕ)) (w : WorldSeen) (parts : List Object) (e : EventSeen) → clique_meant names w parts ≡ Ok e → Suits w e
+pub clique_suits : (names : List (List ℕ)) (w : WorldSeen) (parts : List Object) (e : EventSeen) → clique_by names w parts ≡ Ok e → Suits w e
 clique_suits names w parts e h =
     found_ok code.BadEvent (clique_parts names parts) (clique_made names w) e h (λ ps hps h1.
     found_ok code.BadOption (all_stated names ps) _ e h1 (λ ss hss h2.

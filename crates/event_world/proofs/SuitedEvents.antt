@@ -13,16 +13,18 @@ use Rattle.event_world.specs.declared.word.EventWord.{EventWord}
 use Rattle.event_world.specs.declared.word.EventWord.TheVariants as word
 use Rattle.event_world.specs.EventSeen.{EventSeen, Nothing, Redundant, RedundantClique, SetMode, Memoize, Unmemoize, Value, Assert}
 use Rattle.event_world.specs.Outcomes.{Outcome, found_or, holds_or, Gives}
-use Rattle.event_world.specs.EventWords.{word_of, behind_head}
+use Rattle.event_world.specs.EventForms.{word_in, redundant_by, checked, event_by}
+use Rattle.event_world.specs.EventWords.{behind_head}
 use Rattle.event_world.specs.PartsOf.{is_empty, one_of, three_of}
-use Rattle.event_world.specs.PlainMeant.{is_package, is_book}
-use Rattle.event_world.specs.RedundantMeant.{repeated_name, repeated_member, are_repeated, checked_repeated, redundant, redundant_meant}
-use Rattle.event_world.specs.EventMeant.{checked, unless_redundant, event_meant}
+use Rattle.event_world.specs.PlainForms.{is_package, is_book}
+use Rattle.event_world.specs.RedundantMeant.{repeated_name, repeated_member, are_repeated, checked_repeated, redundant}
+use Rattle.event_world.specs.EventMeant.{unless_redundant, event_meant}
 use Rattle.event_world.specs.Suits.{Suits}
 use Rattle.event_world.proofs.Inversions.{given, same_given, found_ok, holds_ok, none_some, map_some, if_some}
 use Rattle.event_world.proofs.Suited.{evaluation_suits, defconst_suits, memo_suits, defun_suits, theorem_suits}
 use Rattle.event_world.proofs.SuitedCliques.{clique_suits}
 use Rattle.event_world.proofs.SuitedCases.{param_suits}
+use Rattle.event_world.proofs.EventTables.{event_is}
 
 -- ---- events that ask nothing of the world
 nothing_suits : (w : WorldSeen) (t : Bool) (event e : EventSeen) → Suits w event → holds_or code.BadEvent t (Ok event) ≡ Ok e → Suits w e
@@ -52,7 +54,7 @@ checked_repeated_suits : (w : WorldSeen) (o : Option (List ℕ)) (e : EventSeen)
 checked_repeated_suits w None e h = none_some e h
 checked_repeated_suits w (Some ns) e h = if_some (are_repeated ns) (RedundantClique ns) e h (λ t q. subst (Suits w) q tt)
 
-redundant_suits : (names : List (List ℕ)) (w : WorldSeen) (k : EventWord) (form : Object) (o : Option (List Object)) (e : EventSeen) → redundant_meant names w k form o ≡ Some e → Suits w e
+redundant_suits : (names : List (List ℕ)) (w : WorldSeen) (k : EventWord) (form : Object) (o : Option (List Object)) (e : EventSeen) → redundant_by names w k form o ≡ Some e → Suits w e
 redundant_suits names w word.InPackage form o e h = none_some e h
 redundant_suits names w word.IncludeBook form o e h = none_some e h
 redundant_suits names w word.Defun form o e h = repeated_suits w form e h
@@ -73,13 +75,16 @@ unless_suits w (Some r) further e f g h = subst (Suits w) (same_given r e h) (f 
 unless_suits w None further e f g h = g h
 
 -- ---- the whole
-pub event_suits : (names : List (List ℕ)) (w : WorldSeen) (now : Mode) (memoized : List ℕ) (form : Object) (e : EventSeen) → event_meant names w now memoized form ≡ Ok e → Suits w e
-event_suits names w now memoized form e h =
+suits_by : (names : List (List ℕ)) (w : WorldSeen) (now : Mode) (memoized : List ℕ) (form : Object) (e : EventSeen) → event_by names w now memoized form ≡ Ok e → Suits w e
+suits_by names w now memoized form e h =
     let parts = elements (behind_head form) in
-    found_ok code.UnknownEvent (word_of names form) _ e h (λ k hk q.
-    unless_suits w (redundant_meant names w k form parts) (found_or code.BadEvent parts (checked names w now memoized k)) e
+    found_ok code.UnknownEvent (word_in names form) _ e h (λ k hk q.
+    unless_suits w (redundant_by names w k form parts) (found_or code.BadEvent parts (checked names w now memoized k)) e
     (λ r hr. redundant_suits names w k form parts r hr)
     (λ z. found_ok code.BadEvent parts (checked names w now memoized k) e z (λ xs hxs y. checked_suits names w now memoized k xs e y)) q)
+
+pub event_suits : (names : List (List ℕ)) (w : WorldSeen) (now : Mode) (memoized : List ℕ) (form : Object) (e : EventSeen) → event_meant names w now memoized form ≡ Ok e → Suits w e
+event_suits names w now memoized form e h = suits_by names w now memoized form e (sym (event_is names w now memoized form) ∙ h)
 
 -- ---- answers
 pub given_has : {A B : Type 0} (value_of : A → B) (o : Outcome B) (r : Result A EventFault) (P : B → Type 0) → ((b : B) → o ≡ Ok b → P b) → Gives value_of o r → IfOk r (λ a. P (value_of a))

@@ -1,5 +1,5 @@
 -- Theorems by cases.
-use Rattle.std.specs.Prelude.{ℕ, Bool, false, ◌&&◌, ◌||◌, not, eqb, leb, if◌then◌else◌, List, [], ◌∷◌, length, map, bytes_eq, codes, Option, Some, None, Ok}
+use Rattle.std.specs.Prelude.{ℕ, Bool, false, ◌&&◌, ◌||◌, not, eqb, leb, if◌then◌else◌, List, [], ◌∷◌, ◌++◌, length, map, bytes_eq, codes, Option, Some, None, option_to_list, Ok, Err}
 use Rattle.std.specs.List.{list_any, list_all}
 use Rattle.std.specs.Option.{option_map, option_and_then}
 use Rattle.gl_logic.specs.Object.{Object, Symbol, Cons, nil}
@@ -21,34 +21,6 @@ use Rattle.event_world.specs.PartsOf.{two_in}
 use Rattle.event_world.specs.KeywordTexts.{case_texts}
 use Rattle.event_world.specs.Keywords.{pairs_of, value_of}
 use Rattle.event_world.specs.TheoremMeant.{clocks_meant, claim_meant, hyp_meant, binds}
-
--- the name, the forms, and all options
-pub record CasesParts : Type 0 where
-  pub name : ℕ
-  pub hyp : Option Object
-  pub concl : Object
-  pub term : Object
-  pub cases : Object
-  pub cover : Object
-  pub options : List (ℕ × Object)
-
--- ---- check 3, V2: (def-gl-param-thm n :key value ..) with :concl, :param-hyp, :param-bindings and :cov-bindings
-abbrev pub with_forms : ℕ → Option Object → List (ℕ × Object) → Option Object → Option Object → Option Object → Option Object → Option CasesParts
-with_forms n h options (Some c) (Some p) (Some q) (Some b) = Some (record { name = n; hyp = h; concl = c; term = p; cases = q; cover = b; options = options })
-with_forms n h options _ _ _ _ = None
-
-abbrev pub forms_in : List (List ℕ) → ℕ → List (ℕ × Object) → Option CasesParts
-forms_in names n options =
-    with_forms n (value_of names (codes ":HYP") options) options
-    (value_of names (codes ":CONCL") options) (value_of names (codes ":PARAM-HYP") options) (value_of names (codes ":PARAM-BINDINGS") options) (value_of names (codes ":COV-BINDINGS") options)
-
-abbrev pub named_forms : List (List ℕ) → Option ℕ → Option (List (ℕ × Object)) → Option CasesParts
-named_forms names (Some n) (Some options) = forms_in names n options
-named_forms names _ _ = None
-
-abbrev pub cases_parts : List (List ℕ) → List Object → Option CasesParts
-cases_parts names (n ∷ behind) = named_forms names (plain_name names n) (pairs_of names behind)
-cases_parts names [] = None
 
 -- ---- after check 4, V13: the cases. Each has the object of each parameter and the form of its bindings
 pub record CaseParts : Type 0 where
@@ -108,27 +80,9 @@ has_any vs (Symbol t) = list_any (eqb t) vs
 has_any vs (Cons a d) = has_any vs a || has_any vs d
 has_any vs _ = false
 
-abbrev pub has_any_in : List ℕ → Option Object → Bool
-has_any_in vs (Some x) = has_any vs x
-has_any_in vs None = false
-
--- none of them stands in the hypothesis, the conclusion and the bindings of the cover
-abbrev pub is_without : List ℕ → CasesParts → Bool
-is_without vs p = not (has_any_in vs p.hyp) && (not (has_any vs p.concl) && not (has_any vs p.cover))
-
--- nor in the bindings of the cases
-abbrev pub are_without : List ℕ → List CaseParts → Bool
-are_without vs cs = list_all (λ c. not (has_any vs c.bindings)) cs
-
--- the parameters stand in the term of the cases alone
-abbrev pub are_kept : CasesParts → List CaseParts → Bool
-are_kept p cs = is_without (parameters cs) p && are_without (parameters cs) cs
-
-abbrev pub if_kept : CasesParts → QuotedCases → Option QuotedCases
-if_kept p q = if are_kept p q.cases then Some q else None
-
-abbrev pub quoted_cases : List (List ℕ) → CasesParts → Option QuotedCases
-quoted_cases names p = option_and_then (if_kept p) (option_and_then (cases_of names) (two_in p.cases))
+-- the parameters stand in none of these forms, and not in the bindings of the cases
+abbrev pub are_kept : List Object → List CaseParts → Bool
+are_kept forms cs = list_all (λ x. not (has_any (parameters cs) x)) (forms ++ map (λ c. c.bindings) cs)
 
 -- ---- check 8, V10: the bindings of the cover, then those of each case, and each free variable of a part is bound by its own
 abbrev pub case_bound : List (List ℕ) → Object → CaseParts → Option CaseSeen
@@ -148,30 +102,24 @@ param_bound thm = holds_or code.BadBindings (are_bound thm) (Ok thm)
 abbrev pub claim_of : ℕ → Exp → Exp → Exp → List (ℕ × ShapeSeen) → List CaseSeen → Outcome ParamSeen
 claim_of n h c t b cs = param_bound (parts_made (plain_theorem n h c) t b cs)
 
--- a theorem with these terms, where its bindings and those of its cases are some
-abbrev pub parts_claimed : List (List ℕ) → CasesParts → QuotedCases → Exp → Exp → Exp → Outcome ParamSeen
-parts_claimed names p q h c t =
-    found_or code.BadBindings (bindings_meant names p.cover) (λ b.
-    found_or code.BadBindings (all_meant (case_bound names q.mark) q.cases) (λ cs.
-    claim_of p.name h c t b cs))
-
--- the bindings of the cover, and the cases with theirs, where all are some
-abbrev pub parts_bound : List (List ℕ) → CasesParts → QuotedCases → Option (List (ℕ × ShapeSeen) × List CaseSeen)
-parts_bound names p q = option_and_then (λ b. option_map (λ cs. (b, cs)) (all_meant (case_bound names q.mark) q.cases)) (bindings_meant names p.cover)
-
-abbrev pub cases_claimed : List (List ℕ) → WorldSeen → CasesParts → QuotedCases → Outcome ParamSeen
-cases_claimed names w p q =
-    and_then (hyp_meant names w p.hyp) (λ h.
-    and_then (claim_meant names w p.concl) (λ c.
-    and_then (claim_meant names w p.term) (λ t.
-    parts_claimed names p q h c t)))
-
--- ---- the checks in their order, by what stands behind `def-gl-param-thm`
+-- ---- the checks in their order, by what stands behind `def-gl-param-thm`, with :concl, :param-hyp, :param-bindings, :cov-bindings
 abbrev pub param_meant : List (List ℕ) → WorldSeen → Mode → List ℕ → List Object → Outcome EventSeen
-param_meant names w now memoized parts =
-    found_or code.BadEvent (cases_parts names parts) (λ p.
-    found_or code.BadOption (clocks_meant names case_texts p.options) (λ clocks.
-    found_or code.BadCases (quoted_cases names p) (λ q.
-    holds_or code.Redefined (not (is_taken names w p.name)) (
-    and_then (cases_claimed names w p q) (λ thm.
-    Ok (Cases (param_set clocks.0 clocks.1 now memoized thm)))))))
+param_meant names w now memoized [] = Err code.BadEvent
+param_meant names w now memoized (n ∷ behind) =
+    found_or code.BadEvent (plain_name names n) (λ name.
+    found_or code.BadEvent (pairs_of names behind) (λ options.
+    found_or code.BadEvent (value_of names (codes ":CONCL") options) (λ concl.
+    found_or code.BadEvent (value_of names (codes ":PARAM-HYP") options) (λ term.
+    found_or code.BadEvent (value_of names (codes ":PARAM-BINDINGS") options) (λ cases.
+    found_or code.BadEvent (value_of names (codes ":COV-BINDINGS") options) (λ cover.
+    found_or code.BadOption (clocks_meant names case_texts options) (λ clocks.
+    found_or code.BadCases (option_and_then (cases_of names) (two_in cases)) (λ q.
+    holds_or code.BadCases (are_kept (concl ∷ cover ∷ option_to_list (value_of names (codes ":HYP") options)) q.cases) (
+    holds_or code.Redefined (not (is_taken names w name)) (
+    and_then (hyp_meant names w (value_of names (codes ":HYP") options)) (λ h.
+    and_then (claim_meant names w concl) (λ c.
+    and_then (claim_meant names w term) (λ t.
+    found_or code.BadBindings (bindings_meant names cover) (λ b.
+    found_or code.BadBindings (all_meant (case_bound names q.mark) q.cases) (λ cs.
+    and_then (claim_of name h c t b cs) (λ thm.
+    Ok (Cases (param_set clocks.0 clocks.1 now memoized thm))))))))))))))))))

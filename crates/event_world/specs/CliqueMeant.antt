@@ -1,5 +1,5 @@
 -- Definitions that may call one another.
-use Rattle.std.specs.Prelude.{ℕ, Bool, ◌&&◌, not, leb, if◌then◌else◌, List, [], ◌∷◌, length, map, codes, Option, Some, None, Ok, Err}
+use Rattle.std.specs.Prelude.{ℕ, Bool, ◌&&◌, not, leb, if◌then◌else◌, List, [], ◌∷◌, length, map, codes, Option, None, Some, Ok, Err}
 use Rattle.std.specs.List.{list_all}
 use Rattle.std.specs.Option.{option_map, option_and_then}
 use Rattle.gl_logic.specs.Object.{Object}
@@ -31,13 +31,6 @@ member_parts names x = option_and_then (headed_parts names) (elements x)
 abbrev pub are_members : List DefunParts → Bool
 are_members ds = (leb 1 (length ds) && leb (length ds) 16) && are_different (map (λ d. d.name) ds)
 
-abbrev pub checked_members : Option (List DefunParts) → Option (List DefunParts)
-checked_members (Some ds) = if are_members ds then Some ds else None
-checked_members None = None
-
-abbrev pub clique_parts : List (List ℕ) → List Object → Option (List DefunParts)
-clique_parts names parts = checked_members (all_meant (member_parts names) parts)
-
 -- ---- check 4, V11: the measure that each states
 pub record StatedMember : Type 0 where
   pub parts : DefunParts
@@ -46,17 +39,7 @@ pub record StatedMember : Type 0 where
 abbrev pub stated_member : List (List ℕ) → DefunParts → Option StatedMember
 stated_member names d = option_map (λ m. record { parts = d; stated = m }) (stated_measure names d.formals d.before)
 
-abbrev pub all_stated : List (List ℕ) → List DefunParts → Option (List StatedMember)
-all_stated names ds = all_meant (stated_member names) ds
-
--- ---- check 5, V3
-abbrev pub is_new : List (List ℕ) → WorldSeen → StatedMember → Bool
-is_new names w d = not (is_taken names w d.parts.name)
-
-abbrev pub are_new : List (List ℕ) → WorldSeen → List StatedMember → Bool
-are_new names w ds = list_all (is_new names w) ds
-
--- ---- check 6, V7
+-- ---- check 6, V7. (Check 5, V3, stands below)
 pub record MadeMember : Type 0 where
   pub name : ℕ
   pub formals : List ℕ
@@ -65,9 +48,6 @@ pub record MadeMember : Type 0 where
 
 abbrev pub made_member : List (List ℕ) → StatedMember → Option MadeMember
 made_member names d = option_map (λ vs. record { name = d.parts.name; formals = vs; body = d.parts.body; stated = d.stated }) (formals_meant names d.parts.formals)
-
-abbrev pub all_made : List (List ℕ) → List StatedMember → Option (List MadeMember)
-all_made names ds = all_meant (made_member names) ds
 
 -- ---- check 7: the bodies in their order, in which all members may be called
 -- each member with its count of formals
@@ -97,12 +77,11 @@ abbrev pub clique_judged : WorldSeen → List Definition → Outcome EventSeen
 clique_judged w ds = clique_admitted (length w.definitions) ds (first_refused (length w.definitions) (map settled ds))
 
 -- ---- the checks in their order, each on all members before the next, by what stands behind `mutual-recursion`
-abbrev pub clique_made : List (List ℕ) → WorldSeen → List DefunParts → Outcome EventSeen
-clique_made names w ds =
-    found_or code.BadOption (all_stated names ds) (λ stated.
-    holds_or code.Redefined (are_new names w stated) (
-    found_or (code.Term term_fault.BadUse) (all_made names stated) (λ made.
-    and_then (members_meant names w (owns_of made) made) (clique_judged w))))
-
 abbrev pub clique_meant : List (List ℕ) → WorldSeen → List Object → Outcome EventSeen
-clique_meant names w parts = found_or code.BadEvent (clique_parts names parts) (clique_made names w)
+clique_meant names w parts =
+    found_or code.BadEvent (all_meant (member_parts names) parts) (λ ds.
+    holds_or code.BadEvent (are_members ds) (
+    found_or code.BadOption (all_meant (stated_member names) ds) (λ stated.
+    holds_or code.Redefined (list_all (λ d. not (is_taken names w d.parts.name)) stated) (
+    found_or (code.Term term_fault.BadUse) (all_meant (made_member names) stated) (λ made.
+    and_then (members_meant names w (owns_of made) made) (clique_judged w))))))

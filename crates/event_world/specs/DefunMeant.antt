@@ -73,15 +73,11 @@ abbrev pub judged : WorldSeen → Option Measure → Definition → Outcome Even
 judged w stated d = admitted d (verdict (length w.definitions) d.formals d.body stated)
 
 -- ---- the checks in their order, by what stands behind `defun`
-abbrev pub defun_made : List (List ℕ) → WorldSeen → DefunParts → Option Measure → Outcome EventSeen
-defun_made names w d stated =
-    found_or (code.Term term_fault.BadUse) (formals_meant names d.formals) (λ vs.
-    and_then (body_meant names w ((d.name, length vs) ∷ []) vs d.body) (λ t.
-    judged w stated (definition_made d.name vs t)))
-
 abbrev pub defun_meant : List (List ℕ) → WorldSeen → List Object → Outcome EventSeen
 defun_meant names w parts =
     found_or code.BadEvent (defun_parts names parts) (λ d.
     found_or code.BadOption (stated_measure names d.formals d.before) (λ stated.
     holds_or code.Redefined (not (is_taken names w d.name)) (
-    defun_made names w d stated)))
+    found_or (code.Term term_fault.BadUse) (formals_meant names d.formals) (λ vs.
+    and_then (body_meant names w ((d.name, length vs) ∷ []) vs d.body) (λ t.
+    judged w stated (definition_made d.name vs t))))))

@@ -10,8 +10,9 @@ use Rattle.event_world.specs.declared.cases_form.CaseForm.{CaseForm}
 use Rattle.event_world.specs.declared.cases_form.QuotedForm.{QuotedForm}
 use Rattle.event_world.specs.DefunMeant.{DefunParts}
 use Rattle.event_world.specs.CliqueMeant.{StatedMember, MadeMember}
-use Rattle.event_world.specs.TheoremMeant.{TheoremParts}
-use Rattle.event_world.specs.CasesMeant.{CasesParts, CaseParts, QuotedCases}
+use Rattle.event_world.specs.TheoremForms.{TheoremParts}
+use Rattle.event_world.specs.CasesForms.{CasesParts}
+use Rattle.event_world.specs.CasesMeant.{CaseParts, QuotedCases}
 
 abbrev pub defun_seen : DefunForm → DefunParts
 defun_seen d = record { name = d.name.number; formals = d.formals; before = d.before; body = d.body.now }

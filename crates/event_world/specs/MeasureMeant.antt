@@ -1,7 +1,7 @@
 -- The measures that a definition may state.
 use Rattle.std.specs.Prelude.{ℕ, Bool, not, ◌&&◌, eqb, if◌then◌else◌, List, codes, Option, Some, None, pos}
 use Rattle.std.specs.List.{list_any}
-use Rattle.std.specs.Option.{option_map, option_or}
+use Rattle.std.specs.Option.{option_map, option_and_then, option_or}
 use Rattle.gl_logic.specs.Object.{Object, Int, Symbol}
 use Rattle.gl_logic.specs.ObjectEq.{object_eq}
 use Rattle.gl_logic.specs.Definition.{natural_measure}
@@ -41,12 +41,8 @@ abbrev pub of_part : List (List ℕ) → List Object → Object → Object → O
 of_part names formals k (Symbol v) = if is_formal formals (Symbol v) then of_formal names k v else None
 of_part names formals k x = of_gap names formals k (three_in x)
 
-abbrev pub natural_of : List (List ℕ) → List Object → Option (Object × Object) → Option Natural
-natural_of names formals (Some p) = of_part names formals p.0 p.1
-natural_of names formals None = None
-
 abbrev pub natural_meant : List (List ℕ) → List Object → Object → Option Natural
-natural_meant names formals x = natural_of names formals (two_in x)
+natural_meant names formals x = option_and_then (λ p. of_part names formals p.0 p.1) (two_in x)
 
 -- ---- two of them
 abbrev pub is_one : Object → Bool

@@ -4,7 +4,8 @@ use Rattle.std.specs.Option.{is_some}
 use Rattle.gl_logic.specs.Object.{Object, Symbol}
 use Rattle.gl_logic.specs.Named.{place_of, names_of}
 use Rattle.gl_logic.specs.WorldSeen.{WorldSeen, definition_names}
-use Rattle.gl_translate.specs.Words.{macro_named, prim_named, is_path}
+use Rattle.gl_translate.specs.Words.{prim_named, is_path}
+use Rattle.gl_translate.specs.Macros.{special_named}
 use Rattle.gl_logic.specs.Wording.{text_of, is_legal, is_starred}
 
 -- a variable, a definition and a theorem are named by a symbol that is no keyword, not T or NIL, and does not both begin and end with `*`
@@ -23,7 +24,7 @@ constant_name names _ = None
 -- ---- what is taken
 -- a primitive, `if`, `quote` or a macro
 abbrev pub is_word : List ℕ → Bool
-is_word text = bytes_eq text (codes "IF") || (bytes_eq text (codes "QUOTE") || (is_some (macro_named text) || (is_path text || is_some (prim_named text))))
+is_word text = is_some (special_named text) || (is_path text || is_some (prim_named text))
 
 -- a ground definition, or an earlier named event
 abbrev pub is_used : WorldSeen → ℕ → Bool

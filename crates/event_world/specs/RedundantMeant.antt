@@ -1,15 +1,15 @@
 -- Redundant events.
-use Rattle.std.specs.Prelude.{ℕ, Bool, false, ◌&&◌, leb, if◌then◌else◌, List, length, codes, Option, Some, None}
+use Rattle.std.specs.Prelude.{ℕ, Bool, false, ◌&&◌, leb, if◌then◌else◌, List, [], ◌∷◌, length, codes, bytes_eq, Option, Some, None}
 use Rattle.std.specs.Option.{option_map, option_and_then}
 use Rattle.gl_logic.specs.Object.{Object, Symbol, Cons}
 use Rattle.gl_logic.specs.ObjectEq.{object_eq}
 use Rattle.gl_logic.specs.Named.{object_named}
 use Rattle.gl_logic.specs.WorldSeen.{WorldSeen}
-use Rattle.gl_logic.specs.Wording.{spells, all_meant}
+use Rattle.gl_logic.specs.Wording.{spells, elements, all_meant}
 use Rattle.gl_logic.specs.NameSets.{are_different}
-use Rattle.event_world.specs.declared.word.EventWord.{EventWord}
-use Rattle.event_world.specs.declared.word.EventWord.TheVariants as word
 use Rattle.event_world.specs.EventSeen.{EventSeen, Redundant, RedundantClique}
+use Rattle.event_world.specs.EventWords.{behind_head}
+use Rattle.event_world.specs.Keywords.{is_one_of}
 
 -- an accepted event of this name has this form
 abbrev pub is_same : Object → Option Object → Bool
@@ -52,10 +52,9 @@ abbrev pub redundant_clique : List (List ℕ) → WorldSeen → Option (List Obj
 redundant_clique names w parts = checked_repeated (option_and_then (all_meant (repeated_member names w)) parts)
 
 -- ---- named events and cliques alone
-abbrev pub redundant_meant : List (List ℕ) → WorldSeen → EventWord → Object → Option (List Object) → Option EventSeen
-redundant_meant names w word.Defun form parts = redundant w form
-redundant_meant names w word.Defconst form parts = redundant w form
-redundant_meant names w word.Theorem form parts = redundant w form
-redundant_meant names w word.ParamTheorem form parts = redundant w form
-redundant_meant names w word.MutualRecursion form parts = redundant_clique names w parts
-redundant_meant names w _ form parts = None
+-- by its word; an event that makes no name is not redundant
+abbrev pub redundant_meant : List (List ℕ) → WorldSeen → List ℕ → Object → Option EventSeen
+redundant_meant names w word form =
+    if bytes_eq word (codes "MUTUAL-RECURSION") then redundant_clique names w (elements (behind_head form))
+    else if is_one_of (codes "DEFUN" ∷ codes "DEFCONST" ∷ codes "DEF-GL-THM" ∷ codes "DEF-GL-PARAM-THM" ∷ []) word then redundant w form
+    else None

@@ -1,5 +1,5 @@
 -- Theorems.
-use Rattle.std.specs.Prelude.{ℕ, Bool, true, ◌&&◌, not, leb, if◌then◌else◌, List, [], ◌∷◌, codes, Option, Some, None, Ok, pos}
+use Rattle.std.specs.Prelude.{ℕ, Bool, true, ◌&&◌, not, leb, if◌then◌else◌, List, [], ◌∷◌, codes, Option, Some, None, Ok, Err, pos}
 use Rattle.gl_logic.specs.Object.{Object, Int, true_object}
 use Rattle.gl_logic.specs.Exp.{Exp, Exps, Var, Const, If, Prim, Call, Let, Last, More}
 use Rattle.gl_logic.specs.WorldSeen.{WorldSeen}
@@ -15,30 +15,6 @@ use Rattle.event_world.specs.EventSeen.{EventSeen, TheoremSeen, Theorem}
 use Rattle.event_world.specs.NamesMeant.{plain_name, is_taken}
 use Rattle.event_world.specs.KeywordTexts.{option_texts}
 use Rattle.event_world.specs.Keywords.{pairs_of, value_of, are_options}
-
--- the name, the forms of the hypothesis, where there is one, of the conclusion and of the bindings, and all options
-pub record TheoremParts : Type 0 where
-  pub name : ℕ
-  pub hyp : Option Object
-  pub concl : Object
-  pub bindings : Object
-  pub options : List (ℕ × Object)
-
--- ---- check 3, V2: (def-gl-thm n :key value ..) with :concl and :g-bindings
-abbrev pub with_required : List (List ℕ) → ℕ → List (ℕ × Object) → Option Object → Option Object → Option TheoremParts
-with_required names n options (Some c) (Some b) = Some (record { name = n; hyp = value_of names (codes ":HYP") options; concl = c; bindings = b; options = options })
-with_required names n options _ _ = None
-
-abbrev pub required_in : List (List ℕ) → ℕ → List (ℕ × Object) → Option TheoremParts
-required_in names n options = with_required names n options (value_of names (codes ":CONCL") options) (value_of names (codes ":G-BINDINGS") options)
-
-abbrev pub with_options : List (List ℕ) → Option ℕ → Option (List (ℕ × Object)) → Option TheoremParts
-with_options names (Some n) (Some options) = required_in names n options
-with_options names _ _ = None
-
-abbrev pub theorem_parts : List (List ℕ) → List Object → Option TheoremParts
-theorem_parts names (n ∷ behind) = with_options names (plain_name names n) (pairs_of names behind)
-theorem_parts names [] = None
 
 -- ---- check 4, V11: the options are those of the table, each at most once, and the clocks are from 1 to 1,000,000
 abbrev pub clock_of : Option Object → Option ℕ
@@ -85,9 +61,9 @@ bound_meant names form h c =
     holds_or code.BadBindings (binds b h c) (
     Ok b))
 
-abbrev pub theorem_made : Mode → List ℕ → TheoremParts → ℕ × ℕ → Exp → Exp → List (ℕ × ShapeSeen) → TheoremSeen
-theorem_made now memoized p clocks h c b = record {
-  name = p.name;
+abbrev pub theorem_made : Mode → List ℕ → ℕ → ℕ × ℕ → Exp → Exp → List (ℕ × ShapeSeen) → TheoremSeen
+theorem_made now memoized name clocks h c b = record {
+  name = name;
   hyp = h;
   concl = c;
   bindings = b;
@@ -97,17 +73,17 @@ theorem_made now memoized p clocks h c b = record {
   memoized = memoized;
 }
 
--- ---- the checks in their order, by what stands behind `def-gl-thm`
-abbrev pub theorem_claimed : List (List ℕ) → WorldSeen → Mode → List ℕ → TheoremParts → ℕ × ℕ → Outcome EventSeen
-theorem_claimed names w now memoized p clocks =
-    and_then (hyp_meant names w p.hyp) (λ h.
-    and_then (claim_meant names w p.concl) (λ c.
-    and_then (bound_meant names p.bindings h c) (λ b.
-    Ok (Theorem (theorem_made now memoized p clocks h c b)))))
-
+-- ---- the checks in their order, by what stands behind `def-gl-thm`, with :concl and :g-bindings
 abbrev pub theorem_meant : List (List ℕ) → WorldSeen → Mode → List ℕ → List Object → Outcome EventSeen
-theorem_meant names w now memoized parts =
-    found_or code.BadEvent (theorem_parts names parts) (λ p.
-    found_or code.BadOption (clocks_meant names option_texts p.options) (λ clocks.
-    holds_or code.Redefined (not (is_taken names w p.name)) (
-    theorem_claimed names w now memoized p clocks)))
+theorem_meant names w now memoized [] = Err code.BadEvent
+theorem_meant names w now memoized (n ∷ behind) =
+    found_or code.BadEvent (plain_name names n) (λ name.
+    found_or code.BadEvent (pairs_of names behind) (λ options.
+    found_or code.BadEvent (value_of names (codes ":CONCL") options) (λ concl.
+    found_or code.BadEvent (value_of names (codes ":G-BINDINGS") options) (λ bindings.
+    found_or code.BadOption (clocks_meant names option_texts options) (λ clocks.
+    holds_or code.Redefined (not (is_taken names w name)) (
+    and_then (hyp_meant names w (value_of names (codes ":HYP") options)) (λ h.
+    and_then (claim_meant names w concl) (λ c.
+    and_then (bound_meant names bindings h c) (λ b.
+    Ok (Theorem (theorem_made now memoized name clocks h c b)))))))))))

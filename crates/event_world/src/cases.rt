@@ -13,7 +13,8 @@ ghost use Rattle.gl_cases.specs.ParamMade.{param_seen, param_set};
 ghost use Rattle.event_world.specs.Outcomes.{Gives};
 ghost use Rattle.event_world.specs.Seen.{event_seen};
 ghost use Rattle.event_world.specs.FormsSeen.{cases_form_seen, case_form_seen, quoted_form_seen};
-ghost use Rattle.event_world.specs.CasesMeant.{case_bound as bound_case, binds_its_own as own_bound, are_bound as bound_are, claim_of, parts_bound, parts_claimed, cases_claimed, param_meant};
+ghost use Rattle.event_world.specs.CasesMeant.{case_bound as bound_case, binds_its_own as own_bound, are_bound as bound_are, claim_of};
+ghost use Rattle.event_world.specs.CasesForms.{parts_bound, parts_claimed, cases_claimed, param_by};
 
 use super::bound::binds;
 use super::cases_form::{CaseForm, CasesForm, QuotedForm, cases_form, quoted_cases};
@@ -309,7 +310,7 @@ pub(crate) fn by_cases(
     parts: &Parts<'_>,
 ) -> Result<Event, EventFault>
     requires { with_name texts.old [] ≡ texts.old }
-    ensures meant { Gives event_seen (param_meant texts.old world.now mode memoized.now parts.now) result }
+    ensures meant { Gives event_seen (param_by texts.old world.now mode memoized.now parts.now) result }
     ensures texts { texts.new ≡ texts.old }
 {
     let Some(form) = cases_form(alloc, texts, parts)? else {

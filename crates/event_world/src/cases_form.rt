@@ -6,7 +6,8 @@ ghost use Rattle.std.specs.Option.{option_map, option_and_then};
 ghost use Rattle.gl_logic.specs.Wording.{all_meant, elements as elements_in};
 ghost use Rattle.shape_spec.specs.BindingsMeant.{is_backquote as backquote_is};
 ghost use Rattle.event_world.specs.PartsOf.{two_in as two_meant};
-ghost use Rattle.event_world.specs.CasesMeant.{forms_in, cases_parts, constant_meant, constants_meant, case_meant, variables_of_case, are_cases as cases_are, if_cases, is_quoting as quoting_is, cases_of, quoted_cases as quoted_meant};
+ghost use Rattle.event_world.specs.CasesForms.{forms_in, cases_parts, quoted_cases as quoted_meant};
+ghost use Rattle.event_world.specs.CasesMeant.{constant_meant, constants_meant, case_meant, variables_of_case, are_cases as cases_are, if_cases, is_quoting as quoting_is, cases_of};
 ghost use Rattle.event_world.specs.FormsSeen.{cases_form_seen, case_form_seen, quoted_form_seen};
 
 use super::keywords::{Keywords, pairs_of};

@@ -11,7 +11,8 @@ ghost use Rattle.event_world.specs.Outcomes.{Gives};
 ghost use Rattle.event_world.specs.PartsOf.{is_empty};
 ghost use Rattle.event_world.specs.Seen.{event_seen};
 ghost use Rattle.event_world.specs.FormsSeen.{defun_seen, stated_seen, made_seen};
-ghost use Rattle.event_world.specs.CliqueMeant.{owns_of, member_meant, members_meant, with_settled as settled_meant, unmeasured, clique_judged, clique_made, clique_meant};
+ghost use Rattle.event_world.specs.CliqueMeant.{owns_of, member_meant, members_meant, with_settled as settled_meant, unmeasured, clique_judged};
+ghost use Rattle.event_world.specs.CliqueForms.{clique_made, clique_by};
 
 use super::calls::has_call;
 use super::clique_form::{MadeForm, all_made, all_stated, are_new, clique_form};
@@ -270,7 +271,7 @@ pub(crate) fn clique(
     parts: &Parts<'_>,
 ) -> Result<Event, EventFault>
     requires { with_name texts.old [] ≡ texts.old }
-    ensures meant { Gives event_seen (clique_meant texts.old world.now parts.now) result }
+    ensures meant { Gives event_seen (clique_by texts.old world.now parts.now) result }
     ensures texts { texts.new ≡ texts.old }
 {
     let Some(members) = clique_form(alloc, texts, parts)? else {

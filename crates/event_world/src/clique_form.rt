@@ -2,7 +2,8 @@
 
 ghost use Rattle.std.specs.Prelude.{◌≡◌, map, IfOk};
 ghost use Rattle.std.specs.Option.{option_map};
-ghost use Rattle.event_world.specs.CliqueMeant.{member_parts, are_members as members_are, clique_parts as clique_meant, all_stated as stated_meant, are_new as new_are, all_made as made_meant};
+ghost use Rattle.event_world.specs.CliqueMeant.{member_parts, are_members as members_are};
+ghost use Rattle.event_world.specs.CliqueForms.{clique_parts as clique_meant, all_stated as stated_meant, are_new as new_are, all_made as made_meant};
 ghost use Rattle.gl_logic.specs.Wording.{all_meant};
 ghost use Rattle.event_world.specs.FormsSeen.{defun_seen, stated_seen, made_seen};
 

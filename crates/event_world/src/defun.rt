@@ -7,7 +7,8 @@ ghost use Rattle.gl_logic.specs.TermOf.{term_of};
 ghost use Rattle.event_world.specs.Outcomes.{Gives};
 ghost use Rattle.event_world.specs.Seen.{event_seen};
 ghost use Rattle.event_world.specs.FormsSeen.{defun_seen};
-ghost use Rattle.event_world.specs.DefunMeant.{body_meant, judged as judged_meant, defun_made, defun_meant};
+ghost use Rattle.event_world.specs.DefunMeant.{body_meant, judged as judged_meant, defun_meant};
+ghost use Rattle.event_world.specs.DefunForms.{defun_made};
 
 use super::declares::stated_measure;
 use super::defun_form::{DefunForm, defun_form, formals_of};

@@ -5,17 +5,15 @@ ghost use Rattle.std.specs.Option.{option_map};
 ghost use Rattle.event_world.specs.NamesMeant.{plain_name as plain_meant, constant_name as constant_meant, is_word as word_is, is_used as used_is, is_taken as taken_is};
 
 use super::texts::is_constant_name;
-use gl_logic::wording::{is_legal, same};
+use gl_logic::wording::is_legal;
 use gl_logic::{TextId, Texts, Tree, TreeKind, World};
-use gl_translate::words::{is_path, macro_named, prim_named};
+use gl_translate::words::{is_path, is_special, prim_named};
 
 /// Whether a text is `if`, `quote`, or the word of a macro or a primitive.
 fn is_word(text: &[u8]) -> bool
     ensures { result ≡ word_is text.now }
 {
-    same(text, b"IF")
-        || (same(text, b"QUOTE")
-            || (macro_named(text).is_some() || (is_path(text) || prim_named(text).is_some())))
+    is_special(text) || (is_path(text) || prim_named(text).is_some())
 }
 
 /// Whether a name is that of a definition, a constant or an earlier named event.

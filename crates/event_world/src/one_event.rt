@@ -9,7 +9,8 @@ ghost use Rattle.gl_logic.specs.Wording.{elements};
 ghost use Rattle.event_world.specs.Outcomes.{Gives};
 ghost use Rattle.event_world.specs.Seen.{event_seen};
 ghost use Rattle.event_world.specs.EventWords.{behind_head};
-ghost use Rattle.event_world.specs.EventMeant.{checked as checked_meant, meant_behind, event_meant};
+ghost use Rattle.event_world.specs.EventForms.{checked as checked_meant, meant_behind, event_by};
+ghost use Rattle.event_world.specs.EventMeant.{event_meant};
 ghost use Rattle.event_world.specs.Suits.{Suits};
 
 use super::cases::by_cases;
@@ -65,7 +66,7 @@ fn named(
     texts: &mut Texts,
 ) -> Result<Event, EventFault>
     requires { with_name texts.old [] ≡ texts.old }
-    ensures meant { Gives event_seen (event_meant texts.old world.now mode memoized.now form.now) result }
+    ensures meant { Gives event_seen (event_by texts.old world.now mode memoized.now form.now) result }
     ensures texts { texts.new ≡ texts.old }
 {
     let Some(word) = word_of(texts, form) else {

@@ -2,7 +2,8 @@
 
 ghost use Rattle.std.specs.Prelude.{◌≡◌, ℕ, ◌&&◌, bytes_eq, eqb, map, IfOk};
 ghost use Rattle.std.specs.List.{list_any};
-ghost use Rattle.event_world.specs.CasesMeant.{parameters as parameters_of, has_any as has_any_of, is_without as without_is, are_without as without_are, are_kept as kept_are};
+ghost use Rattle.event_world.specs.CasesMeant.{parameters as parameters_of, has_any as has_any_of};
+ghost use Rattle.event_world.specs.CasesForms.{is_without as without_is, are_without as without_are, is_kept as kept_are};
 ghost use Rattle.event_world.specs.FormsSeen.{cases_form_seen, case_form_seen};
 
 use super::cases_form::{CaseForm, CasesForm};

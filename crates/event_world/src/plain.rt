@@ -6,7 +6,8 @@ ghost use Rattle.gl_logic.specs.Names.{with_name};
 ghost use Rattle.event_world.specs.Outcomes.{Gives};
 ghost use Rattle.event_world.specs.Seen.{event_seen};
 ghost use Rattle.event_world.specs.EventSeen.{Value, Assert, Memoize, Unmemoize};
-ghost use Rattle.event_world.specs.PlainMeant.{package_meant, book_meant, mode_meant, quoted_part as quoted_meant, function_named as function_meant, function_in, memo_meant, evaluation_meant, defconst_meant};
+ghost use Rattle.event_world.specs.PlainForms.{package_by, book_by, quoted_part as quoted_meant, function_in, memo_by, evaluation_by, defconst_by};
+ghost use Rattle.event_world.specs.PlainMeant.{mode_meant, function_named as function_meant};
 
 use super::event::Event;
 use super::fault::EventFault;
@@ -22,7 +23,7 @@ use std::alloc::Global;
 
 /// `(in-package "ACL2")`
 pub(crate) fn package(texts: &Texts, parts: &Parts<'_>) -> Result<Event, EventFault>
-    ensures { Gives event_seen (package_meant texts.now parts.now) result }
+    ensures { Gives event_seen (package_by texts.now parts.now) result }
 {
     match parts.one() {
         Some(name) => {
@@ -38,7 +39,7 @@ pub(crate) fn package(texts: &Texts, parts: &Parts<'_>) -> Result<Event, EventFa
 
 /// `(include-book "centaur/gl/gl" :dir :system)`
 pub(crate) fn book(texts: &Texts, parts: &Parts<'_>) -> Result<Event, EventFault>
-    ensures { Gives event_seen (book_meant texts.now parts.now) result }
+    ensures { Gives event_seen (book_by texts.now parts.now) result }
 {
     match parts.three() {
         Some((name, dir, system)) => {
@@ -102,7 +103,7 @@ fn memoized(texts: &Texts, world: &World, parts: &Parts<'_>) -> Result<FnId, Eve
 
 /// `(memoize 'f)`
 pub(crate) fn memoize(texts: &Texts, world: &World, parts: &Parts<'_>) -> Result<Event, EventFault>
-    ensures { Gives event_seen (memo_meant texts.now world.now Memoize parts.now) result }
+    ensures { Gives event_seen (memo_by texts.now world.now Memoize parts.now) result }
 {
     Ok(Event::Memoize(memoized(texts, world, parts)?))
 }
@@ -113,7 +114,7 @@ pub(crate) fn unmemoize(
     world: &World,
     parts: &Parts<'_>,
 ) -> Result<Event, EventFault>
-    ensures { Gives event_seen (memo_meant texts.now world.now Unmemoize parts.now) result }
+    ensures { Gives event_seen (memo_by texts.now world.now Unmemoize parts.now) result }
 {
     Ok(Event::Unmemoize(memoized(texts, world, parts)?))
 }
@@ -126,7 +127,7 @@ pub(crate) fn value(
     parts: &Parts<'_>,
 ) -> Result<Event, EventFault>
     requires { with_name texts.old [] ≡ texts.old }
-    ensures meant { Gives event_seen (evaluation_meant texts.old world.now Value parts.now) result }
+    ensures meant { Gives event_seen (evaluation_by texts.old world.now Value parts.now) result }
     ensures texts { texts.new ≡ texts.old }
 {
     match parts.one() {
@@ -143,7 +144,7 @@ pub(crate) fn assertion(
     parts: &Parts<'_>,
 ) -> Result<Event, EventFault>
     requires { with_name texts.old [] ≡ texts.old }
-    ensures meant { Gives event_seen (evaluation_meant texts.old world.now Assert parts.now) result }
+    ensures meant { Gives event_seen (evaluation_by texts.old world.now Assert parts.now) result }
     ensures texts { texts.new ≡ texts.old }
 {
     match parts.one() {
@@ -160,7 +161,7 @@ pub(crate) fn constant(
     parts: &Parts<'_>,
 ) -> Result<Event, EventFault>
     requires { with_name texts.old [] ≡ texts.old }
-    ensures meant { Gives event_seen (defconst_meant texts.old world.now parts.now) result }
+    ensures meant { Gives event_seen (defconst_by texts.old world.now parts.now) result }
     ensures texts { texts.new ≡ texts.old }
 {
     let Some((object, form)) = parts.two() else {

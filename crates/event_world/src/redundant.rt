@@ -5,7 +5,8 @@ ghost use Rattle.std.specs.Option.{option_copied, option_map};
 ghost use Rattle.gl_logic.specs.Named.{object_named};
 ghost use Rattle.gl_logic.specs.ObjectEq.{object_eq};
 ghost use Rattle.gl_logic.specs.Wording.{all_meant};
-ghost use Rattle.event_world.specs.RedundantMeant.{is_same, second_in, repeated_symbol as symbol_meant, repeated_name as repeated_meant, repeated_member as member_meant, are_repeated as repeated_are, redundant, redundant_clique, redundant_meant};
+ghost use Rattle.event_world.specs.RedundantMeant.{is_same, second_in, repeated_symbol as symbol_meant, repeated_name as repeated_meant, repeated_member as member_meant, are_repeated as repeated_are, redundant, redundant_clique};
+ghost use Rattle.event_world.specs.EventForms.{redundant_by};
 ghost use Rattle.event_world.specs.Seen.{event_seen};
 
 use super::event::Event;
@@ -150,7 +151,7 @@ pub(crate) fn redundant_event(
     form: &Tree,
     parts: &Option<Parts<'_>>,
 ) -> Result<Option<Event>, NoMemory>
-    ensures { IfOk result (λ o. option_map event_seen o ≡ redundant_meant texts.now world.now word form.now parts.now) }
+    ensures { IfOk result (λ o. option_map event_seen o ≡ redundant_by texts.now world.now word form.now parts.now) }
 {
     match word {
         EventWord::Defun => Ok(repeated(world, form)),

@@ -7,7 +7,8 @@ ghost use Rattle.gl_logic.specs.TermOf.{term_of};
 ghost use Rattle.event_world.specs.Outcomes.{Gives};
 ghost use Rattle.event_world.specs.Seen.{event_seen};
 ghost use Rattle.event_world.specs.FormsSeen.{theorem_form_seen};
-ghost use Rattle.event_world.specs.TheoremMeant.{hyp_meant, bound_meant, theorem_claimed, theorem_meant};
+ghost use Rattle.event_world.specs.TheoremMeant.{hyp_meant, bound_meant};
+ghost use Rattle.event_world.specs.TheoremForms.{theorem_claimed, theorem_by};
 
 use super::bound::binds;
 use super::event::Event;
@@ -113,7 +114,7 @@ pub(crate) fn theorem(
     parts: &Parts<'_>,
 ) -> Result<Event, EventFault>
     requires { with_name texts.old [] ≡ texts.old }
-    ensures meant { Gives event_seen (theorem_meant texts.old world.now mode memoized.now parts.now) result }
+    ensures meant { Gives event_seen (theorem_by texts.old world.now mode memoized.now parts.now) result }
     ensures texts { texts.new ≡ texts.old }
 {
     let Some(form) = theorem_form(alloc, texts, parts)? else {

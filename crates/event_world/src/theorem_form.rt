@@ -2,7 +2,8 @@
 
 ghost use Rattle.std.specs.Prelude.{◌≡◌, IfOk};
 ghost use Rattle.std.specs.Option.{option_map, option_copied};
-ghost use Rattle.event_world.specs.TheoremMeant.{required_in, theorem_parts, clock_of, clocks_meant};
+ghost use Rattle.event_world.specs.TheoremForms.{required_in, theorem_parts};
+ghost use Rattle.event_world.specs.TheoremMeant.{clock_of, clocks_meant};
 ghost use Rattle.event_world.specs.KeywordTexts.{texts_of};
 ghost use Rattle.event_world.specs.FormsSeen.{theorem_form_seen};
 

@@ -1,7 +1,7 @@
 //! The words of the events.
 
 ghost use Rattle.std.specs.Prelude.{◌≡◌};
-ghost use Rattle.event_world.specs.EventWords.{event_word as word_meant, word_of as word_in};
+ghost use Rattle.event_world.specs.EventForms.{event_word as word_meant, word_in};
 
 use gl_logic::wording::same;
 use gl_logic::{Texts, Tree, TreeKind};
@@ -38,7 +38,7 @@ pub enum EventWord {
     ParamTheorem,
 }
 
-#[tactic(auto, unfolding(crate::specs::EventWords::event_word))]
+#[tactic(auto, unfolding(crate::specs::EventForms::event_word))]
 fn event_word(text: &[u8]) -> Option<EventWord>
     ensures { result ≡ word_meant text.now }
 {

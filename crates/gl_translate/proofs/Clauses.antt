@@ -9,9 +9,9 @@ use Rattle.gl_logic.specs.Object.{Object, nil}
 use Rattle.gl_translate.specs.Setting.{Setting, unnamed}
 use Rattle.gl_translate.specs.Meaning.{Meaning, fault, if_form, let_form}
 use Rattle.gl_translate.specs.Parts.{Part}
-use Rattle.gl_translate.specs.Macros.{Choice, choice_of, choice_before, choices_of, choices_form, chosen, joined, is_empty, matches_all, key_test, body_of, is_declare, member_form, option_fault}
+use Rattle.gl_translate.specs.Macros.{Choice, choice_of, choice_before, choices_of, choices_form, chosen, joined, matches_all, key_test, body_of, is_declare, member_form}
 use Rattle.gl_translate.specs.Translation.{meaning, meanings}
-use Rattle.gl_translate.specs.Steps.{part_of, parts_of, choice_form, choice_forms}
+use Rattle.gl_translate.specs.Steps.{option_fault, part_of, parts_of, choice_form, choice_forms}
 use Rattle.gl_translate.proofs.Forward.{parts_push, parts_last}
 
 never_zero : (i : ℕ) → (suc i == 0) ≡ false
@@ -37,7 +37,7 @@ module _ (s : Setting) where
 
   pub choices_same : (ps : List Part) (cs : List Choice) → choices_of s ps ≡ Some cs → choices_form s cs ≡ choice_forms s ps
   choices_same [] cs e = let same : [] ≡ cs = cc in ap (choices_form s) (sym same)
-  choices_same (p ∷ ps) cs e = step (choice_of p.object p.inside) (choices_of s ps) (is_empty ps) cs (choice_forms s ps) (choices_same ps) e
+  choices_same (p ∷ ps) cs e = step (choice_of p.object p.inside) (choices_of s ps) (length ps == 0) cs (choice_forms s ps) (choices_same ps) e
 
   pub chosen_is : (x : Meaning) (ps : List Part) → is_some (choices_of s ps) ≡ true → chosen s x (choices_of s ps) ≡ let_form (unnamed s ∷ []) (x ∷ []) (choice_forms s ps)
   chosen_is x ps = elim (choices_of s ps) as (λ o. choices_of s ps ≡ o → is_some o ≡ true → chosen s x o ≡ let_form (unnamed s ∷ []) (x ∷ []) (choice_forms s ps)) [
@@ -53,43 +53,43 @@ module _ (s : Setting) where
 
   pub none_stays : (qs ps : List Part) → is_some (choices_of s ps) ≡ false → is_some (choices_of s (qs ++ ps)) ≡ false
   none_stays [] ps h = h
-  none_stays (q ∷ qs) ps h = joined_none (choice_before s (is_empty (qs ++ ps))) (choice_of q.object q.inside) (choices_of s (qs ++ ps)) (none_stays qs ps h)
+  none_stays (q ∷ qs) ps h = joined_none (choice_before s (length (qs ++ ps) == 0)) (choice_of q.object q.inside) (choices_of s (qs ++ ps)) (none_stays qs ps h)
 
   parts_split : (xs : List Object) (i : ℕ) → parts_of s xs ≡ parts_of s (drop i xs) ++ parts_of s (take i xs)
   parts_split xs i = ap (parts_of s) (sym (take-append-drop i xs)) ∙ (ap (map (part_of s)) (reverse-append (take i xs) (drop i xs)) ∙ map-append (part_of s) (reverse (drop i xs)) (reverse (take i xs)))
 
   module _ (xs : List Object) (i : ℕ) (x : Object) (inside : i < length xs) (at : x ≡ get_or xs i x) where
-    pub choices_at : choices_of s (parts_of s (take (i + 1) xs)) ≡ joined (choice_before s (is_empty (parts_of s (take i xs)))) (choice_of x (meanings s x)) (choices_of s (parts_of s (take i xs)))
+    pub choices_at : choices_of s (parts_of s (take (i + 1) xs)) ≡ joined (choice_before s (length (parts_of s (take i xs)) == 0)) (choice_of x (meanings s x)) (choices_of s (parts_of s (take i xs)))
     choices_at = ap (λ (ys : List Object). choices_of s (parts_of s ys)) (take_more xs i x inside ∙ ap (λ (y : Object). take i xs ++ y ∷ []) (sym at)) ∙ ap (choices_of s) (parts_push s (take i xs) x)
 
     pub spoiled : is_some (choices_of s (parts_of s (take (i + 1) xs))) ≡ false → false ≡ is_some (choices_of s (parts_of s xs))
     spoiled h = sym (ap (λ ps. is_some (choices_of s ps)) (parts_split xs (i + 1)) ∙ none_stays (parts_of s (drop (i + 1) xs)) (parts_of s (take (i + 1) xs)) h)
 
     pub no_choice : choice_of x (meanings s x) ≡ None → false ≡ is_some (choices_of s (parts_of s xs))
-    no_choice h = spoiled (ap is_some (choices_at ∙ ap (λ o. joined (choice_before s (is_empty (parts_of s (take i xs)))) o (choices_of s (parts_of s (take i xs)))) h))
+    no_choice h = spoiled (ap is_some (choices_at ∙ ap (λ o. joined (choice_before s (length (parts_of s (take i xs)) == 0)) o (choices_of s (parts_of s (take i xs)))) h))
 
     none_before : (c : Choice) (os : Option (List Choice)) (last : Bool) → (matches_all s c.0 && not last) ≡ true → is_some (joined (choice_before s last) (Some c) os) ≡ false
     none_before c None last h = refl
     none_before c (Some cs) last h = ap (λ b. is_some (cond b None (Some (c ∷ cs)))) h
 
-    pub too_early : (c : Choice) → choice_of x (meanings s x) ≡ Some c → (matches_all s c.0 && not (is_empty (parts_of s (take i xs)))) ≡ true → false ≡ is_some (choices_of s (parts_of s xs))
-    too_early c h e = spoiled (ap is_some (choices_at ∙ ap (λ o. joined (choice_before s (is_empty (parts_of s (take i xs)))) o (choices_of s (parts_of s (take i xs)))) h) ∙ none_before c (choices_of s (parts_of s (take i xs))) (is_empty (parts_of s (take i xs))) e)
+    pub too_early : (c : Choice) → choice_of x (meanings s x) ≡ Some c → (matches_all s c.0 && not (length (parts_of s (take i xs)) == 0)) ≡ true → false ≡ is_some (choices_of s (parts_of s xs))
+    too_early c h e = spoiled (ap is_some (choices_at ∙ ap (λ o. joined (choice_before s (length (parts_of s (take i xs)) == 0)) o (choices_of s (parts_of s (take i xs)))) h) ∙ none_before c (choices_of s (parts_of s (take i xs))) (length (parts_of s (take i xs)) == 0) e)
 
     kept : (c : Choice) (os : Option (List Choice)) (last : Bool) → (matches_all s c.0 && not last) ≡ false → is_some os ≡ true → is_some (joined (choice_before s last) (Some c) os) ≡ true
     kept c None last h k = absurd cc
     kept c (Some cs) last h k = ap (λ b. is_some (cond b None (Some (c ∷ cs)))) h
 
-    pub one_choice : (c : Choice) → choice_of x (meanings s x) ≡ Some c → (matches_all s c.0 && not (is_empty (parts_of s (take i xs)))) ≡ false → is_some (choices_of s (parts_of s (take i xs))) ≡ true → is_some (choices_of s (parts_of s (take (i + 1) xs))) ≡ true
-    one_choice c h e k = ap is_some (choices_at ∙ ap (λ o. joined (choice_before s (is_empty (parts_of s (take i xs)))) o (choices_of s (parts_of s (take i xs)))) h) ∙ kept c (choices_of s (parts_of s (take i xs))) (is_empty (parts_of s (take i xs))) e k
+    pub one_choice : (c : Choice) → choice_of x (meanings s x) ≡ Some c → (matches_all s c.0 && not (length (parts_of s (take i xs)) == 0)) ≡ false → is_some (choices_of s (parts_of s (take i xs))) ≡ true → is_some (choices_of s (parts_of s (take (i + 1) xs))) ≡ true
+    one_choice c h e k = ap is_some (choices_at ∙ ap (λ o. joined (choice_before s (length (parts_of s (take i xs)) == 0)) o (choices_of s (parts_of s (take i xs)))) h) ∙ kept c (choices_of s (parts_of s (take i xs))) (length (parts_of s (take i xs)) == 0) e k
 
-  full : (ys : List Object) (x : Object) → is_empty (map (part_of s) (ys ++ x ∷ [])) ≡ false
-  full [] x = refl
-  full (y ∷ ys) x = refl
+  full : (ys : List Object) (x : Object) → (length (map (part_of s) (ys ++ x ∷ [])) == 0) ≡ false
+  full [] x = never_zero 0
+  full (y ∷ ys) x = never_zero (length (map (part_of s) (ys ++ x ∷ [])))
 
-  pub empty_parts : (xs : List Object) (i : ℕ) → i ≤ length xs → is_empty (parts_of s (take i xs)) ≡ (i == 0)
+  pub empty_parts : (xs : List Object) (i : ℕ) → i ≤ length xs → (length (parts_of s (take i xs)) == 0) ≡ (i == 0)
   empty_parts xs zero l = refl
   empty_parts [] (suc i) l = absurd (omega (arith, l))
-  empty_parts (x ∷ xs) (suc i) l = ap (λ ys. is_empty (map (part_of s) ys)) (reverse-append (x ∷ []) (take i xs)) ∙ (full (reverse (take i xs)) x ∙ sym (never_zero i))
+  empty_parts (x ∷ xs) (suc i) l = ap (λ ys. (length (map (part_of s) ys) == 0)) (reverse-append (x ∷ []) (take i xs)) ∙ (full (reverse (take i xs)) x ∙ sym (never_zero i))
 
   -- ---- what stands behind bindings
   body_after : (ds : List Object) (b : Object) → body_of s (map (part_of s) ds ++ part_of s b ∷ []) ≡ cond (list_all (is_declare s) ds) (Some (meaning s b)) None

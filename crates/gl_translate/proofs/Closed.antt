@@ -14,15 +14,17 @@ use Rattle.gl_translate.specs.declared.fault.TermFault.{TermFault}
 use Rattle.gl_translate.specs.declared.fault.TermFault.TheVariants as term_fault
 use Rattle.gl_translate.specs.declared.macros.Macro.{Macro}
 use Rattle.gl_translate.specs.declared.macros.Macro.TheVariants as macro
-use Rattle.gl_translate.specs.Setting.{Setting, is_legal, unnamed, spells, spelling}
-use Rattle.gl_logic.specs.Wording.{has_mark}
+use Rattle.gl_translate.specs.Setting.{Setting, unnamed}
+use Rattle.gl_logic.specs.Wording.{has_mark, is_legal, spells, text_of}
 use Rattle.gl_translate.specs.Meaning.{Meaning, fault, literal, symbol, if_form, prim_form, call_form, let_form, prim_call, call_with, count_at, numbered_call, place_call, number_named, named_call}
 use Rattle.gl_translate.specs.Parts.{Part, Binding, all_means}
-use Rattle.gl_translate.specs.Macros.{number, prim1, prim2, of_one, of_two, and_form, or_form, clause_form, cond_form, nested, nested_or, sum_form, list_form, minus_form, append_call, member_call, path_form, option_fault, member_form, the_form, mbe_form, Choice, is_key, choice_of, choice_before, is_empty, joined, choices_of, key_test, choices_form, chosen, case_form, matches_all, bound_by, all_bound, is_declare, body_of, let_bound, let_parts, let_call, let_one, one_after_another, let_star_parts, let_star_call, macro_form}
+use Rattle.gl_translate.specs.Macros.{is_keyword_object, if_call, quote_call, number, prim1, prim2, of_one, of_two, and_form, or_form, clause_form, cond_form, nested, nested_or, sum_form, list_form, minus_form, append_call, member_call, path_form, member_form, mbe_form, Choice, is_key, choice_of, choice_before, joined, choices_of, key_test, choices_form, chosen, case_form, matches_all, bound_by, all_bound, is_declare, body_of, let_bound, let_parts, let_call, let_one, one_after_another, let_star_parts, let_star_call}
 use Rattle.gl_logic.specs.NameSets.{are_different}
 use Rattle.gl_translate.specs.Steps.{part_of, binding_of, choice_form, choice_forms}
-use Rattle.gl_translate.specs.Words.{macro_named, prim_named, is_path, letters_of}
-use Rattle.gl_translate.specs.Translation.{meaning, meanings, bindings, parts, if_call, quote_call, of_prim, of_function, of_macro, headed, head_name, list_meaning}
+use Rattle.gl_translate.specs.Words.{prim_named, is_path, letters_of}
+use Rattle.gl_translate.specs.Heads.{macro_named, macro_form, of_macro, head_means}
+use Rattle.gl_translate.proofs.Tables.{headed_is}
+use Rattle.gl_translate.specs.Translation.{meaning, meanings, bindings, parts, of_prim, of_function, headed, head_name, list_meaning}
 
 -- what is kept by each form that the table makes, where the objects that stand for themselves are fine
 pub record IsKept (s : Setting) (IsFine : Object → Type 0) (P : Meaning → Type 0) : Type 0 where
@@ -164,25 +166,19 @@ module _ (s : Setting) (IsFine : Object → Type 0) (P : Meaning → Type 0) (k 
   member_has : (a b : Meaning) → P a → P b → P (member_call s a b)
   member_has a b h g = numbered_has 31 (a ∷ b ∷ []) (h, (g, tt))
 
-  -- ---- `member`, `the`, `mbe`
+  -- ---- `member`, `mbe`
   member_form_has : (ps : List Part) → Every PartHas ps → P (member_form s ps)
   member_form_has [] h = wrong
   member_form_has (a ∷ []) h = wrong
   member_form_has (a ∷ b ∷ []) h = member_has a.means b.means h.0.0 h.1.0.0
-  member_form_has (a ∷ b ∷ c ∷ ps) h = k.of_fault (option_fault s (c ∷ ps))
-
-  the_has : (ms : List Meaning) → Every P ms → P (the_form ms)
-  the_has [] h = wrong
-  the_has (a ∷ []) h = wrong
-  the_has (a ∷ b ∷ []) h = h.1.0
-  the_has (a ∷ b ∷ c ∷ ms) h = wrong
+  member_form_has (a ∷ b ∷ c ∷ ps) h = k.of_fault (cond (is_keyword_object s c.object) term_fault.BadUse term_fault.WrongCount)
 
   mbe_has : (ps : List Part) → Every PartHas ps → P (mbe_form s ps)
   mbe_has [] h = wrong
   mbe_has (l ∷ []) h = wrong
   mbe_has (l ∷ a ∷ []) h = wrong
   mbe_has (l ∷ a ∷ e ∷ []) h = wrong
-  mbe_has (l ∷ a ∷ e ∷ b ∷ []) h = elim (spells s (codes ":LOGIC") l.object && spells s (codes ":EXEC") e.object) as (λ z. P (cond z a.means (fault term_fault.BadUse))) [ true ↦ h.1.0.0 | false ↦ bad ]
+  mbe_has (l ∷ a ∷ e ∷ b ∷ []) h = elim (spells s.names (codes ":LOGIC") l.object && spells s.names (codes ":EXEC") e.object) as (λ z. P (cond z a.means (fault term_fault.BadUse))) [ true ↦ h.1.0.0 | false ↦ bad ]
   mbe_has (l ∷ a ∷ e ∷ b ∷ c ∷ ps) h = wrong
 
   -- ---- `case`
@@ -207,7 +203,7 @@ module _ (s : Setting) (IsFine : Object → Type 0) (P : Meaning → Type 0) (k 
 
   choices_give : (ps : List Part) → Every PartHas ps → IfSome (choices_of s ps) (Every ChoiceHas)
   choices_give [] h = tt
-  choices_give (p ∷ ps) h = joined_choices (is_empty ps) (choice_of p.object p.inside) (choices_of s ps) (choice_gives p.object p.inside h.0.1.1.1 h.0.1.0) (choices_give ps h.1)
+  choices_give (p ∷ ps) h = joined_choices (length ps == 0) (choice_of p.object p.inside) (choices_of s ps) (choice_gives p.object p.inside h.0.1.1.1 h.0.1.0) (choices_give ps h.1)
 
   pub key_test_has : (key : Object) → IsFine key → P (key_test s key)
   key_test_has key h = elim (is_cons key) as (λ b. P (cond b (member_call s (symbol s (unnamed s)) (literal key)) (prim2 prim.Equal (symbol s (unnamed s)) (literal key)))) [
@@ -247,7 +243,7 @@ module _ (s : Setting) (IsFine : Object → Type 0) (P : Meaning → Type 0) (k 
   bound_gives (Cons (Symbol v) rest) None h = tt
   bound_gives (Cons (Symbol v) rest) (Some []) h = tt
   bound_gives (Cons (Symbol v) rest) (Some (a ∷ [])) h = tt
-  bound_gives (Cons (Symbol v) rest) (Some (a ∷ e ∷ [])) h = elim (is_legal s v) as (λ b. IfSome {T = ℕ × Meaning} (cond b (Some (v, e)) None) (λ z. P z.1)) [ true ↦ h.1.0 | false ↦ tt ]
+  bound_gives (Cons (Symbol v) rest) (Some (a ∷ e ∷ [])) h = elim (is_legal s.names v) as (λ b. IfSome {T = ℕ × Meaning} (cond b (Some (v, e)) None) (λ z. P z.1)) [ true ↦ h.1.0 | false ↦ tt ]
   bound_gives (Cons (Symbol v) rest) (Some (a ∷ e ∷ f ∷ ms)) h = tt
 
   joined_bindings : (o : Option (ℕ × Meaning)) (os : Option (List (ℕ × Meaning))) → IfSome o (λ e. P e.1) → IfSome os (Every (λ e. P e.1)) → IfSome (joined (λ p ps. Some (p ∷ ps)) o os) (Every (λ e. P e.1))
@@ -331,7 +327,7 @@ module _ (s : Setting) (IsFine : Object → Type 0) (P : Meaning → Type 0) (k 
   macro_has macro.Fourth ps h = one_has (path_form (codes "ADDD")) (all_means ps) (path_has (codes "ADDD")) (means_have ps h)
   macro_has macro.Fifth ps h = one_has (path_form (codes "ADDDD")) (all_means ps) (path_has (codes "ADDDD")) (means_have ps h)
   macro_has macro.Rest ps h = one_has (path_form (codes "D")) (all_means ps) (path_has (codes "D")) (means_have ps h)
-  macro_has macro.The ps h = the_has (all_means ps) (means_have ps h)
+  macro_has macro.The ps h = two_has (λ type a. a) (all_means ps) (λ a b g i. i) (means_have ps h)
   macro_has macro.Mbe ps h = mbe_has ps h
 
   -- ---- heads
@@ -352,23 +348,26 @@ module _ (s : Setting) (IsFine : Object → Type 0) (P : Meaning → Type 0) (k 
   of_prim_has head ps None h = placed_has (all_means ps) (number_named s head) (means_have ps h)
 
   function_has : (head : ℕ) (ps : List Part) → Every PartHas ps → P (of_function s head ps)
-  function_has head ps h = elim (is_path (spelling s head)) as (λ b. P (cond b (of_one (path_form (letters_of (spelling s head))) (all_means ps)) (of_prim s head ps (prim_named (spelling s head))))) [
-    | true ↦ one_has (path_form (letters_of (spelling s head))) (all_means ps) (path_has (letters_of (spelling s head))) (means_have ps h)
-    | false ↦ of_prim_has head ps (prim_named (spelling s head)) h
+  function_has head ps h = elim (is_path (text_of s.names head)) as (λ b. P (cond b (of_one (path_form (letters_of (text_of s.names head))) (all_means ps)) (of_prim s head ps (prim_named (text_of s.names head))))) [
+    | true ↦ one_has (path_form (letters_of (text_of s.names head))) (all_means ps) (path_has (letters_of (text_of s.names head))) (means_have ps h)
+    | false ↦ of_prim_has head ps (prim_named (text_of s.names head)) h
   ]
 
   of_macro_has : (head : ℕ) (ps : List Part) (o : Option Macro) → Every PartHas ps → P (of_macro s head ps o)
   of_macro_has head ps (Some m) h = macro_has m ps h
   of_macro_has head ps None h = function_has head ps h
 
-  headed_has : (head : ℕ) (ps : List Part) → Every PartHas ps → P (headed s head ps)
-  headed_has head ps h = elim (bytes_eq (spelling s head) (codes "IF")) as (λ b. P (cond b (if_call (all_means ps)) (cond (bytes_eq (spelling s head) (codes "QUOTE")) (quote_call ps) (of_macro s head ps (macro_named (spelling s head)))))) [
+  head_has : (head : ℕ) (ps : List Part) → Every PartHas ps → P (head_means s head ps)
+  head_has head ps h = elim (bytes_eq (text_of s.names head) (codes "IF")) as (λ b. P (cond b (if_call (all_means ps)) (cond (bytes_eq (text_of s.names head) (codes "QUOTE")) (quote_call ps) (of_macro s head ps (macro_named (text_of s.names head)))))) [
     | true ↦ if_has (all_means ps) (means_have ps h)
-    | false ↦ elim (bytes_eq (spelling s head) (codes "QUOTE")) as (λ b. P (cond b (quote_call ps) (of_macro s head ps (macro_named (spelling s head))))) [
+    | false ↦ elim (bytes_eq (text_of s.names head) (codes "QUOTE")) as (λ b. P (cond b (quote_call ps) (of_macro s head ps (macro_named (text_of s.names head))))) [
       | true ↦ quote_has ps h
-      | false ↦ of_macro_has head ps (macro_named (spelling s head)) h
+      | false ↦ of_macro_has head ps (macro_named (text_of s.names head)) h
     ]
   ]
+
+  headed_has : (head : ℕ) (ps : List Part) → Every PartHas ps → P (headed s head ps)
+  headed_has head ps h = subst P (sym (headed_is s head ps)) (head_has head ps h)
 
   listed_has : (name : Option ℕ) (o : Option (List Part)) → IfSome o (Every PartHas) → P (list_meaning s name o)
   listed_has None o h = bad

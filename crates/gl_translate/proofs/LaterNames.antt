@@ -20,14 +20,16 @@ use Rattle.gl_translate.specs.declared.fault.TermFault.TheVariants as term_fault
 use Rattle.gl_translate.specs.declared.macros.Macro.{Macro}
 use Rattle.gl_translate.specs.declared.macros.Macro.TheVariants as macro
 use Rattle.gl_translate.specs.declared.scope.Scope.{Scope}
-use Rattle.gl_translate.specs.Setting.{Setting, spelling, is_keyword, is_legal, unnamed, spells}
-use Rattle.gl_logic.specs.Wording.{first_byte, has_mark, is_mark, is_starred}
+use Rattle.gl_translate.specs.Setting.{Setting, unnamed}
+use Rattle.gl_logic.specs.Wording.{first_byte, has_mark, is_mark, is_starred, text_of, is_keyword, is_legal, spells}
 use Rattle.gl_translate.specs.Meaning.{Meaning, fault, within, constant_or, literal, symbol, if_form, let_form}
 use Rattle.gl_translate.specs.Parts.{Part, Binding, all_means}
-use Rattle.gl_translate.specs.Macros.{of_one, path_form, prim2, member_call, is_keyword_object, option_fault, member_form, mbe_form, Choice, is_key, choice_of, choice_before, is_empty, joined, matches_all, choices_of, key_test, choices_form, chosen, case_form, bound_by, all_bound, declared_in, is_declared, declare_in, is_declare, body_of, let_bound, let_parts, let_call, let_one, one_after_another, let_star_parts, let_star_call, macro_form}
+use Rattle.gl_translate.specs.Macros.{of_one, path_form, prim2, member_call, is_keyword_object, member_form, mbe_form, Choice, is_key, choice_of, choice_before, joined, matches_all, choices_of, key_test, choices_form, chosen, case_form, bound_by, all_bound, declared_in, is_declared, declare_in, is_declare, body_of, let_bound, let_parts, let_call, let_one, one_after_another, let_star_parts, let_star_call, if_call, quote_call}
 use Rattle.gl_logic.specs.Wording.{elements}
-use Rattle.gl_translate.specs.Words.{macro_named, prim_named, is_path, letters_of}
-use Rattle.gl_translate.specs.Translation.{if_call, of_prim, meaning, meanings, bindings, parts, quote_call, of_function, of_macro, headed, head_name, list_meaning, translation, setting_of, are_in}
+use Rattle.gl_translate.specs.Words.{prim_named, is_path, letters_of}
+use Rattle.gl_translate.specs.Heads.{macro_named, macro_form, of_macro, head_means}
+use Rattle.gl_translate.proofs.Tables.{headed_is}
+use Rattle.gl_translate.specs.Translation.{of_prim, meaning, meanings, bindings, parts, of_function, headed, head_name, list_meaning, translation, setting_of, are_in}
 use Rattle.gl_translate.specs.Steps.{part_of, binding_of}
 
 -- ---- the place of the empty name
@@ -47,7 +49,7 @@ module _ (names more : List (List ℕ)) (constants : List (ℕ × Object)) (func
   abbrev Known : Object → Type 0
   Known x = IsNumbered (length names) x
 
-  spelling_same : (t : ℕ) → t < length names → spelling new t ≡ spelling old t
+  spelling_same : (t : ℕ) → t < length names → text_of new.names t ≡ text_of old.names t
   spelling_same t l = get_or_append_left names more [] t l
 
   unnamed_same : unnamed new ≡ unnamed old
@@ -57,7 +59,7 @@ module _ (names more : List (List ℕ)) (constants : List (ℕ × Object)) (func
   abbrev legal_by : ℕ → List ℕ → Bool
   legal_by t word = not (nat_lt t 4) && (not (first_byte word == 58) && not (is_starred word))
 
-  legal_same : (t : ℕ) → t < length names → is_legal new t ≡ is_legal old t
+  legal_same : (t : ℕ) → t < length names → is_legal new.names t ≡ is_legal old.names t
   legal_same t l = ap (legal_by t) (spelling_same t l)
 
   abbrev symbol_by : ℕ → List ℕ → Meaning
@@ -69,7 +71,7 @@ module _ (names more : List (List ℕ)) (constants : List (ℕ × Object)) (func
   no_name_same : symbol new (unnamed new) ≡ symbol old (unnamed old)
   no_name_same = ap (symbol new) unnamed_same ∙ symbol_same (unnamed old) named
 
-  spells_same : (word : List ℕ) (x : Object) → Known x → spells new word x ≡ spells old word x
+  spells_same : (word : List ℕ) (x : Object) → Known x → spells new.names word x ≡ spells old.names word x
   spells_same word (Int z) h = refl
   spells_same word (Character n) h = refl
   spells_same word (Symbol t) h = ap (λ w. bytes_eq w word) (spelling_same t h)
@@ -99,13 +101,13 @@ module _ (names more : List (List ℕ)) (constants : List (ℕ × Object)) (func
   mbe_same (l ∷ a ∷ []) h = refl
   mbe_same (l ∷ a ∷ e ∷ []) h = refl
   mbe_same (l ∷ a ∷ e ∷ b ∷ []) h =
-      ap (λ z. cond (z && spells new (codes ":EXEC") e.object) a.means (fault term_fault.BadUse)) (spells_same (codes ":LOGIC") l.object h.0.0)
-      ∙ ap (λ z. cond (spells old (codes ":LOGIC") l.object && z) a.means (fault term_fault.BadUse)) (spells_same (codes ":EXEC") e.object h.1.1.0.0)
+      ap (λ z. cond (z && spells new.names (codes ":EXEC") e.object) a.means (fault term_fault.BadUse)) (spells_same (codes ":LOGIC") l.object h.0.0)
+      ∙ ap (λ z. cond (spells old.names (codes ":LOGIC") l.object && z) a.means (fault term_fault.BadUse)) (spells_same (codes ":EXEC") e.object h.1.1.0.0)
   mbe_same (l ∷ a ∷ e ∷ b ∷ c ∷ ps) h = refl
 
   -- ---- `case`
   matches_same : (key : Object) → Known key → matches_all new key ≡ matches_all old key
-  matches_same key h = ap (λ z. z || spells new (codes "OTHERWISE") key) (spells_same (codes "T") key h) ∙ ap (λ z. spells old (codes "T") key || z) (spells_same (codes "OTHERWISE") key h)
+  matches_same key h = ap (λ z. z || spells new.names (codes "OTHERWISE") key) (spells_same (codes "T") key h) ∙ ap (λ z. spells old.names (codes "T") key || z) (spells_same (codes "OTHERWISE") key h)
 
   abbrev ChoiceKnown : Choice → Type 0
   ChoiceKnown c = Known c.0
@@ -133,13 +135,13 @@ module _ (names more : List (List ℕ)) (constants : List (ℕ × Object)) (func
 
   choices_known : (ps : List Part) → Every PartKnown ps → IfSome (choices_of old ps) (Every ChoiceKnown)
   choices_known [] h = tt
-  choices_known (p ∷ ps) h = joined_known (is_empty ps) (choice_of p.object p.inside) (choices_of old ps) (choice_known p.object p.inside h.0.0) (choices_known ps h.1)
+  choices_known (p ∷ ps) h = joined_known (length ps == 0) (choice_of p.object p.inside) (choices_of old ps) (choice_known p.object p.inside h.0.0) (choices_known ps h.1)
 
   choices_same : (ps : List Part) → Every PartKnown ps → choices_of new ps ≡ choices_of old ps
   choices_same [] h = refl
   choices_same (p ∷ ps) h =
-      ap (joined (choice_before new (is_empty ps)) (choice_of p.object p.inside)) (choices_same ps h.1)
-      ∙ joined_same (is_empty ps) (choice_of p.object p.inside) (choices_of old ps) (choice_known p.object p.inside h.0.0)
+      ap (joined (choice_before new (length ps == 0)) (choice_of p.object p.inside)) (choices_same ps h.1)
+      ∙ joined_same (length ps == 0) (choice_of p.object p.inside) (choices_of old ps) (choice_known p.object p.inside h.0.0)
 
   test_same : (key : Object) → key_test new key ≡ key_test old key
   test_same key = ap (λ (m : Meaning). cond (is_cons key) (member_call old m (literal key)) (prim2 prim.Equal m (literal key))) no_name_same
@@ -203,9 +205,9 @@ module _ (names more : List (List ℕ)) (constants : List (ℕ × Object)) (func
   declared_in_same None h = refl
   declared_in_same (Some []) h = refl
   declared_in_same (Some (x ∷ xs)) h =
-      ap (λ z. z || (spells new (codes "IGNORABLE") x || spells new (codes "TYPE") x)) (spells_same (codes "IGNORE") x h.0)
-      ∙ (ap (λ z. spells old (codes "IGNORE") x || (z || spells new (codes "TYPE") x)) (spells_same (codes "IGNORABLE") x h.0)
-      ∙ ap (λ z. spells old (codes "IGNORE") x || (spells old (codes "IGNORABLE") x || z)) (spells_same (codes "TYPE") x h.0))
+      ap (λ z. z || (spells new.names (codes "IGNORABLE") x || spells new.names (codes "TYPE") x)) (spells_same (codes "IGNORE") x h.0)
+      ∙ (ap (λ z. spells old.names (codes "IGNORE") x || (z || spells new.names (codes "TYPE") x)) (spells_same (codes "IGNORABLE") x h.0)
+      ∙ ap (λ z. spells old.names (codes "IGNORE") x || (spells old.names (codes "IGNORABLE") x || z)) (spells_same (codes "TYPE") x h.0))
 
   all_declared_same : (xs : List Object) → Every Known xs → list_all (is_declared new) xs ≡ list_all (is_declared old) xs
   all_declared_same [] h = refl
@@ -216,7 +218,7 @@ module _ (names more : List (List ℕ)) (constants : List (ℕ × Object)) (func
   declare_in_same (Some []) h = refl
   declare_in_same (Some (x ∷ xs)) h =
       ap (λ z. z && list_all (is_declared new) xs) (spells_same (codes "DECLARE") x h.0)
-      ∙ ap (λ z. spells old (codes "DECLARE") x && z) (all_declared_same xs h.1)
+      ∙ ap (λ z. spells old.names (codes "DECLARE") x && z) (all_declared_same xs h.1)
 
   body_same : (ps : List Part) → Every PartKnown ps → body_of new ps ≡ body_of old ps
   body_same [] h = refl
@@ -286,10 +288,13 @@ module _ (names more : List (List ℕ)) (constants : List (ℕ × Object)) (func
   abbrev headed_by : ℕ → List Part → List ℕ → Meaning
   headed_by t ps word = cond (bytes_eq word (codes "IF")) (if_call (all_means ps)) (cond (bytes_eq word (codes "QUOTE")) (quote_call ps) (of_macro new t ps (macro_named word)))
 
-  headed_same : (t : ℕ) (ps : List Part) → t < length names → Every PartKnown ps → headed new t ps ≡ headed old t ps
-  headed_same t ps l h =
+  head_same : (t : ℕ) (ps : List Part) → t < length names → Every PartKnown ps → head_means new t ps ≡ head_means old t ps
+  head_same t ps l h =
       ap (headed_by t ps) (spelling_same t l)
-      ∙ ap (λ (m : Meaning). cond (bytes_eq (spelling old t) (codes "IF")) (if_call (all_means ps)) (cond (bytes_eq (spelling old t) (codes "QUOTE")) (quote_call ps) m)) (of_macro_same t ps (macro_named (spelling old t)) l h)
+      ∙ ap (λ (m : Meaning). cond (bytes_eq (text_of old.names t) (codes "IF")) (if_call (all_means ps)) (cond (bytes_eq (text_of old.names t) (codes "QUOTE")) (quote_call ps) m)) (of_macro_same t ps (macro_named (text_of old.names t)) l h)
+
+  headed_same : (t : ℕ) (ps : List Part) → t < length names → Every PartKnown ps → headed new t ps ≡ headed old t ps
+  headed_same t ps l h = headed_is new t ps ∙ (head_same t ps l h ∙ sym (headed_is old t ps))
 
   no_list : (o : Option ℕ) → list_meaning new o None ≡ list_meaning old o None
   no_list None = refl

@@ -1,3 +1,5 @@
+pub mod Tables
+pub mod FunctionPlaces
 pub mod WholeLists
 pub mod Clauses
 pub mod Sizes

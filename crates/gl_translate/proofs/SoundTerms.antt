@@ -17,7 +17,8 @@ use Rattle.gl_logic.specs.PrimValue.{prim_arity}
 use Rattle.gl_logic.specs.declared.prim.Primitive.{Primitive}
 use Rattle.gl_translate.specs.declared.fault.TermFault.{TermFault}
 use Rattle.gl_translate.specs.declared.fault.TermFault.TheVariants as term_fault
-use Rattle.gl_translate.specs.Setting.{Setting, is_legal, stands_for_itself}
+use Rattle.gl_logic.specs.Wording.{is_legal}
+use Rattle.gl_translate.specs.Setting.{Setting, stands_for_itself}
 use Rattle.gl_translate.specs.Meaning.{Meaning, Outcome, and_then, within, symbol, symbol_inside, constant_or, variable, every_part, if_form, if_parts, prim_form, call_form, let_form, let_inside, also_bound, count_at}
 use Rattle.gl_translate.specs.Translation.{meaning, function_of}
 use Rattle.gl_translate.specs.Answers.{is_visible, IsTermWith, HasVisibleVariables, IsNarrow, HasNarrowConstants, HaveNarrowConstants}
@@ -176,7 +177,7 @@ module _ (s : Setting) (IsFine : Object → Type 0) where
   turned v (u ∷ vs) = λ i. eqb_turns v u i || turned v vs i
 
   not_bound : (vs : List ℕ) (bound : ℕ → Bool) (v : ℕ) → list_any (λ u. eqb u v) vs ≡ false → is_visible s (also_bound vs bound) v ≡ true → is_visible s bound v ≡ true
-  not_bound vs bound v e h = sym (ap (λ b. (b || bound v) || (s.every && is_legal s v)) (turned v vs ∙ e)) ∙ h
+  not_bound vs bound v e h = sym (ap (λ b. (b || bound v) || (s.every && is_legal s.names v)) (turned v vs ∙ e)) ∙ h
 
   mutual
     pub sound_is_visible : (t : Exp) (bound : ℕ → Bool) → IsSound bound t → HasVisibleVariables s bound t

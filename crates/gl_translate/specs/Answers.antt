@@ -8,7 +8,8 @@ use Rattle.gl_logic.specs.IsTermOf.{IsTermOf}
 use Rattle.gl_logic.specs.FreeVariables.{is_free_in}
 use Rattle.gl_translate.specs.declared.fault.TermFault.{TermFault}
 use Rattle.gl_translate.specs.declared.fault.TermFault.TheVariants as term_fault
-use Rattle.gl_translate.specs.Setting.{Setting, is_legal}
+use Rattle.gl_logic.specs.Wording.{is_legal}
+use Rattle.gl_translate.specs.Setting.{Setting}
 use Rattle.gl_translate.specs.Meaning.{Outcome}
 use Rattle.gl_translate.specs.Translation.{function_of, setting_of, are_in}
 use Rattle.gl_translate.specs.declared.scope.Scope.{Scope}
@@ -26,7 +27,7 @@ IsTermWith definitions own t = (members : List Definition) → map function_of m
 
 -- a variable that is bound, or any legal one where every such is in scope
 abbrev pub is_visible : Setting → (ℕ → Bool) → ℕ → Bool
-is_visible s bound v = bound v || (s.every && is_legal s v)
+is_visible s bound v = bound v || (s.every && is_legal s.names v)
 
 abbrev pub HasVisibleVariables : Setting → (ℕ → Bool) → Exp → Type 0
 HasVisibleVariables s bound t = (v : ℕ) → is_free_in t v ≡ true → is_visible s bound v ≡ true

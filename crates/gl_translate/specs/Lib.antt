@@ -4,6 +4,7 @@ pub mod Parts
 pub mod Words
 pub mod Macros
 pub mod Translation
+pub mod Heads
 pub mod Steps
 pub mod Contexts
 pub mod Answers

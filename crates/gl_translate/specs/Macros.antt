@@ -1,4 +1,4 @@
--- What each macro means, from its arguments.
+-- What `if`, `quote` and each macro mean, from their arguments.
 use Rattle.std.specs.Prelude.{ℕ, zero, Bool, true, false, ◌&&◌, ◌||◌, ◌==◌, eqb, nat_lt, if◌then◌else◌, List, [], ◌∷◌, length, map, codes, Option, Some, None, ℤ, pos, negsuc, not}
 use Rattle.std.specs.List.{list_any, list_all}
 use Rattle.std.specs.Option.{option_map, is_some}
@@ -7,15 +7,14 @@ use Rattle.gl_logic.specs.ObjectEq.{is_nil}
 use Rattle.gl_logic.specs.declared.prim.Primitive.{Primitive}
 use Rattle.gl_logic.specs.declared.prim.Primitive.TheVariants as prim
 use Rattle.gl_logic.specs.PrimValue.{is_cons}
-use Rattle.gl_logic.specs.Wording.{has_mark, elements}
+use Rattle.gl_logic.specs.Wording.{has_mark, elements, is_keyword, is_legal, spells}
 use Rattle.gl_logic.specs.NameSets.{are_different}
 use Rattle.gl_translate.specs.declared.fault.TermFault.{TermFault}
 use Rattle.gl_translate.specs.declared.fault.TermFault.TheVariants as term_fault
-use Rattle.gl_translate.specs.declared.macros.Macro.{Macro}
-use Rattle.gl_translate.specs.declared.macros.Macro.TheVariants as macro
-use Rattle.gl_translate.specs.Setting.{Setting, is_keyword, is_legal, unnamed, spells}
+use Rattle.gl_translate.specs.Setting.{Setting, unnamed}
 use Rattle.gl_translate.specs.Meaning.{Meaning, fault, literal, symbol, if_form, prim_form, let_form, numbered_call}
 use Rattle.gl_translate.specs.Parts.{Part, Binding, all_means}
+use Rattle.gl_translate.specs.Words.{beside}
 
 abbrev pub number : ℕ → Meaning
 number n = literal (Int (pos n))
@@ -94,26 +93,19 @@ path_form (letter ∷ letters) a = prim1 (if letter == 65 then prim.Car else pri
 
 -- ---- `member`, `mbe`
 abbrev pub is_keyword_object : Setting → Object → Bool
-is_keyword_object s (Symbol t) = is_keyword s t
+is_keyword_object s (Symbol t) = is_keyword s.names t
 is_keyword_object s _ = false
-
--- of what stands behind two arguments
-abbrev pub option_fault : Setting → List Part → TermFault
-option_fault s (option ∷ more) = if is_keyword_object s option.object then term_fault.BadUse else term_fault.WrongCount
-option_fault s [] = term_fault.WrongCount
 
 abbrev pub member_form : Setting → List Part → Meaning
 member_form s (a ∷ b ∷ []) = member_call s a.means b.means
-member_form s (a ∷ b ∷ more) = fault (option_fault s more)
+member_form s (a ∷ b ∷ option ∷ more) = fault (if is_keyword_object s option.object then term_fault.BadUse else term_fault.WrongCount)
 member_form s _ = fault term_fault.WrongCount
 
 -- ---- `the`
-abbrev pub the_form : List Meaning → Meaning
-the_form (type ∷ a ∷ []) = a
-the_form _ = fault term_fault.WrongCount
-
 abbrev pub mbe_form : Setting → List Part → Meaning
-mbe_form s (logic ∷ a ∷ exec ∷ b ∷ []) = if spells s (codes ":LOGIC") logic.object && spells s (codes ":EXEC") exec.object then a.means else fault term_fault.BadUse
+mbe_form s (logic ∷ a ∷ exec ∷ b ∷ []) =
+    if spells s.names (codes ":LOGIC") logic.object && spells s.names (codes ":EXEC") exec.object then a.means
+    else fault term_fault.BadUse
 mbe_form s _ = fault term_fault.WrongCount
 
 -- ---- `case`
@@ -131,15 +123,11 @@ choice_of _ _ = None
 
 -- T or OTHERWISE
 abbrev pub matches_all : Setting → Object → Bool
-matches_all s key = spells s (codes "T") key || spells s (codes "OTHERWISE") key
+matches_all s key = spells s.names (codes "T") key || spells s.names (codes "OTHERWISE") key
 
 -- one in front of the others, and only the last one may match all
 abbrev pub choice_before : Setting → Bool → Choice → List Choice → Option (List Choice)
 choice_before s last c cs = if matches_all s c.0 && not last then None else Some (c ∷ cs)
-
-abbrev pub is_empty : {A : Type 0} → List A → Bool
-is_empty [] = true
-is_empty (x ∷ xs) = false
 
 abbrev pub joined : {A B C : Type 0} → (A → B → Option C) → Option A → Option B → Option C
 joined f (Some a) (Some b) = f a b
@@ -147,7 +135,7 @@ joined f _ _ = None
 
 abbrev pub choices_of : Setting → List Part → Option (List Choice)
 choices_of s [] = Some []
-choices_of s (p ∷ ps) = joined (choice_before s (is_empty ps)) (choice_of p.object p.inside) (choices_of s ps)
+choices_of s (p ∷ ps) = joined (choice_before s (length ps == 0)) (choice_of p.object p.inside) (choices_of s ps)
 
 -- a list tests membership, an atom equality
 abbrev pub key_test : Setting → Object → Meaning
@@ -168,7 +156,7 @@ case_form s (x ∷ clauses) = chosen s x.means (choices_of s clauses)
 -- ---- `let` and `let*`
 -- a legal variable and its value
 abbrev pub bound_by : Setting → Object → Option (List Meaning) → Option (ℕ × Meaning)
-bound_by s (Cons (Symbol v) rest) (Some (name ∷ e ∷ [])) = if is_legal s v then Some (v, e) else None
+bound_by s (Cons (Symbol v) rest) (Some (name ∷ e ∷ [])) = if is_legal s.names v then Some (v, e) else None
 bound_by s _ _ = None
 
 abbrev pub all_bound : Setting → List Binding → Option (List (ℕ × Meaning))
@@ -177,14 +165,15 @@ all_bound s (b ∷ bs) = joined (λ p ps. Some (p ∷ ps)) (bound_by s b.object 
 
 -- `(ignore ..)`, `(ignorable ..)` or `(type ..)`
 abbrev pub declared_in : Setting → Option (List Object) → Bool
-declared_in s (Some (head ∷ rest)) = spells s (codes "IGNORE") head || (spells s (codes "IGNORABLE") head || spells s (codes "TYPE") head)
+declared_in s (Some (head ∷ rest)) =
+    spells s.names (codes "IGNORE") head || (spells s.names (codes "IGNORABLE") head || spells s.names (codes "TYPE") head)
 declared_in s _ = false
 
 abbrev pub is_declared : Setting → Object → Bool
 is_declared s x = declared_in s (elements x)
 
 abbrev pub declare_in : Setting → Option (List Object) → Bool
-declare_in s (Some (head ∷ rest)) = spells s (codes "DECLARE") head && list_all (is_declared s) rest
+declare_in s (Some (head ∷ rest)) = spells s.names (codes "DECLARE") head && list_all (is_declared s) rest
 declare_in s _ = false
 
 abbrev pub is_declare : Setting → Object → Bool
@@ -224,35 +213,56 @@ abbrev pub let_star_call : Setting → List Part → Meaning
 let_star_call s [] = fault term_fault.BadUse
 let_star_call s (bindings ∷ rest) = let_star_parts s bindings.bindings (body_of s rest)
 
+-- ---- `if` and `quote`
+abbrev pub if_call : List Meaning → Meaning
+if_call (a ∷ b ∷ c ∷ []) = if_form a b c
+if_call _ = fault term_fault.WrongCount
+
+abbrev pub quote_call : List Part → Meaning
+quote_call (x ∷ []) = if has_mark x.object then fault term_fault.BadUse else literal x.object
+quote_call _ = fault term_fault.WrongCount
+
 -- ---- the table
-abbrev pub macro_form : Setting → Macro → List Part → Meaning
-macro_form s macro.And ps = and_form (all_means ps)
-macro_form s macro.Or ps = or_form (all_means ps)
-macro_form s macro.Cond ps = cond_form ps
-macro_form s macro.Case ps = case_form s ps
-macro_form s macro.Let ps = let_call s ps
-macro_form s macro.LetStar ps = let_star_call s ps
-macro_form s macro.List ps = list_form (all_means ps)
-macro_form s macro.ListStar ps = nested_or (fault term_fault.WrongCount) (prim2 prim.Cons) (all_means ps)
-macro_form s macro.Plus ps = sum_form prim.BinaryPlus (pos 0) (all_means ps)
-macro_form s macro.Times ps = sum_form prim.BinaryTimes (pos 1) (all_means ps)
-macro_form s macro.Minus ps = minus_form (all_means ps)
-macro_form s macro.OneMore ps = of_one (λ a. prim2 prim.BinaryPlus (number 1) a) (all_means ps)
-macro_form s macro.OneLess ps = of_one (λ a. prim2 prim.BinaryPlus a (prim1 prim.UnaryMinus (number 1))) (all_means ps)
-macro_form s macro.AtMost ps = of_two (λ a b. prim1 prim.Not (prim2 prim.Less b a)) (all_means ps)
-macro_form s macro.Above ps = of_two (λ a b. prim2 prim.Less b a) (all_means ps)
-macro_form s macro.AtLeast ps = of_two (λ a b. prim1 prim.Not (prim2 prim.Less a b)) (all_means ps)
-macro_form s macro.Unequal ps = of_two (λ a b. prim1 prim.Not (prim2 prim.Equal a b)) (all_means ps)
-macro_form s macro.Append ps = nested_or (literal nil) (append_call s) (all_means ps)
-macro_form s macro.Logand ps = nested_or (literal (Int (negsuc 0))) (prim2 prim.BinaryLogand) (all_means ps)
-macro_form s macro.Logior ps = nested_or (number 0) (prim2 prim.BinaryLogior) (all_means ps)
-macro_form s macro.Logxor ps = nested_or (number 0) (prim2 prim.BinaryLogxor) (all_means ps)
-macro_form s macro.Member ps = member_form s ps
-macro_form s macro.First ps = of_one (path_form (codes "A")) (all_means ps)
-macro_form s macro.Second ps = of_one (path_form (codes "AD")) (all_means ps)
-macro_form s macro.Third ps = of_one (path_form (codes "ADD")) (all_means ps)
-macro_form s macro.Fourth ps = of_one (path_form (codes "ADDD")) (all_means ps)
-macro_form s macro.Fifth ps = of_one (path_form (codes "ADDDD")) (all_means ps)
-macro_form s macro.Rest ps = of_one (path_form (codes "D")) (all_means ps)
-macro_form s macro.The ps = the_form (all_means ps)
-macro_form s macro.Mbe ps = mbe_form s ps
+-- what a form means with this head, by its arguments
+abbrev pub SpecialForm : Type 0
+SpecialForm = Setting → List Part → Meaning
+
+-- `if`, `quote` and each macro by its word
+abbrev pub special_forms : List (List ℕ × SpecialForm)
+special_forms =
+    (codes "IF", λ s ps. if_call (all_means ps))
+    ∷ (codes "QUOTE", λ s ps. quote_call ps)
+    ∷ (codes "AND", λ s ps. and_form (all_means ps))
+    ∷ (codes "OR", λ s ps. or_form (all_means ps))
+    ∷ (codes "COND", λ s ps. cond_form ps)
+    ∷ (codes "CASE", λ s ps. case_form s ps)
+    ∷ (codes "LET", λ s ps. let_call s ps)
+    ∷ (codes "LET*", λ s ps. let_star_call s ps)
+    ∷ (codes "LIST", λ s ps. list_form (all_means ps))
+    ∷ (codes "LIST*", λ s ps. nested_or (fault term_fault.WrongCount) (prim2 prim.Cons) (all_means ps))
+    ∷ (codes "+", λ s ps. sum_form prim.BinaryPlus (pos 0) (all_means ps))
+    ∷ (codes "*", λ s ps. sum_form prim.BinaryTimes (pos 1) (all_means ps))
+    ∷ (codes "-", λ s ps. minus_form (all_means ps))
+    ∷ (codes "1+", λ s ps. of_one (λ a. prim2 prim.BinaryPlus (number 1) a) (all_means ps))
+    ∷ (codes "1-", λ s ps. of_one (λ a. prim2 prim.BinaryPlus a (prim1 prim.UnaryMinus (number 1))) (all_means ps))
+    ∷ (codes "<=", λ s ps. of_two (λ a b. prim1 prim.Not (prim2 prim.Less b a)) (all_means ps))
+    ∷ (codes ">", λ s ps. of_two (λ a b. prim2 prim.Less b a) (all_means ps))
+    ∷ (codes ">=", λ s ps. of_two (λ a b. prim1 prim.Not (prim2 prim.Less a b)) (all_means ps))
+    ∷ (codes "/=", λ s ps. of_two (λ a b. prim1 prim.Not (prim2 prim.Equal a b)) (all_means ps))
+    ∷ (codes "APPEND", λ s ps. nested_or (literal nil) (append_call s) (all_means ps))
+    ∷ (codes "LOGAND", λ s ps. nested_or (literal (Int (negsuc 0))) (prim2 prim.BinaryLogand) (all_means ps))
+    ∷ (codes "LOGIOR", λ s ps. nested_or (number 0) (prim2 prim.BinaryLogior) (all_means ps))
+    ∷ (codes "LOGXOR", λ s ps. nested_or (number 0) (prim2 prim.BinaryLogxor) (all_means ps))
+    ∷ (codes "MEMBER", λ s ps. member_form s ps)
+    ∷ (codes "FIRST", λ s ps. of_one (path_form (codes "A")) (all_means ps))
+    ∷ (codes "SECOND", λ s ps. of_one (path_form (codes "AD")) (all_means ps))
+    ∷ (codes "THIRD", λ s ps. of_one (path_form (codes "ADD")) (all_means ps))
+    ∷ (codes "FOURTH", λ s ps. of_one (path_form (codes "ADDD")) (all_means ps))
+    ∷ (codes "FIFTH", λ s ps. of_one (path_form (codes "ADDDD")) (all_means ps))
+    ∷ (codes "REST", λ s ps. of_one (path_form (codes "D")) (all_means ps))
+    ∷ (codes "THE", λ s ps. of_two (λ type a. a) (all_means ps))
+    ∷ (codes "MBE", λ s ps. mbe_form s ps)
+    ∷ []
+
+abbrev pub special_named : List ℕ → Option SpecialForm
+special_named word = beside special_forms word

@@ -11,7 +11,8 @@ use Rattle.gl_logic.specs.PrimValue.{prim_arity}
 use Rattle.gl_logic.specs.declared.prim.Primitive as primitive
 use Rattle.gl_translate.specs.declared.fault.TermFault.{TermFault}
 use Rattle.gl_translate.specs.declared.fault.TermFault.TheVariants as term_fault
-use Rattle.gl_translate.specs.Setting.{Setting, stands_for_itself, is_legal}
+use Rattle.gl_logic.specs.Wording.{is_legal}
+use Rattle.gl_translate.specs.Setting.{Setting, stands_for_itself}
 
 abbrev pub Outcome : Type 0 → Type 0
 Outcome A = Result A TermFault
@@ -36,7 +37,7 @@ literal x = within (λ bound around. Ok (Const x))
 
 -- ---- symbols
 abbrev pub variable : Setting → ℕ → (ℕ → Bool) → Outcome Exp
-variable s t bound = if bound t || (s.every && is_legal s t) then Ok (Var t) else Err term_fault.UnboundVariable
+variable s t bound = if bound t || (s.every && is_legal s.names t) then Ok (Var t) else Err term_fault.UnboundVariable
 
 abbrev pub constant_or : Option Object → Outcome Exp → Outcome Exp
 constant_or (Some x) other = Ok (Const x)
@@ -93,13 +94,9 @@ numbered_call s f ms = call_with f ms (count_at (s.functions ++ s.own) f)
 abbrev pub function_names : List (ℕ × ℕ) → List ℕ
 function_names functions = map (λ e. e.0) functions
 
-abbrev pub place_after : ℕ → Option ℕ → Option ℕ → Option ℕ
-place_after count (Some f) own = Some f
-place_after count None own = option_map (λ i. count + i) own
-
 -- the number of a name: the world's, or else that of one being made
 abbrev pub number_named : Setting → ℕ → Option ℕ
-number_named s name = place_after (length s.functions) (place_of (function_names s.functions) name) (place_of (function_names s.own) name)
+number_named s name = place_of (function_names (s.functions ++ s.own)) name
 
 abbrev pub place_call : Setting → List Meaning → Option ℕ → Meaning
 place_call s ms (Some f) = numbered_call s f ms

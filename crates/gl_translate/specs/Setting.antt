@@ -2,7 +2,7 @@
 use Rattle.std.specs.Prelude.{ℕ, Bool, ◌||◌, nat_lt, List, [], bytes_eq}
 use Rattle.std.specs.List.{position_or_len}
 use Rattle.gl_logic.specs.Object.{Object}
-use Rattle.gl_logic.specs.Wording.{text_of, is_keyword as keyword_in, is_legal as legal_in, spells as spelled_in}
+use Rattle.gl_logic.specs.Wording.{is_keyword}
 
 -- the texts of symbols by number, the constants, the world's definitions and those being made, each with its name and its count of formals, and whether every legal variable is in scope
 pub record Setting : Type 0 where
@@ -12,24 +12,10 @@ pub record Setting : Type 0 where
   pub own : List (ℕ × ℕ)
   pub every : Bool
 
-abbrev pub spelling : Setting → ℕ → List ℕ
-spelling s t = text_of s.names t
-
--- what its table says of a symbol
-abbrev pub is_keyword : Setting → ℕ → Bool
-is_keyword s t = keyword_in s.names t
-
 -- NIL, T and keywords
 abbrev pub stands_for_itself : Setting → ℕ → Bool
-stands_for_itself s t = nat_lt t 2 || is_keyword s t
-
-abbrev pub is_legal : Setting → ℕ → Bool
-is_legal s t = legal_in s.names t
+stands_for_itself s t = nat_lt t 2 || is_keyword s.names t
 
 -- the symbol of the empty name, which no token spells
 abbrev pub unnamed : Setting → ℕ
 unnamed s = position_or_len (bytes_eq []) s.names
-
--- the object is the symbol with this text
-abbrev pub spells : Setting → List ℕ → Object → Bool
-spells s word x = spelled_in s.names word x

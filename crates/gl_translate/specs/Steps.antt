@@ -17,7 +17,7 @@ use Rattle.gl_translate.specs.Setting.{Setting}
 use Rattle.gl_logic.specs.Wording.{has_mark}
 use Rattle.gl_translate.specs.Meaning.{Meaning, and_then, fault, literal, symbol, symbol_inside, every_part, if_form, if_parts, prim_form, call_form, let_form, let_inside}
 use Rattle.gl_translate.specs.Parts.{Part, Binding, all_means}
-use Rattle.gl_translate.specs.Macros.{Choice, and_form, or_form, cond_form, list_form, nested_or, path_form, prim1, prim2, number, append_call, choice_of, matches_all, key_test, one_after_another}
+use Rattle.gl_translate.specs.Macros.{Choice, is_keyword_object, and_form, or_form, cond_form, list_form, nested_or, path_form, prim1, prim2, number, append_call, choice_of, matches_all, key_test, one_after_another}
 use Rattle.gl_translate.specs.Translation.{meaning, meanings, bindings}
 
 -- ---- what stands from the last to the first
@@ -35,6 +35,11 @@ means_of s xs = all_means (parts_of s xs)
 
 abbrev pub bindings_of : Setting → List Object → List Binding
 bindings_of s xs = map (binding_of s) (reverse xs)
+
+-- the fault of a `member` with these arguments more
+abbrev pub option_fault : Setting → List Part → TermFault
+option_fault s (option ∷ more) = if is_keyword_object s option.object then term_fault.BadUse else term_fault.WrongCount
+option_fault s [] = term_fault.WrongCount
 
 -- ---- forms
 -- what is left of a `case`, whose clauses have their shape

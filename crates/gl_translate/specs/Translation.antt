@@ -1,5 +1,5 @@
 -- The term that a form means, or the code of its first fault.
-use Rattle.std.specs.Prelude.{ℕ, zero, Bool, eqb, if◌then◌else◌, List, [], ◌∷◌, length, map, codes, bytes_eq, Option, Some, None}
+use Rattle.std.specs.Prelude.{ℕ, zero, Bool, eqb, if◌then◌else◌, List, [], ◌∷◌, length, map, Option, Some, None}
 use Rattle.std.specs.List.{list_any}
 use Rattle.std.specs.Option.{option_map}
 use Rattle.gl_logic.specs.Object.{Object, Int, Character, Symbol, Text, Cons}
@@ -8,39 +8,30 @@ use Rattle.gl_logic.specs.Definition.{Definition}
 use Rattle.gl_logic.specs.WorldSeen.{WorldSeen}
 use Rattle.gl_logic.specs.declared.prim.Primitive.{Primitive}
 use Rattle.gl_translate.specs.declared.fault.TermFault.TheVariants as term_fault
-use Rattle.gl_translate.specs.declared.macros.Macro.{Macro}
 use Rattle.gl_translate.specs.declared.scope.Scope.{Scope}
-use Rattle.gl_translate.specs.Setting.{Setting, spelling}
-use Rattle.gl_logic.specs.Wording.{is_mark, has_mark}
-use Rattle.gl_translate.specs.Meaning.{Meaning, Outcome, fault, literal, symbol, if_form, prim_call, named_call}
+use Rattle.gl_translate.specs.Setting.{Setting}
+use Rattle.gl_logic.specs.Wording.{is_mark, text_of}
+use Rattle.gl_translate.specs.Meaning.{Meaning, Outcome, fault, literal, symbol, prim_call, named_call}
 use Rattle.gl_translate.specs.Parts.{Part, Binding, all_means}
-use Rattle.gl_translate.specs.Words.{macro_named, prim_named, is_path, letters_of}
-use Rattle.gl_translate.specs.Macros.{macro_form, of_one, path_form}
+use Rattle.gl_translate.specs.Words.{prim_named, is_path, letters_of}
+use Rattle.gl_translate.specs.Macros.{of_one, path_form, SpecialForm, special_named}
 
-abbrev pub if_call : List Meaning → Meaning
-if_call (a ∷ b ∷ c ∷ []) = if_form a b c
-if_call _ = fault term_fault.WrongCount
-
-abbrev pub quote_call : List Part → Meaning
-quote_call (x ∷ []) = if has_mark x.object then fault term_fault.BadUse else literal x.object
-quote_call _ = fault term_fault.WrongCount
-
--- ---- a head with its arguments: `if` and `quote`, then a macro, a chain of `car` and `cdr`, a primitive, a definition
+-- ---- a head with its arguments: a word of the table, a chain of `car` and `cdr`, a primitive, a definition
 abbrev pub of_prim : Setting → ℕ → List Part → Option Primitive → Meaning
 of_prim s head ps (Some p) = prim_call p (all_means ps)
 of_prim s head ps None = named_call s head (all_means ps)
 
 abbrev pub of_function : Setting → ℕ → List Part → Meaning
-of_function s head ps = if is_path (spelling s head) then of_one (path_form (letters_of (spelling s head))) (all_means ps) else of_prim s head ps (prim_named (spelling s head))
+of_function s head ps =
+    if is_path (text_of s.names head) then of_one (path_form (letters_of (text_of s.names head))) (all_means ps)
+    else of_prim s head ps (prim_named (text_of s.names head))
 
-abbrev pub of_macro : Setting → ℕ → List Part → Option Macro → Meaning
-of_macro s head ps (Some m) = macro_form s m ps
-of_macro s head ps None = of_function s head ps
+abbrev pub of_special : Setting → ℕ → List Part → Option SpecialForm → Meaning
+of_special s head ps (Some form) = form s ps
+of_special s head ps None = of_function s head ps
 
 abbrev pub headed : Setting → ℕ → List Part → Meaning
-headed s head ps =
-    if bytes_eq (spelling s head) (codes "IF") then if_call (all_means ps) else
-    (if bytes_eq (spelling s head) (codes "QUOTE") then quote_call ps else of_macro s head ps (macro_named (spelling s head)))
+headed s head ps = of_special s head ps (special_named (text_of s.names head))
 
 -- the name of a head, where it is a symbol and no mark
 abbrev pub head_name : Object → Option ℕ

@@ -72,14 +72,15 @@ impl<'a> Context<'a> {
 }
 
 impl Context<'_> {
-    ghost use Rattle.gl_translate.specs.Setting.{is_keyword as keyword_is, stands_for_itself as stands, is_legal as legal_is, spells as is_spelled};
+    ghost use Rattle.gl_logic.specs.Wording.{is_keyword as keyword_is, is_legal as legal_is, spells as is_spelled};
+    ghost use Rattle.gl_translate.specs.Setting.{stands_for_itself as stands};
     ghost use Rattle.gl_translate.specs.Meaning.{Meaning, count_at, number_named, numbered_call, fault};
     ghost use Rattle.gl_translate.specs.Macros.{is_keyword_object as keyword_object_is};
     ghost use Rattle.gl_translate.specs.Contexts.{setting_in};
 
     /// Whether a symbol is a keyword.
     pub(crate) fn is_keyword(&self, name: TextId) -> bool
-        ensures { result ≡ keyword_is (setting_in self.now) name.number }
+        ensures { result ≡ keyword_is (setting_in self.now).names name.number }
     {
         wording::is_keyword(self.texts, name)
     }
@@ -93,14 +94,14 @@ impl Context<'_> {
 
     /// Whether a symbol may be a variable.
     pub(crate) fn is_legal(&self, name: TextId) -> bool
-        ensures { result ≡ legal_is (setting_in self.now) name.number }
+        ensures { result ≡ legal_is (setting_in self.now).names name.number }
     {
         wording::is_legal(self.texts, name)
     }
 
     /// Whether an object is the symbol with this text.
     pub(crate) fn spells(&self, word: &[u8], object: &Tree) -> bool
-        ensures { result ≡ is_spelled (setting_in self.now) word.now object.now }
+        ensures { result ≡ is_spelled (setting_in self.now).names word.now object.now }
     {
         wording::spells(self.texts, word, object)
     }

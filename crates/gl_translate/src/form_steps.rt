@@ -6,8 +6,9 @@ ghost use Rattle.gl_logic.specs.Lists.{size_of, conses};
 ghost use Rattle.gl_logic.specs.Object.{nil};
 ghost use Rattle.gl_logic.specs.declared.tree.TreeKind.TheVariants.{List};
 ghost use Rattle.gl_translate.specs.Meaning.{literal, numbered_call};
-ghost use Rattle.gl_translate.specs.Macros.{macro_form, member_form, mbe_form, nested_or};
-ghost use Rattle.gl_translate.specs.Translation.{meaning, headed};
+ghost use Rattle.gl_translate.specs.Macros.{member_form, mbe_form, nested_or};
+ghost use Rattle.gl_translate.specs.Translation.{meaning};
+ghost use Rattle.gl_translate.specs.Heads.{macro_form, head_means};
 ghost use Rattle.gl_translate.specs.Steps.{Takes, IsBelow, means_of, parts_of as parts_in, form_means, weight};
 
 use super::choices::cond_step;
@@ -21,7 +22,8 @@ use gl_logic::{FnId, Prim, TextId, Tree, TreeKind};
 
 impl Context<'_> {
     ghost use Rattle.gl_translate.specs.Translation.{of_function};
-    ghost use Rattle.gl_translate.specs.Macros.{append_call, option_fault};
+    ghost use Rattle.gl_translate.specs.Macros.{append_call};
+    ghost use Rattle.gl_translate.specs.Steps.{option_fault};
     ghost use Rattle.gl_translate.specs.Contexts.{setting_in};
 
     /// One step of a form of the book.
@@ -65,7 +67,7 @@ impl Context<'_> {
     /// A head with its arguments: `if` and `quote`, then a macro, a chain of `car` and `cdr`, a
     /// primitive, a definition.
     fn headed_step<'f>(&'f self, head: TextId, forms: &'f [Tree]) -> Result<Step<'f>, TermFault>
-        ensures takes { Takes (setting_in self.now) (headed (setting_in self.now) head.number (parts_in (setting_in self.now) forms.now)) result }
+        ensures takes { Takes (setting_in self.now) (head_means (setting_in self.now) head.number (parts_in (setting_in self.now) forms.now)) result }
         ensures below { IfOk result (IsBelow (weight forms.now)) }
     {
         let word = self.texts.text(head);

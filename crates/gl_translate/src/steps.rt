@@ -8,9 +8,9 @@ ghost use Rattle.gl_logic.specs.declared.prim.Primitive.TheVariants as prim;
 ghost use Rattle.gl_translate.specs.declared.fault.TermFault.TheVariants as term_fault;
 ghost use Rattle.gl_translate.specs.Setting.{Setting};
 ghost use Rattle.gl_translate.specs.Meaning.{prim_call, literal, fault};
-ghost use Rattle.gl_translate.specs.Macros.{and_form, or_form, list_form, path_form, of_one, the_form, sum_form, nested_or, prim1, prim2};
+ghost use Rattle.gl_translate.specs.Macros.{if_call, quote_call, and_form, or_form, list_form, path_form, of_one, of_two, sum_form, nested_or, prim1, prim2};
 ghost use Rattle.gl_logic.specs.Wording.{elements as elements_in};
-ghost use Rattle.gl_translate.specs.Translation.{meaning, meanings, bindings, parts, if_call, quote_call};
+ghost use Rattle.gl_translate.specs.Translation.{meaning, meanings, bindings, parts};
 ghost use Rattle.gl_translate.specs.Steps.{Takes, IsBelow, means_of, parts_of as parts_in, bindings_of, weight, form_means};
 
 use super::fault::TermFault;
@@ -239,7 +239,7 @@ fn arity(prim: Prim) -> usize
 
 /// `(the s a)`
 pub(crate) fn the_step(forms: &[Tree]) -> Result<Step<'_>, TermFault>
-    ensures takes { (s : Setting) → Takes s (the_form (means_of s forms.now)) result }
+    ensures takes { (s : Setting) → Takes s (of_two (λ type a. a) (means_of s forms.now)) result }
     ensures below { IfOk result (IsBelow (weight forms.now)) }
 {
     match forms {

@@ -1,10 +1,14 @@
 //! The words that name macros and primitives.
 
 ghost use Rattle.std.specs.Prelude.{◌≡◌};
-ghost use Rattle.gl_translate.specs.Words.{macro_word as word_of_macro, prim_word as word_of_prim, macro_named as named_macro, prim_named as named_prim, is_path as path_is};
+ghost use Rattle.std.specs.Option.{is_some};
+ghost use Rattle.gl_translate.specs.Words.{prim_named as named_prim, is_path as path_is};
+ghost use Rattle.gl_translate.specs.Macros.{special_named};
+ghost use Rattle.gl_translate.specs.Heads.{prim_word as word_of_prim, macro_word as word_of_macro, macro_named as named_macro};
 
 use super::macros::Macro;
 use gl_logic::Prim;
+use gl_logic::wording::same;
 
 const MACROS: [Macro; 30] = [
     Macro::And,
@@ -145,7 +149,7 @@ pub fn prim_word(named: Prim) -> &'static [u8]
 }
 
 /// The macro that a word names.
-pub fn macro_named(word: &[u8]) -> Option<Macro>
+pub(crate) fn macro_named(word: &[u8]) -> Option<Macro>
     ensures { result ≡ named_macro word.now }
 {
     for found in &MACROS {
@@ -154,6 +158,13 @@ pub fn macro_named(word: &[u8]) -> Option<Macro>
         }
     }
     None
+}
+
+/// Whether a word is `if`, `quote` or that of a macro.
+pub fn is_special(word: &[u8]) -> bool
+    ensures { result ≡ is_some (special_named word.now) }
+{
+    same(word, b"IF") || (same(word, b"QUOTE") || macro_named(word).is_some())
 }
 
 /// The primitive that a word names.

@@ -1,6 +1,6 @@
 use Rattle.std.proofs.Common.{◌≡◌, map, drop}
 use Rattle.std.specs.List.{list_all}
-use Rattle.event_world.specs.CliqueMeant.{is_new}
+use Rattle.event_world.specs.CliqueForms.{is_new}
 use Rattle.event_world.specs.FormsSeen.{stated_seen}
 use Rattle.event_world.proofs.clique_form.are_new.Given as goal
 

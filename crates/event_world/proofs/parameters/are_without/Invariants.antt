@@ -1,5 +1,5 @@
 use Rattle.std.proofs.Common.{◌≡◌, map, drop}
-use Rattle.event_world.specs.CasesMeant.{are_without}
+use Rattle.event_world.specs.CasesForms.{are_without}
 use Rattle.event_world.specs.FormsSeen.{case_form_seen}
 use Rattle.event_world.proofs.parameters.are_without.Given as goal
 

@@ -1,5 +1,5 @@
 use Rattle.std.proofs.Common.{◌∙◌, sym}
-use Rattle.gl_translate.specs.Words.{macro_word, all_macros}
+use Rattle.gl_translate.specs.Heads.{macro_word, all_macros}
 use Rattle.gl_translate.proofs.Searches.{word_next}
 use Rattle.gl_translate.proofs.words.macro_named.Goals as goal
 

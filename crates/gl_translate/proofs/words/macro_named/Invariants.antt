@@ -1,7 +1,7 @@
 use Rattle.std.proofs.Common.{◌≡◌, drop}
 use Rattle.std.specs.Prelude.{bytes_eq}
 use Rattle.std.specs.List.{find}
-use Rattle.gl_translate.specs.Words.{macro_word, all_macros}
+use Rattle.gl_translate.specs.Heads.{macro_word, all_macros}
 use Rattle.gl_translate.proofs.words.macro_named.Given as goal
 
 abbrev pub invariant-loop-found : goal.invariant-loop-found
