@@ -10,7 +10,8 @@
                          do (cond ((or (lower-case-p c) (not (< 32 (char-code c) 127)) (find c "()\"'`,;|\\:%")) (princ (hex c) out))
                                   (t (princ (char-downcase c) out)))))))
       (cond ((string= plain "") "%")
-            ((or (char= (char plain 0) #\#) (and (char= (char plain 0) #\*) (char= (char plain (1- (length plain))) #\*)) (every #'(lambda (c) (char= c #\.)) plain) (number-like-p plain))
+            ((or (char= (char plain 0) #\#) (and (char= (char plain 0) #\*) (char= (char plain (1- (length plain))) #\*))
+                 (every #'(lambda (c) (char= c #\.)) plain) (number-like-p plain))
              (concatenate 'string (hex (char text 0)) (subseq plain 1)))
             (t plain)))))
 (defun number-like-p (text)
@@ -70,8 +71,6 @@
           (t text))))
 
 ; ---- terms as forms: lists whose leaves are texts
-(defparameter *joined* '(("binary-+" . "+") ("binary-*" . "*") ("binary-append" . "append") ("binary-logand" . "logand")
-                         ("binary-logior" . "logior") ("binary-logxor" . "logxor")))
 (defvar *in-recursion* nil)
 (defvar *counted-clique* nil)
 (defun form-of (term)
@@ -96,7 +95,7 @@
           ((and (is "binary-+") (call-p (second args) "unary--")) (list "-" (form-of (first args)) (form-of (second (second args)))))
           ((is "unary--") (list "-" (form-of (first args))))
           ((assoc f *joined* :test #'equal)
-           (let* ((name (cdr (assoc f *joined* :test #'equal))) (rest (form-of (second args))))
+           (let* ((name (second (assoc f *joined* :test #'equal))) (rest (form-of (second args))))
              (list* name (form-of (first args)) (if (and (consp rest) (equal (car rest) name)) (cdr rest) (list rest)))))
           ((and (is "not") (call-p (first args) "<")) (list "<=" (form-of (third (first args))) (form-of (second (first args)))))
           ((is "cons") (cons-form (first args) (second args)))
@@ -104,7 +103,11 @@
           (t (cons f (forms-of args))))))
 (defun cons-form (a d)
   (let ((items (list (form-of a))))
-    (loop while (call-p d "cons") do (push (form-of (second d)) items) (setq d (third d)))
+    (loop
+      (cond ((call-p d "cons") (push (form-of (second d)) items) (setq d (third d)))
+            ((and (quoted-p d) (consp (second d)) (< (length (object-text (second d))) 70))
+             (push (constant-form (car (second d))) items) (setq d (list 'quote (cdr (second d)))))
+            (t (return))))
     (cond ((equal d ''nil) (cons "list" (nreverse items)))
           ((cdr items) (cons "list*" (nreverse (cons (form-of d) items))))
           (t (list "cons" (first items) (form-of d))))))
@@ -137,11 +140,10 @@
         (list* "case" (variable-token v) (append (nreverse clauses) (list (list "t" (form-of c)))))))))
 
 ; ---- layout
-(defparameter *width* 128)
 (defun flat (form) (if (atom form) (or form "()") (format nil "(~{~a~^ ~})" (mapcar #'flat form))))
 (defun lay (form indent out)
   (let ((line (flat form)))
-    (if (or (atom form) (<= (+ indent (length line)) *width*)) (princ line out)
+    (if (or (atom form) (<= (+ indent (length line)) 128)) (princ line out)
       (let* ((head (car form)) (kept (cond ((consp head) 0) ((equal head "defun") 2) ((member head '("let" "let*" "case" "if" "def-gl-thm") :test #'equal) 1) (t 0)))
              (inner (+ indent (if (consp head) 1 2))))
         (princ "(" out) (lay head (1+ indent) out)
@@ -149,7 +151,7 @@
               do (cond ((< i kept) (princ " " out) (lay x (+ indent 2 (length (flat head))) out))
                        (t (terpri out) (dotimes (k inner) (princ " " out)) (lay x inner out))))
         (princ ")" out)))))
-(defun layout (form) (with-output-to-string (out) (lay form 0 out)))
+(defun layout (form &optional (indent 0)) (with-output-to-string (out) (lay form indent out)))
 
 ; ---- definitions
 (defun defun-form (d)
@@ -176,5 +178,5 @@
     (list "defun" (token-of d) formals (list* (counted-token d) "1000000" formals))))
 (defun clique-texts (d)
   (let* ((clique (definition-clique d)) (forms (mapcar #'defun-form clique)))
-    (append (list (if (cdr clique) (format nil "(mutual-recursion~{~% ~a~})" (mapcar #'layout forms)) (layout (car forms))))
+    (append (list (if (cdr clique) (format nil "(mutual-recursion~{~% ~a~})" (loop for f in forms collect (layout f))) (layout (car forms))))
             (and (definition-counted d) (mapcar #'(lambda (f) (layout (uncounted-form f))) clique)))))

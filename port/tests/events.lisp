@@ -46,3 +46,5 @@
 (make-event `(gl::def-gl-thm ,(intern "MADE" "ACL2") :hyp (unsigned-byte-p ,(+ 1 2) x) :concl (< x 8) :g-bindings (gl::auto-bindings (:nat x 3))))
 (gl::gl-aig-bddify-mode)
 (gl::def-gl-thm by-search :hyp (unsigned-byte-p 14 x) :concl (equal (logxor x x) 0) :g-bindings (gl::auto-bindings (:nat x 14)))
+(must-fail (gl::def-gl-thm wanted-to-fail-too :hyp (unsigned-byte-p 4 x) :concl (< x 3) :g-bindings (gl::auto-bindings (:nat x 4))))
+(must-fail (gl::gl-thm wanted-to-fail-as-well :hyp (unsigned-byte-p 4 x) :concl (< x 3) :g-bindings (gl::auto-bindings (:nat x 4))))

@@ -29,6 +29,14 @@
   :concl (<= x 1023)
   :g-bindings (gl::auto-bindings (:nat x 10)))
 (defun bit-list-p (l) (if (atom l) (null l) (and (bitp (car l)) (bit-list-p (cdr l)))))
+(gl::def-gl-thm a-list-of-known-length
+  :hyp (and (bit-list-p l) (equal (len l) 4))
+  :concl (< (+ (* 8 (nth 3 l)) (* 4 (nth 2 l)) (* 2 (nth 1 l)) (nth 0 l)) 16)
+  :g-bindings '((l ((:g-integer 0 1) (:g-integer 2 3) (:g-integer 4 5) (:g-integer 6 7)))))
+(gl::def-gl-thm a-list-that-is-not-even ; refuted
+  :hyp (and (bit-list-p l) (= 3 (len l)))
+  :concl (equal (nth 2 l) 0)
+  :g-bindings '((l ((:g-integer 0 1) (:g-integer 2 3) (:g-integer 4 5)))))
 (gl::def-gl-thm through-another-bound
   :hyp (and (natp n) (natp m) (< n m) (<= m 32))
   :concl (< n 32)

@@ -16,3 +16,19 @@
   :hyp (unsigned-byte-p 8 x) :concl (<= 0 (status->level x)) :g-bindings (gl::auto-bindings (:nat x 8)))
 (gl::def-gl-thm a-structure-with-a-sign ; refuted
   :hyp (unsigned-byte-p 4 x) :concl (equal (shift-fix x) x) :g-bindings (gl::auto-bindings (:nat x 4)))
+; A stobj and one that lives in a function alone.
+(defstobj machine (steps :type (unsigned-byte 8) :initially 0) (cells :type (array (unsigned-byte 4) (4)) :initially 0))
+(defun step-machine (machine)
+  (declare (xargs :stobjs machine))
+  (let* ((machine (update-steps (+ 1 (steps machine)) machine))) (update-cellsi 1 (steps machine) machine)))
+(defun counted (x)
+  (with-local-stobj machine
+    (mv-let (n machine)
+      (let* ((machine (update-steps x machine)) (machine (step-machine machine))) (mv (steps machine) machine))
+      n)))
+(gl::def-gl-thm of-a-stobj ; refuted
+  :hyp (unsigned-byte-p 4 x)
+  :concl (equal (step-machine (list x '(0 0 0 0))) (list (+ 1 x) (list 0 x 0 0)))
+  :g-bindings (gl::auto-bindings (:nat x 4)))
+(gl::def-gl-thm of-a-local-stobj
+  :hyp (unsigned-byte-p 4 x) :concl (equal (counted x) (+ 1 x)) :g-bindings (gl::auto-bindings (:nat x 4)))
