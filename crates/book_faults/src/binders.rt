@@ -14,20 +14,14 @@ use std::alloc::Global;
 const UNNAMED: &[u8] = b"unnamed";
 
 fn at(offset: usize) -> Span {
-    Span {
-        start: offset,
-        end: offset,
-    }
+    Span::new(offset, offset)
 }
 
-/// The words of a part that may be variables, without the first of a list that begins with one.
+/// The words that may be variables of a pattern such as `(mv a b)`, which begins with another word.
 fn variables_of(alloc: Global, text: &[u8], binder: Span) -> Result<Vec<Span>, NoMemory> {
     let parts = elements(alloc, text, binder)?;
-    if is_among(head_of(text, &parts), "mv list list* cons nths the nth") {
-        let found = all_from(alloc, &parts, 1)?;
-        return words_in(alloc, text, &found);
-    }
-    words_in(alloc, text, &[binder])
+    let found = all_from(alloc, &parts, 1)?;
+    words_in(alloc, text, &found)
 }
 
 /// The first of some variables, or a name where there is none.
@@ -61,10 +55,7 @@ fn open_test(alloc: Global, edited: &mut Edited, item: Span, binder: Span) -> Re
     edited.replace(alloc, at(item.end.saturating_sub(1)), b")")?;
     edited.replace(alloc, at(binder.end), b" (unnamed (list ")?;
     edited.replace(alloc, word, UNNAMED)?;
-    let first = Span {
-        start: item.start,
-        end: item.start.saturating_add(1),
-    };
+    let first = Span::new(item.start, item.start.saturating_add(1));
     edited.replace(alloc, first, b" ")
 }
 
@@ -86,20 +77,17 @@ fn open_pattern(
 /// A name that binds nothing, as `-` or `&`, or one with a question mark in front.
 fn open_name(alloc: Global, edited: &mut Edited, binder: Span) -> Result<(), NoMemory> {
     let first = byte_at(&edited.text, binder.start);
-    let word = Span {
-        start: binder.start,
-        end: binder
+    let word = Span::new(
+        binder.start,
+        binder
             .start
             .saturating_add(token(&edited.text, binder).len()),
-    };
+    );
     if first == b'-' || first == b'&' {
         return edited.replace(alloc, word, UNNAMED);
     }
     if first == b'?' && 1 < word.end.saturating_sub(word.start) {
-        let mark = Span {
-            start: word.start,
-            end: word.start.saturating_add(1),
-        };
+        let mark = Span::new(word.start, word.start.saturating_add(1));
         return edited.replace(alloc, mark, b"");
     }
     Ok(())
@@ -112,9 +100,14 @@ fn open_item(alloc: Global, edited: &mut Edited, item: Span) -> Result<(), NoMem
     let Some(binder) = parts.first().copied() else {
         return Ok(());
     };
+    let is_alone = parts.len() == 1;
     drop(parts);
     if byte_at(&edited.text, binder.start) != b'(' {
         return open_name(alloc, edited, binder);
+    }
+    if is_alone {
+        // (such as `((object x))`, which binds fields of x)
+        return edited.replace(alloc, item, b"(unnamed nil)");
     }
     let inner = elements(alloc, &edited.text, binder)?;
     let is_test = is_among(
@@ -168,10 +161,10 @@ pub(crate) fn open_mv_let(
     }
     let binder = form_alone(alloc, &text, parts[1])?;
     let names = words_in(alloc, &text, &[binder])?;
-    let between = Span {
-        start: form_alone(alloc, &text, parts[2])?.end,
-        end: parts[parts.len() - 1].start,
-    };
+    let between = Span::new(
+        form_alone(alloc, &text, parts[2])?.end,
+        parts[parts.len() - 1].start,
+    );
     let word = form_alone(alloc, &text, parts[0])?;
     let mut behind = Report::new(alloc);
     behind.say(")");

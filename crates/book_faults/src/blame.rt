@@ -85,24 +85,12 @@ fn without(alloc: Global, text: &[u8], parts: &[Span], first: usize) -> Result<V
     let mut start = 0;
     for (i, part) in parts.iter().enumerate() {
         if first <= i {
-            out.text(cut(
-                text,
-                Span {
-                    start,
-                    end: part.start,
-                },
-            ));
+            out.text(cut(text, Span::new(start, part.start)));
             out.say("nil ");
             start = part.end;
         }
     }
-    out.text(cut(
-        text,
-        Span {
-            start,
-            end: text.len(),
-        },
-    ));
+    out.text(cut(text, Span::new(start, text.len())));
     out.into_bytes()
 }
 
@@ -214,39 +202,24 @@ pub fn blame(
 /// A text without a part of it.
 pub fn taken_out(alloc: Global, text: &[u8], part: Span) -> Result<Vec<u8>, NoMemory> {
     let mut out = Report::new(alloc);
-    out.text(cut(
-        text,
-        Span {
-            start: 0,
-            end: part.start,
-        },
-    ));
-    out.text(cut(
-        text,
-        Span {
-            start: part.end,
-            end: text.len(),
-        },
-    ));
+    out.text(cut(text, Span::new(0, part.start)));
+    out.text(cut(text, Span::new(part.end, text.len())));
     out.into_bytes()
 }
 
-/// The options among the elements of an event, each with its value.
+/// The options among the elements of an event, each with its value; of a definition what stands between its formals and its body.
 fn options_among(alloc: Global, parts: &[Span], is_theorem: bool) -> Result<Vec<Span>, NoMemory> {
     let mut options = Vec::new(alloc);
     let mut start = None;
     for (i, part) in parts.iter().enumerate() {
         match start {
             Some(first) => {
-                options.push(Span {
-                    start: first,
-                    end: part.end,
-                })?;
+                options.push(Span::new(first, part.end))?;
                 start = None;
             }
             None if is_theorem && 2 <= i => start = Some(part.start),
             None => {
-                if 3 <= i && !is_theorem {
+                if 3 <= i && i.saturating_add(1) < parts.len() && !is_theorem {
                     options.push(*part)?;
                 }
             }
@@ -255,10 +228,19 @@ fn options_among(alloc: Global, parts: &[Span], is_theorem: bool) -> Result<Vec<
     Ok(options)
 }
 
-/// The options of an event, each with its value: the declarations of a definition, and the keywords of a theorem.
+/// The options of an event, each with its value: the declarations of a definition or of the members of a clique, and the keywords
+/// of a theorem.
 fn options_of(alloc: Global, event: &[u8]) -> Result<Vec<Span>, NoMemory> {
     let parts = elements(alloc, event, whole(event))?;
-    options_among(alloc, &parts, begins_theorem(head_of(event, &parts)))
+    if !is_word(head_of(event, &parts), b"mutual-recursion") {
+        return options_among(alloc, &parts, begins_theorem(head_of(event, &parts)));
+    }
+    let mut options = Vec::new(alloc);
+    for member in &parts {
+        let inner = elements(alloc, event, *member)?;
+        options.extend_from_slice(&options_among(alloc, &inner, false)?)?;
+    }
+    Ok(options)
 }
 
 /// Whether a form with this head is a theorem.
@@ -266,35 +248,25 @@ fn begins_theorem(head: &[u8]) -> bool {
     is_word(head, b"def-gl-thm") || is_word(head, b"def-gl-param-thm")
 }
 
-/// The fault of an event's text without a part of it.
-fn fault_without(
-    alloc: Global,
-    judge: &Judge,
-    texts: &mut Texts,
-    event: &[u8],
-    part: Span,
-) -> Result<Option<EventFault>, NoMemory> {
-    let tried = taken_out(alloc, event, part)?;
-    fault_of(alloc, judge, texts, &tried)
-}
-
-/// The first option of an event without which it is not refused as before; the event where there is none. Without a required
-/// one it lacks a part.
+/// The option of an event that is at fault, the first one of several: from the last on each is taken out as long as the event
+/// keeps its fault. The event where there is none. Without a required one it lacks a part.
 pub fn odd_option(
     alloc: Global,
     judge: &Judge,
     texts: &mut Texts,
     event: &[u8],
 ) -> Result<Span, NoMemory> {
-    let all = whole(event);
     let options = options_of(alloc, event)?;
-    for (i, option) in options.iter().enumerate() {
+    let mut text = event.to_vec(alloc)?;
+    for (i, option) in options.iter().rev().enumerate() {
         if i < MOST_OPTIONS {
-            let fault = fault_without(alloc, judge, texts, event, *option)?;
-            if fault != Some(judge.fault) && fault != Some(EventFault::BadEvent) {
-                return form_alone(alloc, event, *option);
+            let tried = taken_out(alloc, &text, *option)?;
+            match fault_of(alloc, judge, texts, &tried)? {
+                Some(fault) if fault == judge.fault => text = tried,
+                Some(EventFault::BadEvent) => {}
+                _ => return form_alone(alloc, event, *option),
             }
         }
     }
-    Ok(all)
+    Ok(whole(event))
 }

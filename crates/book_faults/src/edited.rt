@@ -38,21 +38,9 @@ impl Edited {
         with: &[u8],
     ) -> Result<(), NoMemory> {
         let mut text = Report::new(alloc);
-        text.text(cut(
-            &self.text,
-            Span {
-                start: 0,
-                end: part.start,
-            },
-        ));
+        text.text(cut(&self.text, Span::new(0, part.start)));
         text.text(with);
-        text.text(cut(
-            &self.text,
-            Span {
-                start: part.end,
-                end: self.text.len(),
-            },
-        ));
+        text.text(cut(&self.text, Span::new(part.end, self.text.len())));
         self.text = text.into_bytes()?;
         self.edits.push(Edit {
             at: part.start,
@@ -77,9 +65,9 @@ impl Edited {
 
     /// Where a part stood at first.
     pub(crate) fn at_first(&self, part: Span) -> Span {
-        Span {
-            start: self.place_at_first(part.start),
-            end: self.place_at_first(part.end),
-        }
+        Span::new(
+            self.place_at_first(part.start),
+            self.place_at_first(part.end),
+        )
     }
 }

@@ -64,10 +64,7 @@ pub fn theorem_bindings(alloc: Global, texts: &mut Texts, event: &[u8]) -> Resul
 fn quoted_name(alloc: Global, event: &[u8]) -> Result<Span, NoMemory> {
     let part = element_of(alloc, event, whole(event), 1)?;
     if byte_at(event, part.start) == b'\'' {
-        let name = Span {
-            start: part.start.saturating_add(1),
-            end: part.end,
-        };
+        let name = Span::new(part.start.saturating_add(1), part.end);
         return form_alone(alloc, event, name);
     }
     Ok(part)

@@ -94,7 +94,7 @@ fn spans_between(alloc: Global, base: usize, offsets: &[usize]) -> Result<Vec<Sp
     for offset in offsets {
         let end = base.saturating_add(*offset);
         if let Some(start) = start {
-            spans.push(Span { start, end })?;
+            spans.push(Span::new(start, end))?;
         }
         start = Some(end);
     }
@@ -126,16 +126,35 @@ pub fn elements(alloc: Global, text: &[u8], span: Span) -> Result<Vec<Span>, NoM
     if byte_at(text, span.start) != b'(' {
         return Ok(Vec::new(alloc));
     }
-    let base = span.start.saturating_add(1);
-    let inside = cut(
-        text,
-        Span {
-            start: base,
-            end: span.end,
-        },
-    );
-    let offsets = offsets_read(alloc, inside)?;
-    spans_between(alloc, base, &offsets)
+    elements_from(alloc, text, span.start.saturating_add(1), span.end)
+}
+
+/// The elements from an offset inside a list on.
+fn elements_from(
+    alloc: Global,
+    text: &[u8],
+    start: usize,
+    end: usize,
+) -> Result<Vec<Span>, NoMemory> {
+    let offsets = offsets_read(alloc, cut(text, Span::new(start, end)))?;
+    spans_between(alloc, start, &offsets)
+}
+
+/// Where the parenthesis stands that closes a list, behind its dot where it has one.
+fn close_of(alloc: Global, text: &[u8], list: Span) -> Result<usize, NoMemory> {
+    let start = list.start.saturating_add(1);
+    let close = match elements_from(alloc, text, start, list.end)?.last() {
+        Some(part) => part.end,
+        None => start,
+    };
+    if byte_at(text, close) != b'.' {
+        return Ok(close);
+    }
+    let behind = close.saturating_add(1);
+    match elements_from(alloc, text, behind, list.end)?.last() {
+        Some(part) => Ok(part.end),
+        None => Ok(close),
+    }
 }
 
 /// A part without the blanks at its end.
@@ -146,49 +165,26 @@ pub fn without_blanks(text: &[u8], span: Span) -> Span {
             end = span.start.saturating_add(i).saturating_add(1);
         }
     }
-    Span {
-        start: span.start,
-        end,
-    }
+    Span::new(span.start, end)
 }
 
 /// The form with which a part begins, without what stands behind it.
 pub fn form_alone(alloc: Global, text: &[u8], span: Span) -> Result<Span, NoMemory> {
     let start = span.start;
     if byte_at(text, start) == b'(' {
-        let parts = elements(alloc, text, span)?;
-        let last = match parts.last() {
-            Some(part) => part.end,
-            None => start.saturating_add(1),
-        };
-        return Ok(Span {
-            start,
-            end: last.saturating_add(1),
-        });
+        return Ok(Span::new(start, close_of(alloc, text, span)?.saturating_add(1)));
     }
     let count = token(text, span).len();
     if count == 0 {
         return Ok(without_blanks(text, span));
     }
-    Ok(Span {
-        start,
-        end: start.saturating_add(count),
-    })
+    Ok(Span::new(start, start.saturating_add(count)))
 }
 
 /// The offset of the first byte from one on that is neither a blank nor of a comment to the end of its line.
 fn behind_gaps(text: &[u8], start: usize) -> usize {
     let mut is_comment = false;
-    for (i, byte) in cut(
-        text,
-        Span {
-            start,
-            end: text.len(),
-        },
-    )
-    .iter()
-    .enumerate()
-    {
+    for (i, byte) in cut(text, Span::new(start, text.len())).iter().enumerate() {
         if *byte == b'\n' {
             is_comment = false;
         } else if *byte == b';' {
@@ -226,7 +222,7 @@ pub fn behind_forms(alloc: Global, text: &[u8]) -> Result<usize, NoMemory> {
     match last {
         Some(start) => {
             let end = text.len();
-            let last = form_alone(alloc, text, Span { start, end })?;
+            let last = form_alone(alloc, text, Span::new(start, end))?;
             Ok(behind_gaps(text, last.end))
         }
         None => Ok(behind_gaps(text, 0)),

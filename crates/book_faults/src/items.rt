@@ -16,10 +16,7 @@ const MOST_ITEMS: usize = 64;
 fn quoted_elements(alloc: Global, text: &[u8], span: Span) -> Result<Vec<Span>, NoMemory> {
     let first = byte_at(text, span.start);
     if first == b'\'' || first == b'`' {
-        let list = Span {
-            start: span.start.saturating_add(1),
-            end: span.end,
-        };
+        let list = Span::new(span.start.saturating_add(1), span.end);
         return elements(alloc, text, list);
     }
     let parts = elements(alloc, text, span)?;
@@ -32,14 +29,7 @@ fn quoted_elements(alloc: Global, text: &[u8], span: Span) -> Result<Vec<Span>, 
 /// A text without those of a list's items that stand behind one of them.
 fn up_to(alloc: Global, text: &[u8], items: &[Span], item: Span) -> Result<Vec<u8>, NoMemory> {
     match items.last() {
-        Some(last) => taken_out(
-            alloc,
-            text,
-            Span {
-                start: item.end,
-                end: last.end,
-            },
-        ),
+        Some(last) => taken_out(alloc, text, Span::new(item.end, last.end)),
         None => Ok(text.to_vec(alloc)?),
     }
 }
@@ -105,6 +95,22 @@ fn parts_of(alloc: Global, text: &[u8], form: Span) -> Result<Vec<Span>, NoMemor
     }
 }
 
+/// Whether a text keeps its fault without all of some items.
+fn refuses_without_all(
+    alloc: Global,
+    judge: &Judge,
+    texts: &mut Texts,
+    text: &[u8],
+    items: &[Span],
+) -> Result<bool, NoMemory> {
+    let (Some(first), Some(last)) = (items.first(), items.last()) else {
+        return Ok(true);
+    };
+    let all = Span::new(first.start, last.end);
+    let tried = taken_out(alloc, text, all)?;
+    judge.refuses(alloc, texts, &tried)
+}
+
 /// The part of a malformed form that is at fault; the form where there is none.
 pub fn odd_part(
     alloc: Global,
@@ -114,6 +120,9 @@ pub fn odd_part(
     form: Span,
 ) -> Result<Span, NoMemory> {
     let items = parts_of(alloc, text, form)?;
+    if refuses_without_all(alloc, judge, texts, text, &items)? {
+        return Ok(form);
+    }
     first_odd(alloc, judge, texts, text, &items, form)
 }
 
@@ -131,13 +140,7 @@ fn binds_up_to(
         .len()
         .saturating_add(bindings.end)
         .saturating_sub(event.len());
-    let part = cut(
-        &tried,
-        Span {
-            start: bindings.start,
-            end: taken,
-        },
-    );
+    let part = cut(&tried, Span::new(bindings.start, taken));
     Ok(bindings_of_text(alloc, texts, part)?.is_some())
 }
 
@@ -174,17 +177,11 @@ fn add_words(text: &[u8], span: Span, words: &mut Vec<Span>) -> Result<(), NoMem
     let mut end = span.start;
     for offset in span.start..span.end {
         if end <= offset && words.len() < MOST_ITEMS {
-            let rest = Span {
-                start: offset,
-                end: span.end,
-            };
+            let rest = Span::new(offset, span.end);
             let word = token(text, rest);
             end = offset.saturating_add(word.len()).saturating_add(1);
             if may_be_variable(word) && !contains(text, words, word) {
-                words.push(Span {
-                    start: offset,
-                    end: offset.saturating_add(word.len()),
-                })?;
+                words.push(Span::new(offset, offset.saturating_add(word.len())))?;
             }
         }
     }
@@ -210,13 +207,7 @@ fn all_bound_but(
     number: usize,
 ) -> Result<Vec<u8>, NoMemory> {
     let mut text = Report::new(alloc);
-    text.text(cut(
-        event,
-        Span {
-            start: 0,
-            end: bindings.start,
-        },
-    ));
+    text.text(cut(event, Span::new(0, bindings.start)));
     text.say("'(");
     for (i, word) in words.iter().enumerate() {
         if i != number {
@@ -228,13 +219,7 @@ fn all_bound_but(
         }
     }
     text.say(") ");
-    text.text(cut(
-        event,
-        Span {
-            start: bindings.end,
-            end: event.len(),
-        },
-    ));
+    text.text(cut(event, Span::new(bindings.end, event.len())));
     text.into_bytes()
 }
 

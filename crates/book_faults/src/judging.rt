@@ -5,7 +5,7 @@ use crate::edited::Edited;
 use crate::fault_parts::{AtFault, at_fault, element_of};
 use crate::found::{Cause, Found};
 use crate::mending::mend;
-use crate::span::{Span, byte_at, cut, is_word, whole, without_package};
+use crate::span::{Span, byte_at, cut, is_word, token, whole, without_package};
 use book_state::State;
 use event_world::EventFault;
 use explain_findings::{FormFault, is_among};
@@ -23,32 +23,53 @@ pub(crate) struct Seen {
     pub start: usize,
 }
 
-/// What is asked of the faults of a form: where it stands, the state in front of it, names of which nothing is known, and whether a function that is not
-/// known may be one of a book that is not looked at.
+/// What is asked of the faults of a form: where it stands, the state in front of it, names of which nothing is known, those of them that
+/// name macros, and whether a function that is not known may be one of a book that is not looked at.
 #[derive(Clone, Copy)]
 pub(crate) struct Court<'a> {
     pub seen: Seen,
     pub state: &'a State,
     pub unknown: &'a [Vec<u8>],
+    pub macros: &'a [Vec<u8>],
     pub is_partial: bool,
 }
 
-/// Whether a word is among these.
+/// Whether a word is among these, or begins with one that ends with `-`.
 fn has_word(words: &[Vec<u8>], word: &[u8]) -> bool {
     for other in words {
-        if is_word(other.as_slice(), word) {
+        let other = other.as_slice();
+        let front = cut(word, Span::new(0, other.len()));
+        if is_word(other, word) || other.ends_with(b"-") && is_word(other, front) {
             return true;
         }
     }
     false
 }
 
-/// What was mended in a form before: how many parts; whether one of them may be what a recursion ends by; and whether bindings.
+/// What was mended in a form before: how many parts; whether one of them may be what a recursion ends by; whether bindings; and
+/// whether a `b*`, whose variables may be fields of another.
 #[derive(Clone, Copy)]
 struct Before {
     count: u64,
     is_deep: bool,
     is_bound: bool,
+    has_fields: bool,
+}
+
+/// Whether a word such as `x.field` stands in a text.
+fn has_field(text: &[u8]) -> bool {
+    for (i, byte) in text.iter().enumerate() {
+        let is_front = may_be_letter(byte_at(text, i.saturating_sub(1)));
+        if 0 < i && *byte == b'.' && is_front && may_be_letter(byte_at(text, i.saturating_add(1))) {
+            return true;
+        }
+    }
+    false
+}
+
+/// Whether a byte may be in a name: a letter, a digit, or one of those that join words.
+fn may_be_letter(byte: u8) -> bool {
+    byte.is_ascii_alphanumeric() || byte == b'-' || byte == b'>' || byte == b'*'
 }
 
 /// Words of ACL2 by which no recursion ends: what stands for them has the same tests and calls.
@@ -69,6 +90,10 @@ impl Before {
             count: self.count.saturating_add(1),
             is_deep: self.is_deep || !is_shallow,
             is_bound: self.is_bound || fault == EventFault::BadBindings && !has_name(text, at.part),
+            has_fields: self.has_fields
+                || is_head
+                    && is_word(without_package(cut(text, at.part)), b"b*")
+                    && has_field(text),
         }
     }
 }
@@ -79,12 +104,21 @@ fn only_follows(court: Court, text: &[u8], fault: EventFault, at: AtFault, befor
         EventFault::Term(TermFault::UnknownFunction) => {
             court.is_partial || has_word(court.unknown, without_package(cut(text, at.part)))
         }
-        EventFault::UnknownEvent | EventFault::Term(TermFault::UnboundVariable) => {
-            has_word(court.unknown, without_package(cut(text, at.part)))
+        EventFault::UnknownEvent => has_word(court.unknown, without_package(cut(text, at.part))),
+        EventFault::Term(TermFault::UnboundVariable) => {
+            let word = cut(text, at.part);
+            before.has_fields && word.contains(&b'.')
+                || has_word(court.unknown, without_package(word))
         }
         EventFault::NotAdmitted(_) => before.is_deep,
         EventFault::BadCases => before.is_bound,
-        EventFault::BadBindings => before.is_bound && at.part == at.around,
+        EventFault::BadBindings => {
+            (before.is_bound || before.has_fields) && at.part == at.around
+        }
+        EventFault::Term(TermFault::WrongCount) => {
+            let head = Span::new(at.part.start.saturating_add(1), at.part.end);
+            has_word(court.unknown, token(text, head))
+        }
         _ => false,
     }
 }
@@ -100,10 +134,10 @@ fn found_in(
     let at_first = edited.at_first(at.part);
     Ok(Found {
         file: seen.file,
-        span: Span {
-            start: at_first.start.saturating_add(seen.start),
-            end: at_first.end.saturating_add(seen.start),
-        },
+        span: Span::new(
+            at_first.start.saturating_add(seen.start),
+            at_first.end.saturating_add(seen.start),
+        ),
         cause: Cause::Form(fault),
         event: edited.text.to_vec(alloc)?,
         part: at.part,
@@ -144,7 +178,8 @@ fn next_fault(
     }
     let count = before.count;
     *before = before.and(&edited.text, fault, at);
-    if !mend(alloc, &judge, edited, at, count)? {
+    let is_macro = has_word(court.macros, without_package(cut(&edited.text, at.part)));
+    if !mend(alloc, &judge, edited, at, count, is_macro)? {
         return Ok(None);
     }
     fault_of(alloc, &judge, texts, &edited.text)
@@ -172,6 +207,7 @@ pub(crate) fn faults_of(
         count: 0,
         is_deep: false,
         is_bound: false,
+        has_fields: false,
     };
     for _ in 0..MOST_IN_FORM {
         match next_fault(alloc, texts, court, edited, &mut found, fault, &mut before)? {

@@ -5,7 +5,7 @@
 //!
 //! - `past`: a text read past its faults, with the bytes at fault overwritten; `edited`, the text of a form with parts replaced;
 //! - where a fault stands: `span`, `form_elements`, `terms`, `blame`, `items`, `fault_parts`;
-//! - `judging`, all faults of one form: at each it is mended, so that the next one is found, `mending`, by `binders` of ACL2's `b*` and `mv-let`;
+//! - `judging`, all faults of one form: at each it is mended, so that the next one is found, `mending`, by `binders` of ACL2's `b*` and `mv-let`, and `defines` of its `define`;
 //! - what a refused event leaves behind: `stubs`, and `hanging`, what uses one of them; `includes`, the books that are included;
 //! - `survey`, the walk over all texts, which tells what it has `found`, one form after the other; `told`, how many of them are told.
 //!
@@ -14,6 +14,7 @@
 
 mod binders;
 mod blame;
+mod defines;
 mod edited;
 mod fault_parts;
 mod form_elements;

@@ -3,6 +3,7 @@
 
 use crate::binders::{open_b_star, open_mv_let};
 use crate::blame::Judge;
+use crate::defines::{open_define, open_made};
 use crate::edited::Edited;
 use crate::fault_parts::AtFault;
 use crate::form_elements::{elements, form_alone};
@@ -18,7 +19,7 @@ use std::alloc::Global;
 
 /// Heads whose operands are no terms.
 const BINDERS: &str =
-    "case-match loop$ do$ flet macrolet pattern-match er-let* stobj-let labels lambda declare seq define local";
+    "case-match loop$ do$ flet macrolet pattern-match er er-let* stobj-let labels lambda declare seq define local auto-bindings";
 
 /// Heads whose operands stand for something else than values.
 const SPECIAL: &str = "the quote let let* cond case mbe";
@@ -32,28 +33,15 @@ const FIRST_INDEX: u64 = 990_000;
 /// The word with which a list begins, alone.
 fn head_word(text: &[u8], term: Span) -> Span {
     let mut start = term.start.saturating_add(1);
-    let rest = Span {
-        start,
-        end: term.end,
-    };
+    let rest = Span::new(start, term.end);
     for byte in cut(text, rest) {
         if *byte > 32 {
             break;
         }
         start = start.saturating_add(1);
     }
-    let count = token(
-        text,
-        Span {
-            start,
-            end: text.len(),
-        },
-    )
-    .len();
-    Span {
-        start,
-        end: start.saturating_add(count),
-    }
+    let count = token(text, Span::new(start, text.len())).len();
+    Span::new(start, start.saturating_add(count))
 }
 
 /// Lets a call be one of the macro `list`, which takes whatever stands there.
@@ -73,8 +61,13 @@ fn put_nil(alloc: Global, edited: &mut Edited, part: Span) -> Result<bool, NoMem
     Ok(true)
 }
 
-/// A call of a head that is no function.
-fn mend_head(alloc: Global, edited: &mut Edited, fault: AtFault) -> Result<bool, NoMemory> {
+/// A call of a head that is no function; of a macro, which is NIL whatever stands in it.
+fn mend_head(
+    alloc: Global,
+    edited: &mut Edited,
+    fault: AtFault,
+    is_macro: bool,
+) -> Result<bool, NoMemory> {
     if fault.around == whole(&edited.text) {
         return Ok(false);
     }
@@ -93,7 +86,11 @@ fn mend_head(alloc: Global, edited: &mut Edited, fault: AtFault) -> Result<bool,
         }
         return put_nil(alloc, edited, term);
     }
-    if is_among(word, BINDERS) {
+    if is_word(word, b"ecase") {
+        edited.replace(alloc, fault.part, b"case")?;
+        return Ok(true);
+    }
+    if is_macro || is_among(word, BINDERS) {
         return put_nil(alloc, edited, term);
     }
     call_list(alloc, edited, term)
@@ -188,7 +185,7 @@ fn mend_binding(
 fn same_event(word: &[u8]) -> &'static [u8] {
     if is_among(
         word,
-        "defund defun-inline defund-inline defun-nx defn defnd defun-notinline defabbrev",
+        "defund defun-inline defund-inline definline definlined defun-nx defn defnd defun-notinline defabbrev",
     ) {
         b"defun"
     } else if is_among(word, "def-gl-thmd def-gl-rule def-gl-ruled def-fgl-thm") {
@@ -202,7 +199,14 @@ fn same_event(word: &[u8]) -> &'static [u8] {
 
 /// An event under another name.
 fn mend_event(alloc: Global, edited: &mut Edited, fault: AtFault) -> Result<bool, NoMemory> {
-    let word = same_event(without_package(cut(&edited.text, fault.part)));
+    let word = without_package(cut(&edited.text, fault.part));
+    if is_word(word, b"define") {
+        return open_define(alloc, edited);
+    }
+    if is_word(word, b"make-event") {
+        return open_made(alloc, edited);
+    }
+    let word = same_event(word);
     if word.is_empty() {
         return Ok(false);
     }
@@ -235,16 +239,18 @@ fn mend_option(alloc: Global, edited: &mut Edited, part: Span) -> Result<bool, N
     Ok(true)
 }
 
-/// Mends a form at its fault, which is the one of this number in it. Whether the form is to be looked at once more.
+/// Mends a form at its fault, which is the one of this number in it, and may be a call of a macro that is not known. Whether the
+/// form is to be looked at once more.
 pub(crate) fn mend(
     alloc: Global,
     judge: &Judge,
     edited: &mut Edited,
     fault: AtFault,
     number: u64,
+    is_macro: bool,
 ) -> Result<bool, NoMemory> {
     match judge.fault {
-        EventFault::Term(TermFault::UnknownFunction) => mend_head(alloc, edited, fault),
+        EventFault::Term(TermFault::UnknownFunction) => mend_head(alloc, edited, fault, is_macro),
         EventFault::Term(TermFault::WrongCount) => mend_count(alloc, edited, fault.part),
         EventFault::Term(TermFault::UnboundVariable) => put_nil(alloc, edited, fault.part),
         EventFault::Term(TermFault::BadUse) => mend_malformed(alloc, edited, fault),

@@ -4,6 +4,7 @@
 use crate::form_elements::{behind_forms, offset_of, offsets_of_forms};
 use crate::span::{Span, byte_at, cut};
 use gl_logic::{NoMemory, Texts};
+use memchr::memmem::find;
 use sexp_reader::{End, ReadCode, forms};
 use std::alloc::Global;
 
@@ -52,7 +53,7 @@ fn first_fault(alloc: Global, text: &[u8]) -> Result<Option<TextFault>, NoMemory
             Ok(Some(TextFault {
                 at,
                 code,
-                patch: Span { start: at, end: at },
+                patch: Span::new(at, at),
             }))
         }
     }
@@ -74,20 +75,14 @@ fn word_around(text: &[u8], at: usize) -> Span {
         }
     }
     let mut end = at;
-    let rest = Span {
-        start: at,
-        end: text.len(),
-    };
+    let rest = Span::new(at, text.len());
     for byte in cut(text, rest) {
         if !is_of_word(*byte) {
             break;
         }
         end = end.saturating_add(1);
     }
-    Span {
-        start,
-        end: end.max(at.saturating_add(1)).min(text.len()),
-    }
+    Span::new(start, end.max(at.saturating_add(1)).min(text.len()))
 }
 
 /// A text whose part begins with these bytes and is blank behind them, with each end of a line kept.
@@ -109,10 +104,7 @@ fn overwritten(alloc: Global, text: &[u8], part: Span, front: &[u8]) -> Result<V
 
 /// Where the next line begins with a parenthesis, behind an offset; the text's end where none does.
 fn next_open_line(text: &[u8], behind: usize) -> usize {
-    let rest = Span {
-        start: behind,
-        end: text.len(),
-    };
+    let rest = Span::new(behind, text.len());
     let mut is_first = false;
     for (i, byte) in cut(text, rest).iter().enumerate() {
         if is_first && *byte == b'(' {
@@ -140,10 +132,7 @@ fn whole_form(alloc: Global, text: &[u8], fault: TextFault) -> Result<Patch, NoM
         fault.at
     };
     Ok(Patch {
-        part: Span {
-            start: start.min(fault.at),
-            end: next_open_line(text, behind),
-        },
+        part: Span::new(start.min(fault.at), next_open_line(text, behind)),
         front: b"",
         is_form: true,
     })
@@ -151,18 +140,36 @@ fn whole_form(alloc: Global, text: &[u8], fault: TextFault) -> Result<Patch, NoM
 
 fn one_byte(at: usize) -> Patch {
     Patch {
-        part: Span {
-            start: at,
-            end: at.saturating_add(1),
-        },
+        part: Span::new(at, at.saturating_add(1)),
         front: b"",
         is_form: false,
     }
 }
 
-/// The word at a fault, in whose place an integer stands, or nothing for what chooses between systems.
+/// What stands in front of a word and is left out alone: the package of another one, and `#.`.
+fn prefix_of(text: &[u8], word: Span) -> Option<Span> {
+    let bytes = cut(text, word);
+    if bytes.starts_with(b"#.") {
+        return Some(Span::new(word.start, word.start.saturating_add(2)));
+    }
+    let end = find(bytes, b"::")?.saturating_add(2);
+    if end < bytes.len() {
+        Some(Span::new(word.start, word.start.saturating_add(end)))
+    } else {
+        None
+    }
+}
+
+/// The word at a fault, in whose place an integer stands, or nothing for what chooses between systems; or what stands in front of it.
 fn one_word(text: &[u8], at: usize) -> Patch {
     let part = word_around(text, at);
+    if let Some(part) = prefix_of(text, part) {
+        return Patch {
+            part,
+            front: b"",
+            is_form: false,
+        };
+    }
     let second = byte_at(text, part.start.saturating_add(1));
     let is_choice = byte_at(text, part.start) == b'#' && (second == b'+' || second == b'-');
     let is_head = 0 < part.start && byte_at(text, part.start.saturating_sub(1)) == b'(';
@@ -236,7 +243,7 @@ fn entries_of(alloc: Global, text: &[u8], faults: &[TextFault]) -> Result<Vec<En
             Some(next) => *next,
             None => text.len(),
         };
-        let span = Span { start: *start, end };
+        let span = Span::new(*start, end);
         entries.push(Entry {
             span,
             is_torn: is_torn(faults, span),

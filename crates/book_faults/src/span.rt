@@ -1,5 +1,9 @@
 //! Parts of a text.
 
+ghost use Rattle.std.specs.Prelude.{◌≡◌};
+
+use memchr::{memchr, memchr_iter, memrchr};
+
 /// A part of a text, by the offset of its first byte and the one behind its last.
 #[derive(Clone, Copy, Debug, PartialEq, Eq)]
 pub struct Span {
@@ -7,12 +11,18 @@ pub struct Span {
     pub end: usize,
 }
 
+impl Span {
+    /// The part from an offset up to another.
+    pub fn new(start: usize, end: usize) -> Span
+        ensures { (result.start ≡ start) × (result.end ≡ end) }
+    {
+        Span { start, end }
+    }
+}
+
 /// All of a text.
 pub fn whole(text: &[u8]) -> Span {
-    Span {
-        start: 0,
-        end: text.len(),
-    }
+    Span::new(0, text.len())
 }
 
 /// The bytes of a part, and none where the text has no such part.
@@ -48,7 +58,7 @@ pub fn token_len(text: &[u8]) -> usize {
 pub fn token(text: &[u8], span: Span) -> &[u8] {
     let bytes = cut(text, span);
     let end = token_len(bytes);
-    cut(bytes, Span { start: 0, end })
+    cut(bytes, Span::new(0, end))
 }
 
 /// Whether two words differ in case alone.
@@ -59,10 +69,10 @@ pub fn is_word(word: &[u8], other: &[u8]) -> bool {
 /// A name without the prefix of a package that is dropped.
 pub fn without_package(word: &[u8]) -> &[u8] {
     let end = word.len();
-    if is_word(cut(word, Span { start: 0, end: 6 }), b"acl2::") {
-        cut(word, Span { start: 6, end })
-    } else if is_word(cut(word, Span { start: 0, end: 4 }), b"gl::") {
-        cut(word, Span { start: 4, end })
+    if is_word(cut(word, Span::new(0, 6)), b"acl2::") {
+        cut(word, Span::new(6, end))
+    } else if is_word(cut(word, Span::new(0, 4)), b"gl::") {
+        cut(word, Span::new(4, end))
     } else {
         word
     }
@@ -70,56 +80,24 @@ pub fn without_package(word: &[u8]) -> &[u8] {
 
 /// The number of the line in which an offset stands, from 1.
 pub fn line_of(text: &[u8], offset: usize) -> u64 {
-    let mut line: u64 = 1;
-    for byte in cut(
-        text,
-        Span {
-            start: 0,
-            end: offset,
-        },
-    ) {
-        if *byte == b'\n' {
-            line = line.saturating_add(1);
-        }
-    }
-    line
+    let before = memchr_iter(b'\n', cut(text, Span::new(0, offset))).count() as u64;
+    before.saturating_add(1)
 }
 
 /// Where the line of an offset begins.
 pub fn line_start(text: &[u8], offset: usize) -> usize {
-    let mut start = 0;
-    for (i, byte) in cut(
-        text,
-        Span {
-            start: 0,
-            end: offset,
-        },
-    )
-    .iter()
-    .enumerate()
-    {
-        if *byte == b'\n' {
-            start = i.saturating_add(1);
-        }
+    match memrchr(b'\n', cut(text, Span::new(0, offset))) {
+        Some(end) => end.saturating_add(1),
+        None => 0,
     }
-    start
 }
 
 /// Where the line of an offset ends.
 pub fn line_end(text: &[u8], offset: usize) -> usize {
-    let rest = cut(
-        text,
-        Span {
-            start: offset,
-            end: text.len(),
-        },
-    );
-    for (i, byte) in rest.iter().enumerate() {
-        if *byte == b'\n' {
-            return offset.saturating_add(i);
-        }
+    match memchr(b'\n', cut(text, Span::new(offset, text.len()))) {
+        Some(length) => offset.saturating_add(length),
+        None => text.len(),
     }
-    text.len()
 }
 
 /// The column of an offset in its line, in bytes from 1.

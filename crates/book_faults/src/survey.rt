@@ -4,19 +4,20 @@ ghost use Rattle.std.specs.Prelude.{◌≡◌, []};
 ghost use Rattle.gl_logic.specs.Names.{with_name};
 
 use crate::edited::Edited;
-use crate::form_elements::form_alone;
+use crate::form_elements::{elements, form_alone};
 use crate::found::{Cause, Found, Step, Unjudged};
 use crate::hanging::Hanging;
 use crate::includes::included;
 use crate::judging::{Court, Seen, faults_of};
 use crate::past::{Entry, Past, read_past};
-use crate::span::{Span, cut, whole};
+use crate::span::{Span, cut, token, whole};
 use crate::stubs::{Stub, inner_events, stubs_of};
 use book_state::State;
 use event_world::EventFault;
 use explain_findings::{FormFault, head_of, is_among, take_form};
 use gl_base::limits::Limits;
 use gl_logic::{NoMemory, TextId, Texts, Tree, TreeKind};
+use memchr::memmem::find;
 use sexp_reader::{Form, forms};
 use std::alloc::Global;
 use std::thread::Threads;
@@ -54,8 +55,9 @@ pub struct Survey {
     texts: Vec<Vec<u8>>,
     open: Vec<Frame>,
     hanging: Hanging,
-    // names of which nothing is known
+    // names of which nothing is known, and those of them that name macros
     unknown: Vec<Vec<u8>>,
+    macros: Vec<Vec<u8>>,
     left: Option<Left>,
     // whether a book is included whose text is not looked at
     is_partial: bool,
@@ -137,6 +139,7 @@ impl Survey {
             open: Vec::new(alloc),
             hanging: Hanging::new(alloc),
             unknown: Vec::new(alloc),
+            macros: Vec::new(alloc),
             left: None,
             is_partial: false,
         }
@@ -174,10 +177,7 @@ impl Survey {
         let past = read_past(alloc, &text)?;
         let mut found = Vec::new(alloc);
         for fault in &past.faults {
-            let span = Span {
-                start: fault.at,
-                end: fault.at.saturating_add(1),
-            };
+            let span = Span::new(fault.at, fault.at.saturating_add(1));
             found.push(Found {
                 file,
                 span,
@@ -303,6 +303,10 @@ impl Survey {
                     let _taken = self.take_stub(rt, alloc, limits, texts, &text)?;
                 }
                 Stub::Name(name) => self.leave_name(alloc, texts, &name)?,
+                Stub::Macro(name) => {
+                    self.leave_name(alloc, texts, &name)?;
+                    self.macros.push(name)?;
+                }
             }
         }
         Ok(())
@@ -459,6 +463,14 @@ impl Survey {
         Ok(())
     }
 
+    /// Keeps the name of a form that is taken, or whose formals may be left out: what uses it may give other arguments.
+    fn keep_taken(&mut self, alloc: Global, event: &[u8]) -> Result<(), NoMemory> {
+        if let Some(name) = elements(alloc, event, whole(event))?.get(1) {
+            self.unknown.push(token(event, *name).to_vec(alloc)?)?;
+        }
+        Ok(())
+    }
+
     /// A form that is refused: all its faults, and what is left of it. Events inside of it come next.
     fn refuse(
         &mut self,
@@ -468,20 +480,24 @@ impl Survey {
         event: &mut Edited,
         fault: FormFault,
     ) -> Result<Step, NoMemory> {
+        if fault == FormFault::Event(EventFault::Redefined) || find(&event.text, b" &").is_some() {
+            self.keep_taken(alloc, &event.text)?;
+        }
         let inner = inner_events(alloc, &event.text, whole(&event.text))?;
         let court = Court {
             seen,
             state: &self.state,
             unknown: &self.unknown,
+            macros: &self.macros,
             is_partial: self.is_partial,
         };
         let found = faults_of(alloc, texts, court, event, fault)?;
         if let Some(frame) = self.open.last_mut() {
             for span in &inner {
-                frame.inner.push(Span {
-                    start: span.start.saturating_add(seen.start),
-                    end: span.end.saturating_add(seen.start),
-                })?;
+                frame.inner.push(Span::new(
+                    span.start.saturating_add(seen.start),
+                    span.end.saturating_add(seen.start),
+                ))?;
             }
         }
         self.left = Some(Left {

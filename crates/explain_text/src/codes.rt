@@ -74,7 +74,7 @@ fn words_of_text(code: ReadCode) -> Wording {
         ReadCode::BadByte => said(
             "S4",
             "a byte that cannot stand there",
-            "bars, backslashes, letters beyond ASCII and names of other packages (`bitops::f`) are not in the language",
+            "bars, backslashes, `,@`, letters beyond ASCII and names of other packages are not in the language",
         ),
         ReadCode::WideNumber => said(
             "S5",
@@ -89,7 +89,7 @@ fn words_of_text(code: ReadCode) -> Wording {
         ReadCode::BadHash => said(
             "S7",
             "a `#` that begins no character, no integer of base 2, 8 or 16 and no comment",
-            "write `#xff` for `#ux_ff`, the value for `#.*c*`, and nothing for `#+acl2`",
+            "write `#xff` for `#ux_ff`, nothing for `#+acl2`, and the term itself for `#.*c*`, `#.(f 8)` and `'#.*c*`; as a key of `case`, inside a quoted list or in a shape, its value",
         ),
         ReadCode::TooDeep => said(
             "S8",
@@ -112,11 +112,7 @@ fn words_of_term(fault: TermFault) -> Wording {
             "is no macro, no primitive and no definition here",
             "a function of your own is defined in front of its use; two that call each other go into one `mutual-recursion`",
         ),
-        TermFault::WrongCount => said(
-            "V5",
-            "takes another number of arguments",
-            "`(- a b c)` and `(< a b c)` are no forms here, as in ACL2",
-        ),
+        TermFault::WrongCount => said("V5", "takes another number of arguments", ""),
         TermFault::UnboundVariable => said(
             "V6",
             "is no constant, and no variable in scope",
@@ -168,7 +164,7 @@ fn words_of_event(fault: EventFault) -> Wording {
         EventFault::BadOption => said(
             "V11",
             "is an option, a keyword or a declaration that there is not, one given twice, or one with another value",
-            "leave out what is not among these: a theorem has `:hyp`, `:concl`, `:g-bindings`, `:hyp-clk` and `:concl-clk`; `xargs` has `:measure`, which is `(acl2-count v)`, `(len v)`, `(nfix v)`, `(nfix (- b a))` or `(make-ord 1 (+ 1 m) n)` of two of these",
+            "leave out what is not among these: a theorem has `:hyp`, `:concl`, `:g-bindings`, `:hyp-clk` and `:concl-clk`, and one by cases `:param-hyp`, `:param-bindings` and `:cov-bindings` in place of `:g-bindings`; `xargs` has `:measure`, which is `(acl2-count v)`, `(len v)`, `(nfix v)`, `(nfix (- b a))` or `(make-ord 1 (+ 1 m) n)` of two of these",
         ),
         EventFault::BadCases => said(
             "V13",

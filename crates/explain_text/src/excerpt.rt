@@ -31,10 +31,7 @@ fn window_of(text: &[u8], span: Span) -> Window {
     Window {
         from,
         to,
-        marked: Span {
-            start: span.start,
-            end: last.max(span.start.saturating_add(1)),
-        },
+        marked: Span::new(span.start, last.max(span.start.saturating_add(1))),
     }
 }
 
@@ -85,28 +82,13 @@ pub(crate) fn put_excerpt(report: &mut Report, text: &[u8], span: Span) {
     report.say(" |\n ");
     report.number(line);
     report.say(" | ");
-    put_shown(
-        report,
-        cut(
-            text,
-            Span {
-                start: window.from,
-                end: window.to,
-            },
-        ),
-    );
+    put_shown(report, cut(text, Span::new(window.from, window.to)));
     report.say("\n");
     report.times(width, b' ');
     report.say(" | ");
     put_blanks(
         report,
-        cut(
-            text,
-            Span {
-                start: window.from,
-                end: window.marked.start,
-            },
-        ),
+        cut(text, Span::new(window.from, window.marked.start)),
     );
     report.times(window.marked.end.saturating_sub(window.marked.start), b'^');
     report.say("\n");
@@ -118,16 +100,7 @@ pub(crate) fn put_part(report: &mut Report, text: &[u8], span: Span, most: usize
     if part.len() <= most {
         return put_shown(report, part);
     }
-    put_shown(
-        report,
-        cut(
-            part,
-            Span {
-                start: 0,
-                end: most,
-            },
-        ),
-    );
+    put_shown(report, cut(part, Span::new(0, most)));
     report.say("..");
 }
 

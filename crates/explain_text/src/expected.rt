@@ -43,12 +43,16 @@ pub(crate) fn put_expected(
     event: &[u8],
     around: Span,
 ) -> Result<(), NoMemory> {
+    if has_bytes(event, around, b"g-int ") || has_bytes(event, around, b"g-boolean ") {
+        put_note(
+            report,
+            "bindings are no value: write them out behind each `:g-bindings`, in the place of this definition",
+        );
+        return Ok(());
+    }
     let first = cut(
         event,
-        Span {
-            start: around.start,
-            end: around.start.saturating_add(1),
-        },
+        Span::new(around.start, around.start.saturating_add(1)),
     );
     if first == b"`".as_slice() || first == b",".as_slice() {
         put_note(
@@ -71,13 +75,7 @@ fn has_bytes(text: &[u8], part: Span, wanted: &[u8]) -> bool {
     for _ in part.start..part.end {
         match rest {
             [_, behind @ ..] => {
-                let front = cut(
-                    rest,
-                    Span {
-                        start: 0,
-                        end: wanted.len(),
-                    },
-                );
+                let front = cut(rest, Span::new(0, wanted.len()));
                 if is_word(front, wanted) {
                     return true;
                 }
@@ -103,11 +101,30 @@ pub(crate) fn put_expected_shape(
     ) {
         put_note(
             report,
-            "an item is `(:nat x n)`, `(:int x n)`, `(:boolean x)`, or `(:seq item ..)` or `(:mix item ..)` of such; the items of one `:mix` have equally many bits, where `(:nat x n)` has n + 1",
+            "an item is `(:nat x n)`, `(:int x n)` with a number n written out, `(:boolean x)`, or `(:seq item ..)` or `(:mix item ..)` of such; the items of one `:mix` have equally many bits, where `(:nat x n)` has n + 1; for a list or a choice all bindings are written out behind a backquote, as `((i ,(g-int 0 1 3)) (l (,(g-int 3 1 8) ,(g-int 11 1 8))))`",
         );
         return Ok(());
     }
-    if has_bytes(event, part, b",(list") || has_bytes(event, part, b",(cons") {
+    if has_bytes(event, part, b"auto-bindings") {
+        put_note(
+            report,
+            "the bindings of a case are written out, as `((req ,(g-int 0 1 9)) (b (:g-boolean . 9)))`: `(:nat x n)` of `auto-bindings` is a `g-int` of n + 1 bits, and no index stands twice",
+        );
+        return Ok(());
+    }
+    if has_bytes(event, part, b"g-ite") || has_bytes(event, part, b"enum") {
+        put_note(
+            report,
+            "a choice is written out, as `(k (:g-ite (:g-boolean . 17) :a . (:g-ite (:g-boolean . 18) :b . :c)))`, where indices 17 and 18 choose, and no index stands twice",
+        );
+        return Ok(());
+    }
+    if has_bytes(event, part, b",(gl-int") || has_bytes(event, part, b",(g-bool ") {
+        put_note(
+            report,
+            "the words are `g-int`, as in `,(g-int start by n)`, and `g-boolean`, as in `,(g-boolean i)`",
+        );
+    } else if has_bytes(event, part, b",(list") || has_bytes(event, part, b",(cons") {
         put_note(
             report,
             "behind a comma stands one `(g-int start by n)` or `(g-boolean i)`; a list of shapes is `(x (,(g-int 0 1 8) ,(g-int 8 1 8)))`",
@@ -167,8 +184,15 @@ fn put_measure_form(report: &mut Report, event: &[u8], measure: Span) {
     report.say("   = note: ");
     put_part(report, event, measure, MOST_NAMED);
     report.say(
-        " is no measure: it is of one formal, `(acl2-count v)`, `(len v)`, `(nfix v)`, or `(nfix (- b a))` of two; where b is a constant, make it a formal, and end by `(zp (- b a))`\n",
+        " is no measure: it is of one formal, `(acl2-count v)`, `(len v)`, `(nfix v)`, or `(nfix (- b a))` of two; where b is a constant, make it a formal, end by `(zp (- b a))`, and step by `(+ 1 a)`\n",
     );
+}
+
+/// Puts that an option is not taken.
+fn put_no_option(report: &mut Report, word: &[u8]) {
+    report.say("   = note: `");
+    report.text(word);
+    report.say("` is no option here: leave it out with what stands behind it\n");
 }
 
 /// Puts which options of one `xargs` are not taken, and which measure.
@@ -182,9 +206,7 @@ fn put_odd_xargs(
     for (i, part) in parts.iter().enumerate() {
         let word = token(event, *part);
         if i % 2 == 1 && !is_among(word, OPTIONS) {
-            report.say("   = note: `");
-            report.text(word);
-            report.say("` is no option here: leave it out with what stands behind it\n");
+            put_no_option(report, word);
         } else if i % 2 == 1 && is_word(word, b":measure") {
             let measure = element_of(alloc, event, list, i.saturating_add(1))?;
             if !may_be_measure(alloc, event, measure)? {
@@ -217,6 +239,9 @@ pub(crate) fn put_odd_options(
     event: &[u8],
     part: Span,
 ) -> Result<(), NoMemory> {
+    if cut(event, part).starts_with(b":") {
+        put_no_option(report, token(event, part));
+    }
     for list in &elements(alloc, event, part)? {
         let inner = elements(alloc, event, *list)?;
         if is_word(head_of(event, &inner), b"xargs") {

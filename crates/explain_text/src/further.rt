@@ -1,7 +1,7 @@
 //! The faults behind the one at which a run stops.
 
 use crate::codes::{Fault, words_of};
-use crate::known::{granted_by, includes_book, instead_of_term};
+use crate::known::{granted_by, instead_of_term, is_plain};
 use crate::message::{Refusal, Said};
 use crate::naming::NamingShelf;
 use crate::refusal::{Mark, explain_span, put_constant_fault, put_form_fault, put_open};
@@ -55,7 +55,8 @@ impl Rest {
         };
         if is_first {
             self.first = None;
-            self.telling.name_first(key_of(alloc, found)?, found.file);
+            self.telling
+                .name_first(key_of(alloc, survey, found)?, found.file)?;
         }
         Ok(is_first)
     }
@@ -138,16 +139,15 @@ fn said_of(
             put_form_fault(alloc, &mut report, &refusal, &judge, texts, mark)?;
         }
     }
-    if !is_include(found) {
+    if !has_own_help(found) {
         telling.put_help_once(&mut report, fault)?;
     }
     Said::of(report)
 }
 
-/// Whether a fault is that of a form that includes a book.
-fn is_include(found: &Found) -> bool {
-    found.cause == Cause::Form(FormFault::Event(EventFault::BadEvent))
-        && includes_book(&found.event)
+/// Whether a fault is that of a form whose help says all.
+fn has_own_help(found: &Found) -> bool {
+    found.cause == Cause::Form(FormFault::Event(EventFault::BadEvent)) && is_plain(&found.event)
 }
 
 /// Tells a fault, or puts its place with the cause that it shares.
@@ -171,7 +171,8 @@ fn tell_one(
     } else {
         Said::of(Report::new(alloc))?
     };
-    rest.telling.tell(key_of(alloc, found)?, found.file, said)
+    rest.telling
+        .tell(key_of(alloc, survey, found)?, found.file, said)
 }
 
 /// Opens a text that the run has read, and goes on with it.

@@ -251,6 +251,97 @@ fn put_row_of(
     Ok(true)
 }
 
+/// Whether a call stands inside a `let` of an event.
+fn is_in_let(alloc: Global, text: &[u8], call: Span) -> Result<bool, NoMemory> {
+    let mut around = whole(text);
+    for _ in 0..MOST_DEEP {
+        if call.start <= around.start {
+            return Ok(false);
+        }
+        let parts = elements(alloc, text, around)?;
+        if is_among(head_of(text, &parts), "let let*") {
+            return Ok(true);
+        }
+        let Some(number) = number_around(&parts, call.start) else {
+            return Ok(false);
+        };
+        if let Some(part) = parts.get(number) {
+            around = *part;
+        }
+    }
+    Ok(false)
+}
+
+/// Whether a word is among the formals of a definition.
+fn is_formal(alloc: Global, text: &[u8], definition: Span, word: &[u8]) -> Result<bool, NoMemory> {
+    let parts = elements(alloc, text, definition)?;
+    let Some(formals) = parts.get(2) else {
+        return Ok(false);
+    };
+    for formal in &elements(alloc, text, *formals)? {
+        if is_word(token(text, *formal), word) {
+            return Ok(true);
+        }
+    }
+    Ok(false)
+}
+
+/// The first formal of a definition that a `let` of these parts binds anew.
+fn bound_anew<'a>(
+    alloc: Global,
+    text: &'a [u8],
+    definition: Span,
+    parts: &[Span],
+) -> Result<&'a [u8], NoMemory> {
+    let Some(bindings) = parts.get(1) else {
+        return Ok(b"");
+    };
+    for binding in &elements(alloc, text, *bindings)? {
+        if let Some(name) = elements(alloc, text, *binding)?.first() {
+            let name = token(text, *name);
+            if is_formal(alloc, text, definition, name)? {
+                return Ok(name);
+            }
+        }
+    }
+    Ok(b"")
+}
+
+/// Puts which formal is bound anew around a call by a `let`, inside which a row of the table is none for it.
+fn put_bound_anew(
+    alloc: Global,
+    report: &mut Report,
+    text: &[u8],
+    definition: Span,
+    call: Span,
+) -> Result<(), NoMemory> {
+    let mut around = definition;
+    for _ in 0..MOST_DEEP {
+        if call.start <= around.start {
+            return Ok(());
+        }
+        let parts = elements(alloc, text, around)?;
+        if is_among(head_of(text, &parts), "let let*") {
+            let name = bound_anew(alloc, text, definition, &parts)?;
+            if !name.is_empty() {
+                report.say("   = note: `");
+                report.text(name);
+                report.say(
+                    "` is what a `let` around the call binds, and not the formal: let that bind another name, or leave the binding out\n",
+                );
+                return Ok(());
+            }
+        }
+        let Some(number) = number_around(&parts, call.start) else {
+            return Ok(());
+        };
+        if let Some(part) = parts.get(number) {
+            around = *part;
+        }
+    }
+    Ok(())
+}
+
 /// Puts the row of the table of steps that is nearest to a call.
 fn put_row(alloc: Global, report: &mut Report, text: &[u8], call: Span) -> Result<(), NoMemory> {
     for (i, part) in elements(alloc, text, call)?.iter().enumerate() {
@@ -258,9 +349,13 @@ fn put_row(alloc: Global, report: &mut Report, text: &[u8], call: Span) -> Resul
             return Ok(());
         }
     }
-    report.say(
-        "   = note: no argument is made smaller as a row of the table has it; what `let` binds is not looked up: write `(ash n -1)` itself in the call\n",
-    );
+    report.say("   = note: no argument is made smaller as a row of the table has it");
+    if is_in_let(alloc, text, call)? {
+        report.say(
+            "; what `let` binds is not looked up: write the term that it binds itself in the call, and let it bind no name of a formal",
+        );
+    }
+    report.say("\n");
     Ok(())
 }
 
@@ -288,5 +383,6 @@ pub(crate) fn put_call(
     let definition = definition_around(alloc, event, call.start)?;
     put_measure(alloc, report, event, &elements(alloc, event, definition)?)?;
     put_governing(alloc, report, event, call)?;
+    put_bound_anew(alloc, report, event, definition, call)?;
     put_row(alloc, report, event, call)
 }

@@ -74,7 +74,11 @@ fn at(text: &[u8], offset: usize) -> At {
 }
 
 /// What is told of a refusal to programs.
-fn told_of(alloc: Global, refusal: &Refusal, marked: Marked) -> Result<Told, NoMemory> {
+pub(crate) fn for_programs(
+    alloc: Global,
+    refusal: &Refusal,
+    marked: Marked,
+) -> Result<Told, NoMemory> {
     let mut title = Report::new(alloc);
     put_title(&mut title, refusal, marked);
     Told::new(
@@ -106,7 +110,7 @@ pub(crate) fn told_without_text(
 
 /// Puts the first lines of a message: place, code and words, and the excerpt.
 pub(crate) fn put_message(alloc: Global, report: &mut Report, refusal: &Refusal, marked: Marked) {
-    report.fault(told_of(alloc, refusal, marked));
+    report.fault(for_programs(alloc, refusal, marked));
     put_place(report, refusal.file, refusal.text, marked.span.start);
     report.say("error[");
     report.say(words_of(refusal.fault).code);

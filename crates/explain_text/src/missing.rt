@@ -1,7 +1,7 @@
 //! What an event lacks that has not its parts.
 
 use crate::expected::put_memoize_options;
-use crate::known::{entry_of, instead_of_book, string_in};
+use crate::known::{book_in, entry_of, instead_of_book, string_in};
 use book_faults::{Span, byte_at, elements, head_of, is_word, token, whole};
 use explain_report::Report;
 use gl_logic::NoMemory;
@@ -81,12 +81,18 @@ fn put_foreign_book(report: &mut Report, event: &[u8]) {
     let instead = match instead_of_book(name) {
         Some(instead) => instead,
         None =>
-            "leave out what stands behind the name, and name a book by its path from the current folder, as in (include-book \"books/lists\")",
+            "leave out what stands behind the name where it is a book of yours, which is named by its path from the current folder; else leave the form out",
     };
     report.say("   = help: `");
     report.text(name);
     report.say("` is a book of ACL2's; here: ");
-    report.say(instead);
+    match book_in(instead) {
+        Some(book) => {
+            report.say(book);
+            report.say(" in its place");
+        }
+        None => report.say(instead),
+    }
     report.say("; `port/gl_port` writes a whole book of ACL2's in the words of this language\n");
 }
 

@@ -1,13 +1,13 @@
 //! A refusal in words: its place, what is wrong there, the line with marks under the part at fault, and help.
 
-use crate::below::put_below;
+use crate::below::{put_below, put_constant_below};
 use crate::codes::{Fault, words_of};
 use crate::excerpt::{put_excerpt, put_part, put_place};
 use crate::expected::{put_expected, put_expected_shape, put_odd_options};
 use crate::governing::put_call;
 use crate::known::{
-    includes_book, instead_of_book, instead_of_event, instead_of_shape, instead_of_term,
-    nearest_function, string_in,
+    Nearest, includes_book, instead_of_book, instead_of_event, instead_of_shape, instead_of_term,
+    is_plain, nearest_constant, nearest_event, nearest_function, string_in,
 };
 use crate::message::{MOST_NAMED, Marked, Refusal, put_help, put_message};
 use crate::missing::put_missing;
@@ -18,7 +18,7 @@ use book_faults::{
 };
 use book_shelf::ShelfCode;
 use event_world::EventFault;
-use explain_findings::{FormFault, bindings_of_text};
+use explain_findings::{FormFault, bindings_of_text, is_among};
 use explain_report::Report;
 use gl_logic::{FnId, NoMemory, Texts, World};
 use gl_translate::TermFault;
@@ -37,24 +37,28 @@ pub(crate) struct Mark<'a> {
     pub around: Span,
 }
 
-/// What is wrong with a part: of bindings which of the two things it may be.
+/// What is wrong with a part of a form.
+pub(crate) fn title_of_part(fault: Fault, event: &[u8], part: Span, around: Span) -> &'static str {
+    match fault {
+        Fault::Form(FormFault::Event(EventFault::BadEvent))
+            if includes_book(event) && instead_of_book(string_in(event)).is_some() => {
+            "includes a book of ACL2's"
+        }
+        Fault::Form(FormFault::Event(EventFault::BadBindings)) if part != around => "is no binding",
+        _ => words_of(fault).title,
+    }
+}
+
+/// What is wrong with a part: of all bindings which of the two things it may be.
 fn title_of(
     alloc: Global,
     texts: &mut Texts,
     refusal: &Refusal,
     mark: Mark,
 ) -> Result<&'static str, NoMemory> {
-    let is_bad_event = refusal.fault == Fault::Form(FormFault::Event(EventFault::BadEvent));
-    if is_bad_event && includes_book(mark.event) {
-        if instead_of_book(string_in(mark.event)).is_some() {
-            return Ok("includes a book of ACL2's");
-        }
-    }
-    if refusal.fault != Fault::Form(FormFault::Event(EventFault::BadBindings)) {
-        return Ok(words_of(refusal.fault).title);
-    }
-    if mark.part != mark.around {
-        return Ok("is no binding");
+    let is_bindings = refusal.fault == Fault::Form(FormFault::Event(EventFault::BadBindings));
+    if !is_bindings || mark.part != mark.around {
+        return Ok(title_of_part(refusal.fault, mark.event, mark.part, mark.around));
     }
     if bindings_of_text(alloc, texts, cut(mark.event, mark.around))?.is_some() {
         Ok("are bindings that lack a variable of the theorem")
@@ -74,14 +78,7 @@ fn start_of(alloc: Global, refusal: &Refusal) -> Result<usize, NoMemory> {
 /// The form of a refusal.
 fn form_of(alloc: Global, refusal: &Refusal) -> Result<Span, NoMemory> {
     let start = start_of(alloc, refusal)?;
-    form_alone(
-        alloc,
-        refusal.text,
-        Span {
-            start,
-            end: refusal.text.len(),
-        },
-    )
+    form_alone(alloc, refusal.text, Span::new(start, refusal.text.len()))
 }
 
 /// Explains a fault of a text, or of the list of texts: the byte, or the form that includes a text.
@@ -95,10 +92,7 @@ pub(crate) fn explain_text_fault(
     let span = if is_form {
         form_of(alloc, refusal)?
     } else {
-        Span {
-            start,
-            end: start.saturating_add(1),
-        }
+        Span::new(start, start.saturating_add(1))
     };
     explain_span(alloc, report, refusal, span);
     if refusal.fault == Fault::Shelf(ShelfCode::Text(ReadCode::EndInside)) {
@@ -117,6 +111,45 @@ pub(crate) fn explain_span(alloc: Global, report: &mut Report, refusal: &Refusal
         title,
     };
     put_message(alloc, report, refusal, marked);
+    if refusal.fault == Fault::Shelf(ShelfCode::Text(ReadCode::BadByte)) {
+        put_byte(report, byte_at(refusal.text, span.start));
+        put_behind_package(report, word_behind(refusal.text, span.start));
+    }
+}
+
+/// The word behind the name of a package, of which the first colon stands at an offset; empty where that is none.
+pub(crate) fn word_behind(text: &[u8], at: usize) -> &[u8] {
+    let start = at.saturating_add(2);
+    if cut(text, Span::new(at, start)) == b"::".as_slice() {
+        token(text, Span::new(start, text.len()))
+    } else {
+        b""
+    }
+}
+
+/// Puts what stands here for a word of ACL2 that stands behind the name of a package.
+fn put_behind_package(report: &mut Report, word: &[u8]) {
+    if let Some(instead) = instead_of_event(word) {
+        put_instead(report, "event", instead);
+    } else if let Some(instead) = instead_of_term(word) {
+        put_instead(report, "word", instead);
+    }
+}
+
+/// Puts what a byte that cannot stand there is for in ACL2, and what stands here for it.
+fn put_byte(report: &mut Report, byte: u8) {
+    let note = match byte {
+        b':' => "for a name of another package, as `bitops::f`, write `f`",
+        b'@' =>
+            "`,@` is not in the language: behind a comma stands one shape, as `,(g-int 0 1 9)`; else write the elements out",
+        b',' => "a comma stands behind a backquote alone",
+        b'|' => "a name between bars is written without them, in the letters that names have",
+        b'\\' => "a backslash stands in a string or a character alone",
+        _ => return,
+    };
+    report.say("   = note: ");
+    report.say(note);
+    report.say("\n");
 }
 
 /// Explains a constant without a value, at a part of a text.
@@ -149,19 +182,13 @@ pub(crate) fn put_open(report: &mut Report, refusal: &Refusal, start: usize) {
     put_excerpt(
         report,
         refusal.text,
-        Span {
-            start,
-            end: start.saturating_add(1),
-        },
+        Span::new(start, start.saturating_add(1)),
     );
 }
 
 /// A part moved by an offset.
 fn moved(span: Span, by: usize) -> Span {
-    Span {
-        start: span.start.saturating_add(by),
-        end: span.end.saturating_add(by),
-    }
+    Span::new(span.start.saturating_add(by), span.end.saturating_add(by))
 }
 
 /// The name of the function that an event defines; empty where it defines none.
@@ -187,11 +214,39 @@ fn put_function_help(
         put_instead(report, "word", instead);
         return Ok(());
     }
-    let nearest = nearest_function(alloc, word, own, world, texts)?;
-    if !nearest.name.is_empty() {
-        report.say("   = help: a function of a near name is `");
-        report.text(&nearest.name);
-        report.say("`\n");
+    put_near(
+        report,
+        "a function",
+        &nearest_function(alloc, word, own, world, texts)?,
+    );
+    Ok(())
+}
+
+/// Puts the nearest name, where there is one.
+fn put_near(report: &mut Report, what: &str, nearest: &Nearest) {
+    if nearest.name.is_empty() {
+        return;
+    }
+    report.say("   = help: ");
+    report.say(what);
+    report.say(" of a near name is `");
+    report.text(&nearest.name);
+    report.say("`\n");
+}
+
+/// Puts what may be meant by a constant that there is not: the one that is defined below, or one of a near name.
+fn put_constant_help(
+    alloc: Global,
+    report: &mut Report,
+    text: &[u8],
+    span: Span,
+) -> Result<(), NoMemory> {
+    if !put_constant_below(report, text, span) {
+        put_near(
+            report,
+            "a constant",
+            &nearest_constant(alloc, cut(text, span), text)?,
+        );
     }
     Ok(())
 }
@@ -205,11 +260,14 @@ fn put_instead(report: &mut Report, what: &str, instead: &str) {
     report.say("\n");
 }
 
-/// Puts what stands here for an event of ACL2.
-fn put_event_help(report: &mut Report, word: &[u8]) {
-    if let Some(instead) = instead_of_event(without_package(word)) {
-        put_instead(report, "event", instead);
+/// Puts what stands here for an event of ACL2, or an event of a near name.
+fn put_event_help(alloc: Global, report: &mut Report, word: &[u8]) -> Result<(), NoMemory> {
+    let word = without_package(word);
+    match instead_of_event(word) {
+        Some(instead) => put_instead(report, "event", instead),
+        None => put_near(report, "an event", &nearest_event(alloc, word)?),
     }
+    Ok(())
 }
 
 /// Puts the formals of a definition.
@@ -325,27 +383,33 @@ fn put_counts(
     report.say(" stand here");
     let own = own_count(alloc, event, head)?;
     put_taken(alloc, report, judge, texts, head, own)?;
+    if is_among(head, "- < <= > >= /=") {
+        report.say(": put one call into another");
+    }
     report.say("\n");
     Ok(())
 }
 
-/// Puts what stands here for the first word of GL's bindings in a part of an event.
-fn put_shape_help(report: &mut Report, event: &[u8], part: Span) {
+/// What stands here for the first word of GL's bindings in a part of an event.
+pub(crate) fn shape_help(event: &[u8], part: Span) -> Option<&'static str> {
     for (i, byte) in cut(event, part).iter().enumerate() {
         if *byte == b':' {
             let start = part.start.saturating_add(i);
-            if let Some(instead) = instead_of_shape(token(
-                event,
-                Span {
-                    start,
-                    end: part.end,
-                },
-            )) {
-                report.say("   = help: GL's word; here: ");
-                report.say(instead);
-                return report.say("\n");
+            let instead = instead_of_shape(token(event, Span::new(start, part.end)));
+            if instead.is_some() {
+                return instead;
             }
         }
+    }
+    None
+}
+
+/// Puts what stands here for the first word of GL's bindings in a part of an event.
+fn put_shape_help(report: &mut Report, event: &[u8], part: Span) {
+    if let Some(instead) = shape_help(event, part) {
+        report.say("   = help: GL's word; here: ");
+        report.say(instead);
+        report.say("\n");
     }
 }
 
@@ -382,6 +446,18 @@ fn put_unbound(
     Ok(())
 }
 
+/// Puts what bindings lack that begin with a parenthesis and this head.
+fn put_unquoted(report: &mut Report, head: &[u8]) {
+    if is_word(head, b"auto-bindings") {
+        return;
+    }
+    report.say(if head.is_empty() {
+        "   = note: a quote or a backquote is missing in front: `'((x (:g-integer 0 1 2)))`\n"
+    } else {
+        "   = note: bindings are `'((x (:g-integer 0 1 2)))`, `((x ,(g-int 0 1 3)))` behind a backquote, or `(auto-bindings (:nat x 8) ..)`\n"
+    });
+}
+
 /// Puts the help that looks at the part at fault.
 fn put_help_of_part(
     alloc: Global,
@@ -397,15 +473,14 @@ fn put_help_of_part(
         ..
     } = mark;
     match judge.fault {
-        EventFault::UnknownEvent => {
-            put_event_help(report, token(event, part));
-            Ok(())
-        }
+        EventFault::UnknownEvent => { put_event_help(alloc, report, token(event, part)) }
         EventFault::Term(TermFault::UnknownFunction) => {
             let own = own_name(alloc, event)?;
             put_function_help(alloc, report, token(event, part), own, judge.world, texts)
         }
-        EventFault::Term(TermFault::UnboundVariable) => put_formals(alloc, report, event),
+        EventFault::Term(TermFault::UnboundVariable) if byte_at(event, part.start) != b'*' => {
+            put_formals(alloc, report, event)
+        }
         EventFault::Term(TermFault::WrongCount) => {
             put_counts(alloc, report, judge, texts, event, part)
         }
@@ -417,15 +492,12 @@ fn put_help_of_part(
             put_shape_help(report, event, part);
             if part != around {
                 put_expected_shape(alloc, report, event, part, around)?;
-            } else if byte_at(event, part.start) == b'('
-                && !is_word(
-                    head_of(event, &elements(alloc, event, part)?),
-                    b"auto-bindings",
-                )
-            {
+            } else if byte_at(event, part.start) == b'*' {
                 report.say(
-                    "   = note: a quote or a backquote is missing in front: `'((x (:g-integer 0 1 2)))`\n",
+                    "   = note: a constant stands for no bindings: write them out behind `:g-bindings`\n",
                 );
+            } else if byte_at(event, part.start) == b'(' {
+                put_unquoted(report, head_of(event, &elements(alloc, event, part)?));
             }
             put_unbound(alloc, report, judge, texts, event)
         }
@@ -451,7 +523,7 @@ pub(crate) fn explain_event_fault(
         around,
     };
     put_form_fault(alloc, report, refusal, judge, texts, mark)?;
-    if judge.fault != EventFault::BadEvent || !includes_book(event) {
+    if judge.fault != EventFault::BadEvent || !is_plain(event) {
         put_help(report, words_of(refusal.fault).help);
     }
     Ok(())
@@ -474,10 +546,17 @@ pub(crate) fn put_form_fault(
     };
     put_message(alloc, report, refusal, marked);
     put_help_of_part(alloc, report, judge, texts, mark)?;
-    if judge.fault == EventFault::Term(TermFault::UnknownFunction) {
-        put_below(report, refusal.text, mark.span);
+    match judge.fault {
+        EventFault::Term(TermFault::UnknownFunction) => {
+            put_below(report, refusal.text, mark.span);
+            Ok(())
+        }
+        EventFault::Term(TermFault::UnboundVariable)
+            if byte_at(refusal.text, mark.span.start) == b'*' => {
+            put_constant_help(alloc, report, refusal.text, mark.span)
+        }
+        _ => Ok(()),
     }
-    Ok(())
 }
 
 /// Explains a constant without a value.

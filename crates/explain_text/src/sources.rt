@@ -101,13 +101,7 @@ fn lines_of(text: &[u8], span: Span) -> Lines {
 
 /// Where the comment in front of a form begins, with no empty line between; where the form begins, if it has none.
 fn comment_start(text: &[u8], start: usize) -> usize {
-    let lines = lines_of(
-        text,
-        Span {
-            start: start.saturating_sub(MOST_COMMENT),
-            end: start,
-        },
-    );
+    let lines = lines_of(text, Span::new(start.saturating_sub(MOST_COMMENT), start));
     match lines.comment {
         Some(comment) if lines.first <= 32 => comment,
         _ => start,
@@ -136,11 +130,11 @@ fn form_at(
         Some(next) => offset_of(alloc, text, next.line, next.column)?.unwrap_or(text.len()),
         None => text.len(),
     };
-    let end = code_end(text, Span { start, end: behind });
-    let part = Span {
-        start: comment_start(text, start),
-        end: end.min(start.saturating_add(MOST_BYTES)),
-    };
+    let end = code_end(text, Span::new(start, behind));
+    let part = Span::new(
+        comment_start(text, start),
+        end.min(start.saturating_add(MOST_BYTES)),
+    );
     Ok(cut(text, part).to_vec(alloc)?)
 }
 

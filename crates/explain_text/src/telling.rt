@@ -1,17 +1,22 @@
 //! The faults of a book that are told: each cause once, with the places of its other uses behind it.
 
 use crate::codes::{Fault, words_of};
-use crate::known::{instead_of_term, is_shipped};
-use crate::message::{Said, put_help};
+use crate::excerpt::put_part;
+use crate::known::{
+    includes_book, instead_of_book, instead_of_event, instead_of_term, is_shipped, string_in,
+};
+use crate::message::{MOST_NAMED, Marked, Refusal, Said, for_programs, put_help};
+use crate::refusal::{shape_help, title_of_part, word_behind};
 use book_faults::{
-    Cause, Found, MOST_TOLD, Survey, column_of, cut, is_word, line_of, token, told_of,
-    without_package,
+    Cause, Found, MOST_TOLD, Span, Survey, byte_at, column_of, cut, is_word, line_of, token,
+    told_of, without_package,
 };
 use event_world::EventFault;
 use explain_findings::{FormFault, is_among};
 use explain_report::Report;
 use gl_logic::{NoMemory, Texts};
 use gl_translate::TermFault;
+use indexmap::IndexMap;
 use sexp_reader::ReadCode;
 use std::alloc::Global;
 
@@ -25,10 +30,9 @@ const FOREIGN: &str =
 
 const MOST_FOREIGN: usize = 3;
 
-/// A fault that is told: what its other uses have in common, what is said of it, and where the others are.
+/// A fault that is told: its text, what is said of it, and where the other uses of its cause are.
 #[derive(Drop)]
 struct Told {
-    key: Vec<u8>,
     file: usize,
     message: Vec<u8>,
     places: Vec<u8>,
@@ -39,6 +43,8 @@ struct Told {
 #[derive(Drop)]
 pub(crate) struct Telling {
     found: Vec<Told>,
+    // of each cause its first use, by its number
+    causes: IndexMap<Vec<u8>, usize>,
     marked: Vec<explain_report::Fault>,
     codes: Vec<&'static str>,
     // the words that only ACL2 has, each once
@@ -53,34 +59,112 @@ pub(crate) fn fault_of(cause: Cause) -> Fault {
     }
 }
 
-/// What the uses of one cause have in common: a word that is missing, or the shipped book that has it; empty where each fault is a
-/// cause of its own.
-pub(crate) fn key_of(alloc: Global, found: &Found) -> Result<Vec<u8>, NoMemory> {
+/// Puts what the uses of a term's fault have in common: a word that is missing, or the shipped book that has it; else the text
+/// that is at fault.
+fn put_term_key(report: &mut Report, found: &Found, fault: TermFault) {
     let word = without_package(token(&found.event, found.part));
-    let mut key = Report::new(alloc);
-    match found.cause {
-        Cause::Form(FormFault::Event(EventFault::UnknownEvent)) => {
-            key.say("V1 ");
-            key.text(word);
+    match fault {
+        TermFault::UnknownFunction => {
+            put_word_key(report, word);
         }
-        Cause::Form(FormFault::Event(EventFault::Term(TermFault::UnknownFunction))) => {
-            key.say("V4 ");
-            match instead_of_term(word) {
-                Some(instead) if is_shipped(instead) => key.say(instead),
-                _ => key.text(word),
-            }
+        TermFault::UnboundVariable if byte_at(word, 0) == b'*' => {
+            report.say("V6 ");
+            report.text(word);
         }
-        Cause::Text(ReadCode::BadHash) => key.say("S7"),
+        TermFault::WrongCount => {
+            report.say("V5 ");
+            report.text(cut(&found.event, found.part));
+        }
+        TermFault::BadUse => {
+            let head = Span::new(found.around.start.saturating_add(1), found.around.end);
+            report.say("V7 ");
+            report.text(token(&found.event, head));
+            report.say(" ");
+            report.text(cut(&found.event, found.part));
+        }
         _ => {}
     }
-    key.into_bytes()
+}
+
+/// Puts what the uses of an event's fault have in common: a word, a book, or the text that is at fault.
+fn put_event_key(report: &mut Report, found: &Found, fault: EventFault) {
+    match fault {
+        EventFault::UnknownEvent => {
+            report.say("V1 ");
+            report.text(without_package(token(&found.event, found.part)));
+        }
+        EventFault::BadEvent if includes_book(&found.event) => {
+            report.say("V2 ");
+            match instead_of_book(string_in(&found.event)) {
+                Some(instead) => report.say(instead),
+                None => report.text(&found.event),
+            }
+        }
+        EventFault::BadOption => {
+            report.say("V11 ");
+            report.text(cut(&found.event, found.part));
+        }
+        EventFault::BadBindings
+            if found.part != found.around || byte_at(&found.event, found.part.start) == b'*' => {
+            report.say("V10 ");
+            match shape_help(&found.event, found.part) {
+                Some(instead) => report.say(instead),
+                None => report.text(cut(&found.event, found.part)),
+            }
+        }
+        EventFault::Term(fault) => put_term_key(report, found, fault),
+        _ => {}
+    }
+}
+
+/// Puts the key of a word that is not known.
+fn put_word_key(report: &mut Report, word: &[u8]) {
+    report.say("V4 ");
+    match instead_of_term(word) {
+        Some(instead) if is_shipped(instead) => report.say(instead),
+        _ => report.text(word),
+    }
+}
+
+/// Puts what the uses of a byte at fault have in common: the word behind a package, where something stands here for it, as its
+/// other uses have it; else the byte.
+fn put_byte_key(report: &mut Report, survey: &Survey, found: &Found) {
+    let text = survey.text(found.file);
+    let word = word_behind(text, found.span.start);
+    if instead_of_event(word).is_some() {
+        report.say("V1 ");
+        report.text(word);
+    } else if instead_of_term(word).is_some() {
+        put_word_key(report, word);
+    } else {
+        report.say("S4 ");
+        report.text(cut(text, found.span));
+    }
+}
+
+/// What the uses of one cause have in common, in capital letters; empty where each fault is a cause of its own.
+pub(crate) fn key_of(alloc: Global, survey: &Survey, found: &Found) -> Result<Vec<u8>, NoMemory> {
+    let mut key = Report::new(alloc);
+    match found.cause {
+        Cause::Form(FormFault::Event(fault)) => put_event_key(&mut key, found, fault),
+        Cause::Text(ReadCode::BadHash) => key.say("S7"),
+        Cause::Text(ReadCode::BadByte) => { put_byte_key(&mut key, survey, found) }
+        _ => {}
+    }
+    Ok(key.into_bytes()?.to_ascii_uppercase(alloc)?)
+}
+
+/// Whether a word stands behind the name of a package that is not in the language, which is told there.
+fn is_behind_package(text: &[u8], word: Span) -> bool {
+    let front = cut(text, Span::new(0, word.start));
+    front.ends_with(b"::") && !front.ends_with(b"acl2::") && !front.ends_with(b"gl::")
 }
 
 /// Puts where another use of a cause is: its word, its text where that is another, its line and its column.
 fn put_use(report: &mut Report, survey: &Survey, found: &Found, file: usize) {
     let text = survey.text(found.file);
     report.say("`");
-    report.text(cut(text, found.span));
+    put_part(report, text, found.span, MOST_NAMED);
     report.say("` ");
     if found.file != file {
         report.text(survey.name(found.file));
@@ -91,12 +175,39 @@ fn put_use(report: &mut Report, survey: &Survey, found: &Found, file: usize) {
     report.number(column_of(text, found.span.start));
 }
 
+/// What is told of another use of a cause to programs.
+fn use_for_programs(
+    alloc: Global,
+    survey: &Survey,
+    found: &Found,
+) -> Result<explain_report::Fault, NoMemory> {
+    let fault = fault_of(found.cause);
+    let refusal = Refusal {
+        file: survey.name(found.file),
+        text: survey.text(found.file),
+        line: 0,
+        column: 0,
+        fault,
+    };
+    let marked = Marked {
+        span: found.span,
+        is_named: matches!(found.cause, Cause::Form(_)),
+        title: title_of_part(fault, &found.event, found.part, found.around),
+    };
+    for_programs(alloc, &refusal, marked)
+}
+
 impl Told {
-    /// Another use of the cause.
-    fn put_place(&mut self, alloc: Global, survey: &Survey, found: &Found) -> Result<(), NoMemory> {
+    /// Another use of the cause. Whether it is told.
+    fn put_place(
+        &mut self,
+        alloc: Global,
+        survey: &Survey,
+        found: &Found,
+    ) -> Result<bool, NoMemory> {
         self.count = self.count.saturating_add(1);
         if self.count > MOST_PLACES {
-            return Ok(());
+            return Ok(false);
         }
         let mut place = Report::new(alloc);
         if self.count > 1 {
@@ -104,7 +215,7 @@ impl Told {
         }
         put_use(&mut place, survey, found, self.file);
         self.places.extend_from_slice(&place.into_bytes()?)?;
-        Ok(())
+        Ok(true)
     }
 
     /// Puts what is said, and behind it the places of the other uses.
@@ -129,6 +240,7 @@ impl Telling {
     pub(crate) fn new(alloc: Global) -> Telling {
         Telling {
             found: Vec::new(alloc),
+            causes: IndexMap::new(alloc),
             marked: Vec::new(alloc),
             codes: Vec::new(alloc),
             foreign: Vec::new(alloc),
@@ -174,17 +286,21 @@ impl Telling {
         survey: &Survey,
         found: &Found,
     ) -> Result<bool, NoMemory> {
-        let key = key_of(alloc, found)?;
-        if key.is_empty() {
+        let key = key_of(alloc, survey, found)?;
+        let number = match self.causes.get(&key) {
+            Some(number) => *number,
+            None => return Ok(false),
+        };
+        if number >= self.found.len() {
             return Ok(false);
         }
-        for told in self.found.iter_mut() {
-            if told.key.eq_ignore_ascii_case(&key) {
-                told.put_place(alloc, survey, found)?;
-                return Ok(true);
-            }
+        if is_behind_package(survey.text(found.file), found.span) {
+            return Ok(true);
         }
-        Ok(false)
+        if self.found[number].put_place(alloc, survey, found)? && number < MOST_TOLD {
+            self.marked.push(use_for_programs(alloc, survey, found)?)?;
+        }
+        Ok(true)
     }
 
     /// Whether one more fault is told.
@@ -199,13 +315,22 @@ impl Telling {
         for fault in faults {
             self.marked.push(fault)?;
         }
+        let number = self.found.len();
+        self.name(key, number)?;
         self.found.push(Told {
-            key,
             file,
             message,
             places: Vec::new(alloc),
             count: 0,
         })?;
+        Ok(())
+    }
+
+    /// Gives a fault by its number its cause, where that has other uses.
+    fn name(&mut self, key: Vec<u8>, number: usize) -> Result<(), NoMemory> {
+        if !key.is_empty() {
+            let _earlier = self.causes.insert(key, number)?;
+        }
         Ok(())
     }
 
@@ -234,11 +359,11 @@ impl Telling {
     }
 
     /// Gives the first fault its cause, whose message is told already.
-    pub(crate) fn name_first(&mut self, key: Vec<u8>, file: usize) {
+    pub(crate) fn name_first(&mut self, key: Vec<u8>, file: usize) -> Result<(), NoMemory> {
         if !self.found.is_empty() {
-            self.found[0].key = key;
             self.found[0].file = file;
         }
+        self.name(key, 0)
     }
 
     /// All that is told, how many events are not looked at, and how many faults there are.
