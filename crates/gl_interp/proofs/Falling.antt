@@ -18,6 +18,8 @@ use Rattle.gl_interp.specs.declared.frame.Frame.{Frame}
 use Rattle.gl_interp.specs.declared.frame.Frame.TheVariants as frame
 use Rattle.gl_interp.specs.declared.frame.Focus.{Focus}
 use Rattle.gl_interp.specs.declared.frame.Focus.TheVariants as focus
+use Rattle.sym_objects.specs.Seen.{SobsSeen}
+use Rattle.gl_interp.specs.Running.{IsGiven}
 use Rattle.gl_interp.specs.TurnsLeft.{Falls, all_by, body_turns, call_turns, frames_turns, turns, turns_by, turns_from, turns_left, work_turns}
 use Rattle.gl_interp.specs.Walking.{from}
 use Rattle.gl_interp.proofs.Walking.{from_more}
@@ -74,13 +76,13 @@ module _ (ds : List Definition) (fs : List Frame) where
       subst (λ y. turns_from ds n w (length more) ts.now + frames_turns ds fs < turns_left ds (y ∷ fs) (focus.Give x)) (sym e) (omega (arith, left))
 
   -- the first branch is done
-  pub falls_other : (hs : List Frame) (f : Frame) (c saved : Edge) (rest : Path) (b : Bor Term) (env : EnvId) (n : ℕ) (x : Sob) → f ≡ frame.Other c b env n saved rest → hs ≡ frame.Join c x saved ∷ fs → Falls ds (f ∷ fs) (focus.Give x) hs (focus.Visit b env n)
-  falls_other hs f c saved rest b env n x e i =
+  pub falls_other : (hs : List Frame) (f : Frame) (c saved : Edge) (rest kept : Path) (b : Bor Term) (env : EnvId) (n : ℕ) (x : Sob) → f ≡ frame.Other c b env n saved rest → hs ≡ frame.Join c x kept ∷ fs → Falls ds (f ∷ fs) (focus.Give x) hs (focus.Visit b env n)
+  falls_other hs f c saved rest kept b env n x e i =
       subst (λ ks. Falls ds (f ∷ fs) (focus.Give x) ks (focus.Visit b env n)) (sym i)
-      (subst (λ y. Falls ds (y ∷ fs) (focus.Give x) (frame.Join c x saved ∷ fs) (focus.Visit b env n)) (sym e) (omega arith))
+      (subst (λ y. Falls ds (y ∷ fs) (focus.Give x) (frame.Join c x kept ∷ fs) (focus.Visit b env n)) (sym e) (omega arith))
 
   -- both branches are done
-  pub falls_join : (f : Frame) (c saved : Edge) (x y : Sob) → f ≡ frame.Join c x saved → 0 + frames_turns ds fs < turns_left ds (f ∷ fs) (focus.Give y)
+  pub falls_join : (f : Frame) (c : Edge) (saved : Path) (x y : Sob) → f ≡ frame.Join c x saved → 0 + frames_turns ds fs < turns_left ds (f ∷ fs) (focus.Give y)
   falls_join f c saved x y e = subst (λ z. 0 + frames_turns ds fs < turns_left ds (z ∷ fs) (focus.Give y)) (sym e) (omega arith)
 
   -- into one of a test's branches, or both
@@ -108,6 +110,18 @@ module _ (ds : List Definition) (fs : List Frame) where
   falls_evaluated f w args env n e =
       let some = some_call ds n f.number in
       subst (λ k. 0 + frames_turns ds fs < turns_left ds fs (focus.Run k args env n)) (sym e) (omega (arith, some))
+
+  -- a work is left out
+  falls_dropped : (w : Work) (args : Vec Sob Global) (env : EnvId) (n : ℕ) (x : Sob) → Falls ds fs (focus.Run w args env n) fs (focus.Give x)
+  falls_dropped (work.Prim p) args env n x = omega arith
+  falls_dropped (work.Let names b) args env n x = omega arith
+  falls_dropped (work.Call f) args env n x = let some = some_call ds n f.number in omega (arith, some)
+
+  pub falls_given : {B : Type 0} (s : SobsSeen B) (w : Work) (args : Vec Sob Global) (env : EnvId) (n : ℕ) (h : Focus) → IsGiven s h → Falls ds fs (focus.Run w args env n) fs h
+  falls_given s w args env n (focus.Visit u i k) l = absurd l
+  falls_given s w args env n (focus.Next v done ts i k) l = absurd l
+  falls_given s w args env n (focus.Run v xs i k) l = absurd l
+  falls_given s w args env n (focus.Give x) l = falls_dropped w args env n x
 
   pub falls_call : (f : FnId) (w : Work) (c : Definition) (args : Vec Sob Global) (env : EnvId) (n m : ℕ) → w ≡ work.Call f → n ≡ suc m → slice_get ds f.number ≡ Some c → turns ds m c.body + frames_turns ds fs < turns_left ds fs (focus.Run w args env n)
   falls_call f w c args env n m e clock there =

@@ -22,7 +22,7 @@ use Rattle.gl_interp.specs.declared.frame.Path.{Path}
 use Rattle.gl_interp.specs.Envs.{EnvsBelow, PairsBelow}
 use Rattle.gl_interp.specs.Environments.{env_under, objects_of}
 use Rattle.gl_interp.specs.FlatValues.{IsPlainValue, MayLook, StandsForBranches, StandsForTerm}
-use Rattle.gl_interp.specs.Walking.{Before, wrap, Makes}
+use Rattle.gl_interp.specs.Walking.{wrap, Makes}
 use Rattle.gl_interp.specs.Running.{at, Ready, Turn}
 use Rattle.sym_prims.proofs.Leaving.{leaves_then}
 use Rattle.gl_interp.proofs.Walking.{wrap_some}

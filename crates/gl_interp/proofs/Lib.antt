@@ -11,6 +11,7 @@ pub mod FlatTurns
 pub mod GiveTurns
 pub mod InputParts
 pub mod Machines
+pub mod Onward
 pub mod PlainFaults
 pub mod Reaching
 pub mod RunCauses

@@ -1,5 +1,5 @@
 -- The causes of the faults of a work.
-use Rattle.std.proofs.Common.{◌≡◌, ◌∙◌, ap, sym, subst, ℕ, Bool, List, length, Result, Err, IfErr, Vec, Global}
+use Rattle.std.proofs.Common.{◌≡◌, ◌∙◌, sym, subst, ℕ, Bool, List, Result, Err, IfErr, Some, IfSome, Vec, Global}
 use Rattle.bfr_store.specs.declared.meaning.Meaning.{Ghosts}
 use Rattle.gl_logic.specs.Assignments.{value_at}
 use Rattle.gl_logic.specs.Object.{Object, Int, Character, Symbol, Text, Cons}
@@ -19,7 +19,7 @@ use Rattle.sym_prims.specs.declared.fault.SymFault.TheVariants as prim
 use Rattle.gl_interp.specs.Calls.{HasCallCause, HasEvalCause, values_under}
 use Rattle.gl_interp.specs.Causes.{IsOnPath}
 use Rattle.gl_interp.specs.Faults.{fault_from}
-use Rattle.gl_interp.specs.Running.{IsWitnessed}
+use Rattle.gl_interp.specs.Running.{IsWitness, IsWitnessed}
 use Rattle.gl_interp.specs.TurnFaults.{HasMachineCause, HasTurnCause}
 use Rattle.gl_interp.specs.declared.calls.CallFault.{CallFault}
 use Rattle.gl_interp.specs.declared.calls.CallFault.TheVariants as call
@@ -32,9 +32,10 @@ use Rattle.gl_interp.specs.declared.frame.Work.TheVariants as work
 use Rattle.gl_interp.specs.declared.frame.Focus.TheVariants as focus
 
 -- the path's assignment is one of the path
-pub on_path : {B : Type 0} (g : Ghosts B) (old new : SobsSeen B) (path : Path) (found : List Bool) → IsWitnessed (g.truth_of old.store) (g.width_of old.store) path → Leaves g old new → g.live old.store path.edge → found ≡ path.found → IsOnPath g new path.edge found
+pub on_path : {B : Type 0} (g : Ghosts B) (old new : SobsSeen B) (path : Path) (found : List Bool) → IsWitnessed (g.truth_of old.store) (g.width_of old.store) path → Leaves g old new → g.live old.store path.edge → path.found ≡ Some found → IsOnPath g new path.edge found
 on_path g old new path found w k live e =
-    (ap length e ∙ (w.count ∙ sym k.width), k.grows.store.same path.edge (value_at found) live ∙ (ap (λ b. g.truth_of old.store path.edge (value_at b)) e ∙ w.reaches))
+    let is : IsWitness (g.truth_of old.store) (g.width_of old.store) path.edge found = subst (λ o. IfSome o (λ v. IsWitness (g.truth_of old.store) (g.width_of old.store) path.edge v)) e w in
+    (is.count ∙ sym k.width, k.grows.store.same path.edge (value_at found) live ∙ is.reaches)
 
 -- ---- what a call on constants answers
 module _ {B : Type 0} (g : Ghosts B) (new : SobsSeen B) (w : WorldSeen) (m : MachineSeen) (f : ℕ) (xs : (ℕ → Bool) → List Object) (r : Result Sob CallFault) (h : IfErr r (λ c. (a : ℕ → Bool) → HasCallCause g new w m f (xs a) c)) (a : ℕ → Bool) where
@@ -79,3 +80,7 @@ module _ {B : Type 0} (g : Ghosts B) (old new : SobsSeen B) (w : WorldSeen) (m :
   pub machine_cause : (k : Work) (f : FnId) (xs : List Sob) (c : GlFault) → k ≡ work.Call f → xs ≡ args.items → HasMachineCause g old new w m path f.number xs c → HasTurnCause g old new w m path (focus.Run k args env n) c
   machine_cause k f xs c kind same h =
       subst (λ q. HasTurnCause g old new w m path (focus.Run q args env n) c) (sym kind) (machine_at f c (subst (λ ys. HasMachineCause g old new w m path f.number ys c) same h))
+
+  -- no definition may be opened any more
+  pub clock_cause : (k : Work) (f : FnId) (a : List Bool) → k ≡ work.Call f → n ≡ 0 → IsOnPath g new path.edge a → HasTurnCause g old new w m path (focus.Run k args env n) (fault.Clock a)
+  clock_cause k f a kind zero_clock on = subst (λ (q : Work). HasTurnCause g old new w m path (focus.Run q args env n) (fault.Clock a)) (sym kind) (on, zero_clock)

@@ -63,8 +63,8 @@ module _ (ds : List Definition) (fs : List Frame) where
   pub terms_all : (w : Work) (done : Vec Sob Global) (ts : Bor (List Term)) (env : EnvId) (n : ℕ) → length done.items ≡ length ts.now → AreTerms ds fs (focus.Next w done ts env n) → AreTerms ds fs (focus.Run w done env n)
   terms_all w done ts env n e h = record { frames = h.frames; focus = subst (λ (m : ℕ). IsWorkOf ds m w) (sym e) h.focus.0 }
 
-  pub terms_other : (hs : List Frame) (f : Frame) (c saved : Edge) (rest : Path) (b : Bor Term) (env : EnvId) (n : ℕ) (x : Sob) → f ≡ frame.Other c b env n saved rest → hs ≡ frame.Join c x saved ∷ fs → AreTerms ds (f ∷ fs) (focus.Give x) → AreTerms ds hs (focus.Visit b env n)
-  terms_other hs f c saved rest b env n x e i h =
+  pub terms_other : (hs : List Frame) (f : Frame) (c saved : Edge) (rest kept : Path) (b : Bor Term) (env : EnvId) (n : ℕ) (x : Sob) → f ≡ frame.Other c b env n saved rest → hs ≡ frame.Join c x kept ∷ fs → AreTerms ds (f ∷ fs) (focus.Give x) → AreTerms ds hs (focus.Visit b env n)
+  terms_other hs f c saved rest kept b env n x e i h =
       let p : AreTerms ds (frame.Other c b env n saved rest ∷ fs) (focus.Give x) = subst (λ y. AreTerms ds (y ∷ fs) (focus.Give x)) e h in
       subst (λ ks. AreTerms ds ks (focus.Visit b env n)) (sym i) (record { frames = (tt, p.frames.1); focus = p.frames.0 })
 

@@ -1,5 +1,5 @@
 -- The turns of the machine.
-use Rattle.std.proofs.Common.{◌≡◌, ℕ, ◌<◌, ◌≤◌, Bool, true, not, ◌&&◌, List, [], ◌∷◌, length, get_or, refl, ap, sym, ◌∙◌, arith, Option, None, ◌⊎◌, inl, inr}
+use Rattle.std.proofs.Common.{◌≡◌, ℕ, ◌<◌, ◌≤◌, Bool, true, not, ◌&&◌, List, [], ◌∷◌, length, get_or, refl, ap, sym, ◌∙◌, arith, Option, Some, None, IfSome, ◌⊎◌, inl, inr}
 use Rattle.bfr_store.specs.declared.edge.Edge.{Edge}
 use Rattle.bfr_store.specs.declared.meaning.Meaning.{Ghosts}
 use Rattle.gl_logic.specs.Object.{Object}
@@ -16,7 +16,7 @@ use Rattle.gl_interp.specs.declared.frame.Path.{Path}
 use Rattle.gl_interp.specs.Envs.{AllBelow, PairsBelow, EnvsBelow, EnvsKept}
 use Rattle.gl_interp.specs.Environments.{objects_of}
 use Rattle.gl_interp.specs.Walking.{Makes, FocusMakes}
-use Rattle.gl_interp.specs.Running.{at, FramesLive, FocusLive, IsPath, IsWitnessed, reach, PathsRight, Ready, Turn, Turns}
+use Rattle.gl_interp.specs.Running.{at, FramesLive, FocusLive, IsPath, IsWitness, IsWitnessed, reach, PathsRight, Ready, Turn, Turns}
 use Rattle.gl_interp.proofs.Walking.{makes_same}
 
 -- ---- live things stay live
@@ -32,8 +32,13 @@ pub frames_stay : (live new : Edge → Type 0) (n n' m m' : ℕ) → ((c : Edge)
 frames_stay live new n n' m m' s r q [] l = tt
 frames_stay live new n n' m m' s r q (frame.Test a b env j ∷ fs) l = (omega (arith, q, l.0), frames_stay live new n n' m m' s r q fs l.1)
 frames_stay live new n n' m m' s r q (frame.Other c b env j saved rest ∷ fs) l = ((s c l.0.0, omega (arith, q, l.0.1), s saved l.0.2, s rest.edge l.0.3), frames_stay live new n n' m m' s r q fs l.1)
-frames_stay live new n n' m m' s r q (frame.Join c x saved ∷ fs) l = ((s c l.0.0, omega (arith, r, l.0.1), s saved l.0.2), frames_stay live new n n' m m' s r q fs l.1)
+frames_stay live new n n' m m' s r q (frame.Join c x saved ∷ fs) l = ((s c l.0.0, omega (arith, r, l.0.1), s saved.edge l.0.2), frames_stay live new n n' m m' s r q fs l.1)
 frames_stay live new n n' m m' s r q (frame.Arguments w done ts env j ∷ fs) l = ((all_below_more n n' r done.items l.0.0, omega (arith, q, l.0.1), l.0.2), frames_stay live new n n' m m' s r q fs l.1)
+
+-- an assignment of one edge is one of another that is true where this is
+pub found_moves : (t u : Edge → (ℕ → Bool) → Bool) (width later : ℕ) (e h : Edge) → later ≡ width → ((a : ℕ → Bool) → t e a ≡ true → u h a ≡ true) → (o : Option (List Bool)) → IfSome o (λ w. IsWitness t width e w) → IfSome o (λ w. IsWitness u later h w)
+found_moves t u width later e h same f None p = tt
+found_moves t u width later e h same f (Some w) p = record { count = p.count ∙ sym same; reaches = f (value_at w) p.reaches }
 
 -- ---- the truths of live edges stay, and so do the paths
 module _ (t u : Edge → (ℕ → Bool) → Bool) (live : Edge → Type 0) (n m : ℕ) (same : (c : Edge) (a : ℕ → Bool) → live c → u c a ≡ t c a) where
@@ -48,7 +53,7 @@ module _ (t u : Edge → (ℕ → Bool) → Bool) (live : Edge → Type 0) (n m 
   is_path_same start path r q ls lp e p = record { says = λ a. same path a lp ∙ (p.says a ∙ (λ i. sym (same start a ls) i && sym (e a) i)) }
 
   pub is_witnessed_same : (width later : ℕ) (onward : Path) → later ≡ width → live onward.edge → IsWitnessed t width onward → IsWitnessed u later onward
-  is_witnessed_same width later onward e l w = record { count = w.count ∙ sym e; reaches = same onward.edge (value_at onward.found) l ∙ w.reaches }
+  is_witnessed_same width later onward e l w = found_moves t u width later onward.edge onward.edge e (λ a p. same onward.edge a l ∙ p) onward.found w
 
   pub paths_same : (width later : ℕ) (start : Edge) → later ≡ width → live start → (fs : List Frame) → FramesLive live n m fs → PathsRight t width start fs → PathsRight u later start fs
   paths_same width later start e ls [] l p = tt
@@ -60,7 +65,7 @@ module _ (t u : Edge → (ℕ → Bool) → Bool) (live : Edge → Type 0) (n m 
     paths_same width later start e ls fs l.1 p.3,
   )
   paths_same width later start e ls (frame.Join c x saved ∷ fs) l p =
-      (is_path_same start saved (reach t fs) (reach u fs) ls l.0.2 (reach_same fs l.1) p.0, paths_same width later start e ls fs l.1 p.1)
+      (is_path_same start saved.edge (reach t fs) (reach u fs) ls l.0.2 (reach_same fs l.1) p.0, is_witnessed_same width later saved e l.0.2 p.1, paths_same width later start e ls fs l.1 p.2)
   paths_same width later start e ls (frame.Arguments w done ts env j ∷ fs) l p = paths_same width later start e ls fs l.1 p
 
 pub objects_same : (f h : Sob → Object) (n : ℕ) → ((x : Sob) → x.number < n → h x ≡ f x) → (ps : List (ℕ × Sob)) → PairsBelow n ps → objects_of h ps ≡ objects_of f ps

@@ -14,6 +14,17 @@ pub record IsPartOf {B : Type 0} (g : Ghosts B) (old new : SobsSeen B) (path : E
   pub says : (a : ℕ → Bool) → g.truth_of new.store onward.edge a ≡ (g.truth_of old.store path a && side a)
   pub is_witnessed : IsWitnessed (g.truth_of new.store) (g.width_of new.store) onward
 
+-- an edge of a path's part: it is true where the path's edge is and this is
+pub record IsPartEdge {B : Type 0} (g : Ghosts B) (old new : SobsSeen B) (path : Edge) (side : (ℕ → Bool) → Bool) (edge : Edge) : Type 0 where
+  pub live : g.live new.store edge
+  pub says : (a : ℕ → Bool) → g.truth_of new.store edge a ≡ (g.truth_of old.store path a && side a)
+
+-- the same path: its edge is true where the path's edge was
+pub record IsAgain {B : Type 0} (g : Ghosts B) (old new : SobsSeen B) (path onward : Path) : Type 0 where
+  pub live : g.live new.store onward.edge
+  pub says : (a : ℕ → Bool) → g.truth_of new.store onward.edge a ≡ g.truth_of old.store path.edge a
+  pub is_witnessed : IsWitnessed (g.truth_of new.store) (g.width_of new.store) onward
+
 -- no assignment makes both edges true
 abbrev pub IsUnreached : {B : Type 0} → Ghosts B → SobsSeen B → Edge → Edge → Type 0
 IsUnreached g s path test = (a : ℕ → Bool) → (g.truth_of s.store path a && g.truth_of s.store test a) ≡ false

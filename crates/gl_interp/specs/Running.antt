@@ -1,11 +1,11 @@
 -- The interpreter's state.
-use Rattle.std.specs.Prelude.{ℕ, ◌≡◌, ◌<◌, ◌≤◌, ◌⊎◌, Bool, true, not, ◌&&◌, List, [], ◌∷◌, length, get_or, Option, Some, None}
+use Rattle.std.specs.Prelude.{ℕ, ◌≡◌, ◌<◌, ◌≤◌, ◌⊎◌, Bool, true, not, ◌&&◌, List, [], ◌∷◌, length, get_or, Option, Some, None, IfSome, IsSome}
 use Rattle.bfr_store.specs.declared.edge.Edge.{Edge}
 use Rattle.bfr_store.specs.declared.meaning.Meaning.{Ghosts}
 use Rattle.gl_logic.specs.Definition.{Definition}
 use Rattle.gl_logic.specs.Walk.{Walk}
 use Rattle.sym_objects.specs.declared.sob.Sob.{Sob}
-use Rattle.sym_objects.specs.Seen.{SobsSeen, IsWhole, stands_for}
+use Rattle.sym_objects.specs.Seen.{SobsSeen, IsLive, IsWhole, stands_for}
 use Rattle.gl_logic.specs.Assignments.{value_at}
 use Rattle.gl_logic.specs.IsTermOf.{AreTermsOf, IsTermOf, arity_in}
 use Rattle.gl_logic.specs.PrimValue.{prim_arity}
@@ -35,7 +35,7 @@ at g ds k s envs a = record {
 abbrev pub FrameLive : (Edge → Type 0) → ℕ → ℕ → Frame → Type 0
 FrameLive live n m (frame.Test a b env k) = env.number < m
 FrameLive live n m (frame.Other c b env k saved rest) = live c × (env.number < m) × live saved × live rest.edge
-FrameLive live n m (frame.Join c x saved) = live c × (x.number < n) × live saved
+FrameLive live n m (frame.Join c x saved) = live c × (x.number < n) × live saved.edge
 FrameLive live n m (frame.Arguments w done ts env k) = AllBelow n done.items × (env.number < m) × (length done.items < length ts.now)
 
 abbrev pub FramesLive : (Edge → Type 0) → ℕ → ℕ → List Frame → Type 0
@@ -53,10 +53,14 @@ FocusLive n m (focus.Give x) = x.number < n
 pub record IsPath (truth : Edge → (ℕ → Bool) → Bool) (start : Edge) (here : (ℕ → Bool) → Bool) (path : Edge) : Type 0 where
   pub says : (a : ℕ → Bool) → truth path a ≡ (truth start a && here a)
 
--- the path's assignment has so many values, and makes its edge true
-pub record IsWitnessed (truth : Edge → (ℕ → Bool) → Bool) (width : ℕ) (path : Path) : Type 0 where
-  pub count : length path.found ≡ width
-  pub reaches : truth path.edge (value_at path.found) ≡ true
+-- the assignment has so many values, and makes the edge true
+pub record IsWitness (truth : Edge → (ℕ → Bool) → Bool) (width : ℕ) (edge : Edge) (found : List Bool) : Type 0 where
+  pub count : length found ≡ width
+  pub reaches : truth edge (value_at found) ≡ true
+
+-- the path's assignment, where one is known, is a witness of its edge
+abbrev pub IsWitnessed : (Edge → (ℕ → Bool) → Bool) → ℕ → Path → Type 0
+IsWitnessed truth width path = IfSome path.found (λ w. IsWitness truth width path.edge w)
 
 abbrev pub reach : (Edge → (ℕ → Bool) → Bool) → List Frame → (ℕ → Bool) → Bool
 reach truth fs a = reached (λ e. truth e a) fs
@@ -64,9 +68,19 @@ reach truth fs a = reached (λ e. truth e a) fs
 abbrev pub PathsRight : (Edge → (ℕ → Bool) → Bool) → ℕ → Edge → List Frame → Type 0
 PathsRight truth width start [] = Unit {0}
 PathsRight truth width start (frame.Other c b env k saved rest ∷ fs) = IsPath truth start (reach truth fs) saved × IsPath truth start (λ a. reach truth fs a && not (truth c a)) rest.edge × IsWitnessed truth width rest × PathsRight truth width start fs
-PathsRight truth width start (frame.Join c x saved ∷ fs) = IsPath truth start (reach truth fs) saved × PathsRight truth width start fs
+PathsRight truth width start (frame.Join c x saved ∷ fs) = IsPath truth start (reach truth fs) saved.edge × IsWitnessed truth width saved × PathsRight truth width start fs
 PathsRight truth width start (frame.Test a b env k ∷ fs) = PathsRight truth width start fs
 PathsRight truth width start (frame.Arguments w done ts env k ∷ fs) = PathsRight truth width start fs
+
+-- where no definition may be opened any more, the path of a call has an assignment
+abbrev pub IsAsked : Work → ℕ → Path → Type 0
+IsAsked (work.Call f) n path = n ≡ 0 → IsSome path.found
+IsAsked w n path = Unit {0}
+
+-- a live object is given
+abbrev pub IsGiven : {B : Type 0} → SobsSeen B → Focus → Type 0
+IsGiven s (focus.Give x) = IsLive s x
+IsGiven s _ = ⊥
 
 -- ---- the interpreter may take a turn
 pub record Ready {B : Type 0} (g : Ghosts B) (s : SobsSeen B) (bindings : List (List (ℕ × Sob))) (start : Edge) (path : Path) (fs : List Frame) (f : Focus) : Type 0 where

@@ -5,11 +5,12 @@ use bfr_store::Edge;
 use gl_logic::{Assignment, FnId, Names, Prim, Term};
 use sym_objects::Sob;
 
-/// A path: an edge, and an assignment that makes it true.
+/// A path: an edge, and an assignment that makes it true where one is known. The edge of a path that was found to have none is
+/// that of the constant false.
 #[derive(Drop)]
 pub struct Path {
     pub edge: Edge,
-    pub found: Assignment,
+    pub found: Option<Assignment>,
 }
 
 /// What is done with arguments.
@@ -28,8 +29,8 @@ pub enum Frame<'a> {
     /// It is the first branch's. The test, the other branch, its environment and clock, the path's edge to the two and the
     /// path to the other one.
     Other(Edge, &'a Term, EnvId, u32, Edge, Path),
-    /// It is the other branch's. The test, the first branch's object and the path's edge to the two.
-    Join(Edge, Sob, Edge),
+    /// It is the other branch's. The test, the first branch's object and the path to the two.
+    Join(Edge, Sob, Path),
     /// It is an argument's. The arguments before it, all terms, their environment and clock.
     Arguments(Work<'a>, Vec<Sob>, &'a [Term], EnvId, u32),
 }

@@ -13,7 +13,7 @@ use super::envs::Envs;
 use super::fault::GlFault;
 use super::frame::Focus;
 use super::results::{give, next};
-use super::runs::run;
+use super::runs::{dropped, run};
 use super::store_calls::path_of;
 use super::visits::visit;
 use bfr_store::{Bits, Edge};
@@ -82,11 +82,15 @@ pub fn interp<B: Bits>(
                 )?
             }
             Focus::Run(work, args, e, n) => {
-                match run(
-                    alloc, objs, machine, &mut envs, world, path, &onward, work, args, e, n,
-                    &frames,
-                ) {
-                    Ok(more) => focus = more,
+                match dropped(alloc, objs, world, work, n, &mut onward) {
+                    Ok(Some(more)) => focus = more,
+                    Ok(None) => match run(
+                        alloc, objs, machine, &mut envs, world, path, &onward, work, args, e, n,
+                        &frames,
+                    ) {
+                        Ok(more) => focus = more,
+                        Err(fault) => return Err(fault),
+                    },
                     Err(fault) => return Err(fault),
                 }
             }

@@ -1,12 +1,11 @@
 //! The turns that hand an object on.
 
-ghost use Rattle.std.specs.Prelude.{◌≡◌, ◌∷◌, ℕ, Bool, true, List, length, IfOk, IfErr};
-ghost use Rattle.gl_logic.specs.Assignments.{value_at};
+ghost use Rattle.std.specs.Prelude.{◌≡◌, ◌∷◌, ◌⊎◌, ℕ, Bool, true, not, None, List, length, IfOk, IfErr};
 ghost use Rattle.gl_logic.specs.Definition.{Definition};
 ghost use Rattle.sym_objects.specs.Seen.{IsWhole};
 ghost use Rattle.sym_prims.specs.Applying.{Leaves};
 ghost use Rattle.gl_interp.specs.Causes.{Rests};
-ghost use Rattle.gl_interp.specs.Branches.{IsPartOf, IsSplit};
+ghost use Rattle.gl_interp.specs.Branches.{IsPartEdge, IsSplit};
 ghost use Rattle.gl_interp.specs.Running.{AreTerms, IsWitnessed, Ready, Turn};
 ghost use Rattle.gl_interp.specs.TurnFaults.{HasPlainCause};
 ghost use Rattle.gl_interp.specs.TurnsLeft.{Falls};
@@ -15,13 +14,13 @@ use super::envs::{EnvId, Envs};
 use super::fault::GlFault;
 use super::flats::merged;
 use super::frame::{Focus, Frame, Path, Work};
-use super::store_calls::{copy_of, narrow, value};
+use super::store_calls::{copy_of, part, value};
 use bfr_store::{Bits, Edge};
 use gl_logic::{NoMemory, Term};
 use lisp_eval::Machine;
 use std::alloc::Global;
 use sym_objects::{Sob, Sobs, Stack};
-use sym_prims::store_calls::{complement, conjunction, is_always};
+use sym_prims::store_calls::{complement, is_always};
 
 /// Goes to the next argument, or to the work where all are there.
 pub(crate) fn next<'a, B: Bits>(
@@ -75,12 +74,13 @@ pub(crate) fn give<'a, B: Bits>(
             alloc, objs, machine, envs, start, path, object, a, b, env, clock, frames,
         ),
         Frame::Other(test, b, env, clock, saved, rest) => {
-            frames.push(Frame::Join(test, object, saved))?;
+            let found = path.found.take();
+            frames.push(Frame::Join(test, object, Path { edge: saved, found }))?;
             *path = rest;
             Ok(Focus::Visit(b, env, clock))
         }
         Frame::Join(test, first, saved) => {
-            path.edge = saved;
+            go_back(path, saved);
             Ok(Focus::Give(objs.merge(alloc, test, first, object)?))
         }
         Frame::Arguments(work, mut done, terms, env, clock) => {
@@ -90,8 +90,19 @@ pub(crate) fn give<'a, B: Bits>(
     }
 }
 
-/// Goes into the branches that an assignment of the path reaches. Branches without calls are done at once: they need no path,
-/// and no decision is taken.
+/// Goes back to the path to two branches, from that to the other one. An assignment that reaches this one reaches the two.
+fn go_back(path: &mut Path, saved: Path)
+    ensures edge { path.new.edge ≡ saved.edge }
+    ensures found { (path.new.found ≡ path.old.found) ⊎ (path.new.found ≡ saved.found) }
+{
+    if path.found.is_some() {
+        path.edge = saved.edge;
+    } else {
+        *path = saved;
+    }
+}
+
+/// Goes into the branches of a test. Branches without calls are done at once: they need no path, and no decision is taken.
 fn branch<'a, B: Bits>(
     alloc: Global,
     objs: &mut Sobs<B>,
@@ -129,7 +140,7 @@ fn branch<'a, B: Bits>(
     }
 }
 
-/// Which branches some assignment of a path reaches, each with its path where both are reached.
+/// Which branches are to be gone into: one that is taken on all of a path, or both, each with its path.
 #[derive(Drop)]
 pub enum Branches {
     First,
@@ -137,8 +148,8 @@ pub enum Branches {
     Both(Path, Path),
 }
 
-/// The branches of a test. The one that the path's own assignment takes is reached. No decision is taken where the test's
-/// edge is constant.
+/// The branches of a test. One is left out where the edge of its path is constant. Whether another is reached is asked later,
+/// where that matters.
 fn split<B: Bits>(
     alloc: Global,
     objs: &mut Sobs<B>,
@@ -160,38 +171,61 @@ fn split<B: Bits>(
         return Ok(Branches::Second);
     }
     let opposite = complement(objs, test);
-    if value(objs, test, &path.found) {
-        match narrow(alloc, objs, path.edge, opposite)? {
-            None => Ok(Branches::First),
-            Some(second) => Ok(Branches::Both(part(alloc, objs, path, test)?, second)),
-        }
-    } else {
-        match narrow(alloc, objs, path.edge, test)? {
-            None => Ok(Branches::Second),
-            Some(first) => Ok(Branches::Both(first, part(alloc, objs, path, opposite)?)),
-        }
-    }
+    let Some(second) = part(objs, path.edge, opposite)? else {
+        return Ok(Branches::First);
+    };
+    let Some(first) = part(objs, path.edge, test)? else {
+        return Ok(Branches::Second);
+    };
+    sides(alloc, objs, path, test, first, second)
 }
 
-/// The path's part where an edge is true that its own assignment makes true.
-fn part<B: Bits>(
+/// Both branches, by the edges of their paths. The path's own assignment goes with the one that it takes.
+fn sides<B: Bits>(
     alloc: Global,
     objs: &mut Sobs<B>,
     path: &Path,
-    edge: Edge,
-) -> Result<Path, GlFault>
+    test: Edge,
+    first: Edge,
+    second: Edge,
+) -> Result<Branches, GlFault>
     requires whole { IsWhole B.Meaning objs.old }
-    requires path { B.live objs.old.store path.now.edge }
-    requires edge { B.live objs.old.store edge }
+    requires test { B.live objs.old.store test }
     requires witnessed { IsWitnessed (B.truth_of objs.old.store) (B.width_of objs.old.store) path.now }
-    requires here { B.truth_of objs.old.store edge (value_at path.now.found) ≡ true }
+    requires first { IsPartEdge B.Meaning objs.old objs.old path.now.edge (B.truth_of objs.old.store test) first }
+    requires second { IsPartEdge B.Meaning objs.old objs.old path.now.edge (λ a. not (B.truth_of objs.old.store test a)) second }
     ensures leaves { Leaves B.Meaning objs.old objs.new }
-    ensures part { IfOk result (IsPartOf B.Meaning objs.old objs.new path.now.edge (B.truth_of objs.old.store edge)) }
+    ensures split { IfOk result (IsSplit B.Meaning objs.old objs.new path.now.edge test) }
     ensures cause { IfErr result (HasPlainCause B.Meaning objs.new) }
 {
-    let both = conjunction(objs, path.edge, edge)?;
-    Ok(Path {
-        edge: both,
-        found: copy_of(alloc, objs, &path.found)?,
-    })
+    let Some(found) = &path.found else {
+        return Ok(Branches::Both(unasked(first), unasked(second)));
+    };
+    let here = value(objs, test, found);
+    let copy = Some(copy_of(alloc, objs, found)?);
+    if here {
+        Ok(Branches::Both(
+            Path {
+                edge: first,
+                found: copy,
+            },
+            unasked(second),
+        ))
+    } else {
+        Ok(Branches::Both(
+            unasked(first),
+            Path {
+                edge: second,
+                found: copy,
+            },
+        ))
+    }
+}
+
+/// The path of an edge of which no assignment is known.
+fn unasked(edge: Edge) -> Path
+    ensures edge { result.edge ≡ edge }
+    ensures found { result.found ≡ None }
+{
+    Path { edge, found: None }
 }

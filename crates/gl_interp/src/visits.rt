@@ -1,6 +1,6 @@
 //! The turns that go into a term.
 
-ghost use Rattle.std.specs.Prelude.{◌≡◌, ℕ, Bool, List, length, IfOk, IfErr};
+ghost use Rattle.std.specs.Prelude.{◌≡◌, ℕ, Bool, false, Ok, None, List, length, IfOk, IfErr, IfSome};
 ghost use Rattle.gl_logic.specs.Definition.{Definition};
 ghost use Rattle.gl_logic.specs.Object.{nil};
 ghost use Rattle.gl_logic.specs.WorldSeen.{WorldSeen};
@@ -15,7 +15,7 @@ use super::constants::{PlaceFault, constant};
 use super::envs::{EnvId, Envs};
 use super::fault::GlFault;
 use super::frame::{Focus, Frame, Path, Work};
-use super::store_calls::copy_of;
+use super::store_calls::witness;
 use bfr_store::{Bits, Edge};
 use gl_logic::{Term, Tree};
 use lisp_eval::Machine;
@@ -50,7 +50,8 @@ pub(crate) fn visit<'a, B: Bits>(
             None => Ok(Focus::Give(nil(objs)?)),
         },
         Term::Const(tree) => match constant_of(alloc, objs, machine, path, tree) {
-            Ok(x) => Ok(Focus::Give(x)),
+            Ok(Some(x)) => Ok(Focus::Give(x)),
+            Ok(None) => Ok(Focus::Give(nil(objs)?)),
             Err(fault) => Err(fault),
         },
         Term::If(test, a, b) => {
@@ -93,26 +94,30 @@ pub(crate) fn nil<B: Bits>(objs: &mut Sobs<B>) -> Result<Sob, GlFault>
     Ok(objs.boolean(never)?)
 }
 
-/// The constant node of a tree's object.
+/// The constant node of a tree's object. None where there is no room for it and no assignment reaches the path.
 fn constant_of<B: Bits>(
     alloc: Global,
     objs: &mut Sobs<B>,
     machine: &mut Machine,
     path: &Path,
     tree: &Tree,
-) -> Result<Sob, GlFault>
+) -> Result<Option<Sob>, GlFault>
     requires whole { IsWhole B.Meaning objs.old }
     requires edge { B.live objs.old.store path.now.edge }
     requires witnessed { IsWitnessed (B.truth_of objs.old.store) (B.width_of objs.old.store) path.now }
     ensures leaves { Leaves B.Meaning objs.old objs.new }
-    ensures live { IfOk result (λ r. IsLive objs.new r) }
-    ensures means { IfOk result (λ r. (a : ℕ → Bool) → stands_for B.Meaning objs.new r a ≡ tree.now) }
+    ensures live { IfOk result (λ o. IfSome o (λ r. IsLive objs.new r)) }
+    ensures means { IfOk result (λ o. IfSome o (λ r. (a : ℕ → Bool) → stands_for B.Meaning objs.new r a ≡ tree.now)) }
+    ensures never { result ≡ Ok None → (a : ℕ → Bool) → B.truth_of objs.old.store path.now.edge a ≡ false }
     ensures cause { IfErr result (HasConstantCause B.Meaning objs.new machine.old path.now tree.now) }
     ensures rests { Rests machine.old machine.new }
 {
     match constant(alloc, objs, machine, tree) {
-        Ok(x) => Ok(x),
-        Err(PlaceFault::Cells) => Err(GlFault::Cells(copy_of(alloc, objs, &path.found)?)),
+        Ok(x) => Ok(Some(x)),
+        Err(PlaceFault::Cells) => match witness(alloc, objs, path)? {
+            Some(found) => Err(GlFault::Cells(found)),
+            None => Ok(None),
+        },
         Err(PlaceFault::Full) => Err(GlFault::Full),
         Err(PlaceFault::Memory) => Err(GlFault::Memory),
     }

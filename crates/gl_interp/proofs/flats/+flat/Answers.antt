@@ -2,7 +2,7 @@ use Rattle.std.proofs.Common.{◌≡◌, ℕ, Bool, sym, ap, ◌∙◌, get_or, 
 use Rattle.gl_logic.specs.Exp as exp
 use Rattle.gl_logic.specs.TermOf.{term_of}
 use Rattle.sym_objects.specs.Seen.{stands_for}
-use Rattle.sym_prims.proofs.Leaving.{leaves_of, leaves_then}
+use Rattle.sym_prims.proofs.Leaving.{leaves_of}
 use Rattle.gl_interp.specs.Environments.{env_under}
 use Rattle.gl_interp.specs.FlatValues.{IsPlainValue, StandsForTerm}
 use Rattle.gl_interp.proofs.Terms.{term_const, term_if, term_var}

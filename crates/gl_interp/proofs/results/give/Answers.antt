@@ -1,4 +1,4 @@
-use Rattle.std.proofs.Common.{sym, subst, ◌∷◌, List, IfOk}
+use Rattle.std.proofs.Common.{refl, sym, subst, ◌∷◌, List, IfOk}
 use Rattle.gl_interp.specs.declared.frame.Frame.{Frame}
 use Rattle.gl_interp.specs.declared.frame.Focus.TheVariants as focus
 use Rattle.gl_logic.specs.Definition.{Definition}
@@ -17,13 +17,13 @@ returns-in-Test-clause-turn g c =
 
 pub returns-in_ok-push-in-Other-clause-turn : goal.returns-in_ok-push-in-Other-clause-turn
 returns-in_ok-push-in-Other-clause-turn g c ds =
-    turn_other_at g.B.Meaning ds c.args.start c.args.path.now c.args.objs.now c.args.envs.now c.args.frames.now c.push.new.self c.args.frame c.in-Other.test c.in-Other.saved c.in-Other.rest c.in-Other.b c.in-Other.env c.in-Other.clock c.args.object
-    c.in-Other.is c.in_ok-push-in-Other.ensures.ok c.requires.ready
+    turn_other_at g.B.Meaning ds c.args.start c.args.path.now c.args.objs.now c.args.envs.now c.args.frames.now c.push.new.self c.args.frame c.in-Other.test c.in-Other.saved c.in-Other.rest _ c.in-Other.b c.in-Other.env c.in-Other.clock c.args.object
+    c.in-Other.is c.in_ok-push-in-Other.ensures.ok refl c.take-found.ensures.value c.requires.ready
 
 pub returns-in_ok-merge-in-Join-clause-turn : goal.returns-in_ok-merge-in-Join-clause-turn
 returns-in_ok-merge-in-Join-clause-turn g c ds =
-    turn_join_at g.B.Meaning ds c.args.start c.args.path.now c.args.objs.now c.merge.new.self c.args.envs.now (leaves_of g.B.Meaning c.args.objs.now c.merge.new.self c.in_ok-merge-in-Join.ensures.makes.keeps) c.args.frames.now c.args.frame c.in-Join.test c.in-Join.saved c.in-Join.first c.args.object _
-    c.in-Join.is c.requires.ready c.in_ok-merge-in-Join.ensures.makes.live c.in_ok-merge-in-Join.ensures.makes.means
+    turn_join_at g.B.Meaning ds c.args.start c.args.path.now c.args.objs.now c.merge.new.self c.args.envs.now (leaves_of g.B.Meaning c.args.objs.now c.merge.new.self c.in_ok-merge-in-Join.ensures.makes.keeps) c.args.frames.now c.args.frame c.in-Join.test c.in-Join.saved c.go_back.new.path c.in-Join.first c.args.object _
+    c.in-Join.is c.go_back.ensures.edge c.go_back.ensures.found c.requires.ready c.in_ok-merge-in-Join.ensures.makes.live c.in_ok-merge-in-Join.ensures.makes.means
 
 pub returns-in_ok-push-in-Arguments-clause-turn : goal.returns-in_ok-push-in-Arguments-clause-turn
 returns-in_ok-push-in-Arguments-clause-turn g c ds =
@@ -36,7 +36,7 @@ returns-in-Test-clause-terms g c =
 
 pub returns-in_ok-push-in-Other-clause-terms : goal.returns-in_ok-push-in-Other-clause-terms
 returns-in_ok-push-in-Other-clause-terms g c ds =
-    terms_other ds c.args.frames.now c.push.new.self c.args.frame c.in-Other.test c.in-Other.saved c.in-Other.rest c.in-Other.b c.in-Other.env c.in-Other.clock c.args.object c.in-Other.is c.in_ok-push-in-Other.ensures.ok
+    terms_other ds c.args.frames.now c.push.new.self c.args.frame c.in-Other.test c.in-Other.saved c.in-Other.rest _ c.in-Other.b c.in-Other.env c.in-Other.clock c.args.object c.in-Other.is c.in_ok-push-in-Other.ensures.ok
 
 pub returns-in_ok-merge-in-Join-clause-terms : goal.returns-in_ok-merge-in-Join-clause-terms
 returns-in_ok-merge-in-Join-clause-terms g c ds = terms_join ds c.args.frames.now c.args.frame c.args.object _
@@ -51,7 +51,7 @@ returns-in-Test-clause-falls g c =
 
 pub returns-in_ok-push-in-Other-clause-falls : goal.returns-in_ok-push-in-Other-clause-falls
 returns-in_ok-push-in-Other-clause-falls g c ds =
-    falls_other ds c.args.frames.now c.push.new.self c.args.frame c.in-Other.test c.in-Other.saved c.in-Other.rest c.in-Other.b c.in-Other.env c.in-Other.clock c.args.object c.in-Other.is c.in_ok-push-in-Other.ensures.ok
+    falls_other ds c.args.frames.now c.push.new.self c.args.frame c.in-Other.test c.in-Other.saved c.in-Other.rest _ c.in-Other.b c.in-Other.env c.in-Other.clock c.args.object c.in-Other.is c.in_ok-push-in-Other.ensures.ok
 
 pub returns-in_ok-merge-in-Join-clause-falls : goal.returns-in_ok-merge-in-Join-clause-falls
 returns-in_ok-merge-in-Join-clause-falls g c ds = falls_join ds c.args.frames.now c.args.frame c.in-Join.test c.in-Join.saved c.in-Join.first c.args.object c.in-Join.is

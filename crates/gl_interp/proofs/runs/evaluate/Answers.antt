@@ -14,8 +14,8 @@ pub returns-in-Width-clause-cause : goal.returns-in-Width-clause-cause
 returns-in-Width-clause-cause g c =
     let old = c.args.objs.now in
     let found = c.in_ok-found-in-Err-Eval.found in
-    let kept : Leaves g.B.Meaning old c.copy_of.new.objs = subst (λ s. Leaves g.B.Meaning old s) (sym c.in_ok-found-in-Err-Eval.ensures.same) (leaves_of g.B.Meaning old c.call.new.objs c.call.ensures.keeps) in (
-      on_path g.B.Meaning old c.copy_of.new.objs c.args.path.now found c.requires.witnessed kept c.requires.edge c.in_ok-found-in-Err-Eval.ensures.copy,
+    let kept : Leaves g.B.Meaning old c.known.new.objs = subst (λ s. Leaves g.B.Meaning old s) (sym c.in_ok-found-in-Err-Eval.ensures.same) (leaves_of g.B.Meaning old c.call.new.objs c.call.ensures.keeps) in (
+      on_path g.B.Meaning old c.known.new.objs c.args.path.now found c.requires.witnessed kept c.requires.edge c.in_ok-found-in-Err-Eval.ensures.copy,
       subst (λ e. HasEvalCause c.args.world.now c.args.machine.now c.args.f.number (values_under g.B.Meaning old c.args.args.now (value_at found)) e) c.in-Width.is
           (cause_eval g.B.Meaning c.call.new.objs c.args.world.now c.args.machine.now c.args.f.number (λ a. values_under g.B.Meaning old c.args.args.now a) c.call.result c.call.ensures.cause (value_at found) c.in-Err-Eval.field-0 c.in-Err-Eval.fault c.in-Err-Eval.is c.in-Err-Eval.field-0-is),
     )
@@ -24,8 +24,8 @@ pub returns-in-Steps-clause-cause : goal.returns-in-Steps-clause-cause
 returns-in-Steps-clause-cause g c =
     let old = c.args.objs.now in
     let found = c.in_ok-found-in-Err-Eval.found in
-    let kept : Leaves g.B.Meaning old c.copy_of.new.objs = subst (λ s. Leaves g.B.Meaning old s) (sym c.in_ok-found-in-Err-Eval.ensures.same) (leaves_of g.B.Meaning old c.call.new.objs c.call.ensures.keeps) in (
-      on_path g.B.Meaning old c.copy_of.new.objs c.args.path.now found c.requires.witnessed kept c.requires.edge c.in_ok-found-in-Err-Eval.ensures.copy,
+    let kept : Leaves g.B.Meaning old c.known.new.objs = subst (λ s. Leaves g.B.Meaning old s) (sym c.in_ok-found-in-Err-Eval.ensures.same) (leaves_of g.B.Meaning old c.call.new.objs c.call.ensures.keeps) in (
+      on_path g.B.Meaning old c.known.new.objs c.args.path.now found c.requires.witnessed kept c.requires.edge c.in_ok-found-in-Err-Eval.ensures.copy,
       subst (λ e. HasEvalCause c.args.world.now c.args.machine.now c.args.f.number (values_under g.B.Meaning old c.args.args.now (value_at found)) e) c.in-Steps.is
           (cause_eval g.B.Meaning c.call.new.objs c.args.world.now c.args.machine.now c.args.f.number (λ a. values_under g.B.Meaning old c.args.args.now a) c.call.result c.call.ensures.cause (value_at found) c.in-Err-Eval.field-0 c.in-Err-Eval.fault c.in-Err-Eval.is c.in-Err-Eval.field-0-is),
     )
@@ -34,8 +34,8 @@ pub returns-in-Cells-clause-cause : goal.returns-in-Cells-clause-cause
 returns-in-Cells-clause-cause g c =
     let old = c.args.objs.now in
     let found = c.in_ok-found-in-Err-Eval.found in
-    let kept : Leaves g.B.Meaning old c.copy_of.new.objs = subst (λ s. Leaves g.B.Meaning old s) (sym c.in_ok-found-in-Err-Eval.ensures.same) (leaves_of g.B.Meaning old c.call.new.objs c.call.ensures.keeps) in (
-      on_path g.B.Meaning old c.copy_of.new.objs c.args.path.now found c.requires.witnessed kept c.requires.edge c.in_ok-found-in-Err-Eval.ensures.copy,
+    let kept : Leaves g.B.Meaning old c.known.new.objs = subst (λ s. Leaves g.B.Meaning old s) (sym c.in_ok-found-in-Err-Eval.ensures.same) (leaves_of g.B.Meaning old c.call.new.objs c.call.ensures.keeps) in (
+      on_path g.B.Meaning old c.known.new.objs c.args.path.now found c.requires.witnessed kept c.requires.edge c.in_ok-found-in-Err-Eval.ensures.copy,
       subst (λ e. HasEvalCause c.args.world.now c.args.machine.now c.args.f.number (values_under g.B.Meaning old c.args.args.now (value_at found)) e) c.in-Cells.is
           (cause_eval g.B.Meaning c.call.new.objs c.args.world.now c.args.machine.now c.args.f.number (λ a. values_under g.B.Meaning old c.args.args.now a) c.call.result c.call.ensures.cause (value_at found) c.in-Err-Eval.field-0 c.in-Err-Eval.fault c.in-Err-Eval.is c.in-Err-Eval.field-0-is),
     )

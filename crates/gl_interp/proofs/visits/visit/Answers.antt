@@ -1,14 +1,15 @@
-use Rattle.std.proofs.Common.{◌≡◌, ◌∙◌, ap, sym, subst, refl, get_or, [], Some, length, ◌+◌, arith}
+use Rattle.std.proofs.Common.{◌≡◌, ◌∙◌, ap, sym, subst, refl, get_or, [], Ok, Some, length, ◌+◌, arith}
 use Rattle.gl_logic.specs.Environment.{look}
 use Rattle.gl_logic.specs.Exp as exp
 use Rattle.gl_logic.specs.TermOf.{term_of, terms_of}
 use Rattle.sym_objects.specs.Seen.{stands_for}
-use Rattle.sym_prims.proofs.Leaving.{leaves_none}
+use Rattle.sym_prims.proofs.Leaving.{leaves_none, leaves_then}
 use Rattle.gl_interp.specs.declared.frame.Work.TheVariants as work
 use Rattle.gl_interp.specs.declared.frame.Focus.TheVariants as focus
 use Rattle.gl_interp.specs.Environments.{objects_of}
 use Rattle.gl_interp.specs.Running.{Turn}
 use Rattle.gl_interp.specs.TurnsLeft.{call_turns, turns}
+use Rattle.gl_interp.proofs.Onward.{ok_some, turn_dropped}
 use Rattle.gl_interp.proofs.Terms.{term_var, term_const, term_if, term_prim, term_call, term_let}
 use Rattle.gl_interp.proofs.VisitTurns.{look_some, look_none, look_below, turn_visited, turn_if, turn_next}
 use Rattle.gl_logic.specs.IsTermOf.{IsTermOf}
@@ -36,11 +37,18 @@ returns-in_ok-nil-in-None-clause-turn g c ds =
     c.requires.ready made.leaves made.live
     (ap term_of c.in-Var.is ∙ term_var _) (λ k a. refl) (λ a. made.means a ∙ sym (look_none (λ z. stands_for g.B.Meaning old z a) (get_or es c.args.env.number []) c.in-Var.name.number (sym c.in-None.ensures)))
 
-pub returns-in-Ok-clause-turn : goal.returns-in-Ok-clause-turn
-returns-in-Ok-clause-turn g c ds =
-    let made = c.in-Ok.ensures in
-    turn_visited g.B.Meaning ds c.args.start c.args.path.now c.args.objs.now c.args.envs.now c.args.frames.now _ c.args.term c.args.env c.args.clock (exp.Const c.in-Const.tree) _
-    (λ a. c.in-Const.tree) c.requires.ready made.leaves made.live (ap term_of c.in-Const.is ∙ term_const _) (λ k a. refl) made.means
+pub returns-in-Ok-Some-clause-turn : goal.returns-in-Ok-Some-clause-turn
+returns-in-Ok-Some-clause-turn g c ds =
+    let made = c.constant_of.ensures in
+    let is = c.in-Ok-Some.is ∙ ap Ok c.in-Ok-Some.field-0-is in
+    turn_visited g.B.Meaning ds c.args.start c.args.path.now c.args.objs.now c.args.envs.now c.args.frames.now _ c.args.term c.args.env c.args.clock (exp.Const c.in-Const.tree) c.in-Ok-Some.x
+    (λ a. c.in-Const.tree) c.requires.ready made.leaves (ok_some _ _ _ is made.live) (ap term_of c.in-Const.is ∙ term_const _) (λ k a. refl) (ok_some _ _ _ is made.means)
+
+pub returns-in_ok-nil-in-Ok-None-clause-turn : goal.returns-in_ok-nil-in-Ok-None-clause-turn
+returns-in_ok-nil-in-Ok-None-clause-turn g c ds =
+    let made = c.in_ok-nil-in-Ok-None.ensures in
+    turn_dropped g.B.Meaning ds c.args.start c.args.path.now c.args.objs.now _ c.args.envs.now (leaves_then g.B.Meaning c.args.objs.now c.constant_of.new.objs _ c.constant_of.ensures.leaves made.leaves) c.args.frames.now (focus.Visit c.args.term c.args.env c.args.clock) _
+    c.requires.ready (c.constant_of.ensures.never (c.in-Ok-None.is ∙ ap Ok c.in-Ok-None.field-0-is)) made.live
 
 pub returns-in_ok-push-in-If-clause-turn : goal.returns-in_ok-push-in-If-clause-turn
 returns-in_ok-push-in-If-clause-turn g c ds =
@@ -96,8 +104,11 @@ returns-in-Some-clause-falls g c ds = falls_visited ds c.args.frames.now c.args.
 pub returns-in_ok-nil-in-None-clause-falls : goal.returns-in_ok-nil-in-None-clause-falls
 returns-in_ok-nil-in-None-clause-falls g c ds = falls_visited ds c.args.frames.now c.args.term c.args.env c.args.clock
 
-pub returns-in-Ok-clause-falls : goal.returns-in-Ok-clause-falls
-returns-in-Ok-clause-falls g c ds = falls_visited ds c.args.frames.now c.args.term c.args.env c.args.clock
+pub returns-in-Ok-Some-clause-falls : goal.returns-in-Ok-Some-clause-falls
+returns-in-Ok-Some-clause-falls g c ds = falls_visited ds c.args.frames.now c.args.term c.args.env c.args.clock
+
+pub returns-in_ok-nil-in-Ok-None-clause-falls : goal.returns-in_ok-nil-in-Ok-None-clause-falls
+returns-in_ok-nil-in-Ok-None-clause-falls g c ds = falls_visited ds c.args.frames.now c.args.term c.args.env c.args.clock
 
 pub returns-in_ok-push-in-If-clause-falls : goal.returns-in_ok-push-in-If-clause-falls
 returns-in_ok-push-in-If-clause-falls g c ds =
