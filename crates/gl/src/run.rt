@@ -8,7 +8,7 @@ ghost use Rattle.gl_book.specs.Generated.{generated};
 ghost use Rattle.gl_words.specs.Usage.{usage_line};
 ghost use Rattle.gl_words.specs.Words.{order_of};
 ghost use Rattle.gl_words.specs.CommandOf.{order_seen, source_seen, IsFew, IsWithin};
-ghost use Rattle.gl.specs.Runs.{HasRun, IsOfSource, IsUnread, MayRun, Writes, WritesFrom, WritesJudgement, WritesOrder, IfTranscript, IfProof, IfJudge};
+ghost use Rattle.gl.specs.Runs.{HasRun, IsOfSource, IsUnread, MayRun, WritesFrom, WritesOrder};
 ghost use Rattle.gl.specs.Proving.{WritesProof};
 
 use crate::judging::run_judgement;
@@ -53,20 +53,12 @@ pub fn run<R: Threads + Sync, S: Shelf, K: Sink>(
     ensures unread { IfNone (order_of (map string_bytes words.now)) (shelf.new ≡ shelf.old) }
     ensures unstalled { IfNone (order_of (map string_bytes words.now)) (out.new.stalls ≡ out.old.stalls) }
 
-    // The words ask for a transcript: what was written is that of the command with this status and the command's limits, or
-    // with `--generate` the last line of it, and a front of one where a write failed or memory was refused. Its stalls were
-    // added, one for each line of the causes nodes and clauses, in order. Where the shelf does not tell a text's bytes, it
-    // is so for some bytes.
-    ensures transcript { IfTranscript (order_of (map string_bytes words.now)) (λ command. result ≢ Status.ReadFault → Writes command (S.holds shelf.old) (K.written out.old.sink) (K.written out.new.sink) out.old.stalls out.new.stalls result) }
-
-    // The words ask for a text of a proof: what was written is what is told of the last theorem of the book of this name, by
-    // one walk over its bytes, with this status and its stalls; a front of it where a write failed, and a front or nothing where
-    // memory was refused. Where the shelf does not tell the book's bytes, it is so for some bytes.
-    ensures proof { IfProof (order_of (map string_bytes words.now)) (λ bounds name part. result ≢ Status.ReadFault → WritesProof bounds part (S.holds shelf.old) name (K.written out.old.sink) (K.written out.new.sink) out.old.stalls out.new.stalls result) }
-
-    // The words ask for a judgement on two texts: what was written is its line, with this status; a front of the line where a
-    // write failed, and nothing where memory was refused. No stall was added.
-    ensures judgement { IfJudge (order_of (map string_bytes words.now)) (λ cnf log. result ≢ Status.ReadFault → WritesJudgement cnf log (S.holds shelf.old) (K.written out.old.sink) (K.written out.new.sink) out.old.stalls out.new.stalls result) }
+    // The words ask for something. For a transcript: what was written is that of the command with this status and the command's
+    // limits, or with `--generate` the last line of it. Its stalls were added, one for each line of the causes nodes and clauses,
+    // in order. For a text of a proof: what is told of the last theorem of the book of this name, by one walk over its bytes, with
+    // this status and its stalls. For a judgement: its line, with this status and no stall. Where a write failed or memory was
+    // refused, a front of that was written. Where the shelf does not tell a text's bytes, it is so for some bytes.
+    ensures written { IfSome (order_of (map string_bytes words.now)) (λ order. result ≢ Status.ReadFault → WritesOrder order (S.holds shelf.old) (K.written out.old.sink) (K.written out.new.sink) out.old.stalls out.new.stalls result) }
 
     // Why the run failed: with status 4, a text that was asked for could not be opened or read.
     ensures read_fault { result ≡ Status.ReadFault → IsUnread (order_of (map string_bytes words.now)) (S.holds shelf.old) (S.faults shelf.old) (S.faults shelf.new) }

@@ -76,27 +76,18 @@ open_input _ = []
 abbrev pub open_lines : List (List ℕ) → ℕ → List ℕ → Verdict → List (List ℕ)
 open_lines names t what v = named_line names (codes "UNDECIDED ") t (what ++ open_words names v) ∷ input_lines names (open_input v)
 
-abbrev pub proved_line : List (List ℕ) → ℕ → List ℕ
-proved_line names t = named_line names (codes "PROVED ") t []
-
-abbrev pub vacuous_line : List (List ℕ) → ℕ → List ℕ
-vacuous_line names t = named_line names (codes "VACUOUS ") t []
-
-abbrev pub refuted_lines : List (List ℕ) → ℕ → List (ℕ × Object) → List (List ℕ)
-refuted_lines names t env = named_line names (codes "REFUTED ") t [] ∷ input_lines names env
-
 abbrev pub verdict_lines : List (List ℕ) → ℕ → Verdict → List (List ℕ)
-verdict_lines names t verdict.Proved = proved_line names t ∷ []
-verdict_lines names t verdict.Vacuous = vacuous_line names t ∷ []
-verdict_lines names t (verdict.Refuted env) = refuted_lines names t env
+verdict_lines names t verdict.Proved = named_line names (codes "PROVED ") t [] ∷ []
+verdict_lines names t verdict.Vacuous = named_line names (codes "VACUOUS ") t [] ∷ []
+verdict_lines names t (verdict.Refuted env) = named_line names (codes "REFUTED ") t [] ∷ input_lines names env
 verdict_lines names t v = open_lines names t [] v
 
 -- ---- theorems by cases
 -- an input of the hypothesis that is of no case; the cover, or the case with its number, that is left undecided
 abbrev pub cases_lines : List (List ℕ) → ℕ → CasesVerdict → List (List ℕ)
-cases_lines names t whole.Proved = proved_line names t ∷ []
-cases_lines names t whole.Vacuous = vacuous_line names t ∷ []
-cases_lines names t (whole.Refuted env) = refuted_lines names t env
+cases_lines names t whole.Proved = verdict_lines names t verdict.Proved
+cases_lines names t whole.Vacuous = verdict_lines names t verdict.Vacuous
+cases_lines names t (whole.Refuted env) = verdict_lines names t (verdict.Refuted env)
 cases_lines names t (whole.Uncased env) = named_line names (codes "UNDECIDED ") t (codes " uncased") ∷ input_lines names env
 cases_lines names t (whole.Cover v) = open_lines names t (codes " cover") v
 cases_lines names t (whole.Case i v) = open_lines names t (codes " case " ++ decimal i) v
@@ -138,37 +129,9 @@ cause_word cause.Memory = codes "memory"
 abbrev pub undecided_line : List ℕ → Cause → List ℕ
 undecided_line word c = word ++ (codes " undecided " ++ (cause_word c ++ 10 ∷ []))
 
-abbrev pub value_lines : List (List ℕ) → Answer → List (List ℕ)
-value_lines names (answer.Value x) = (codes "VALUE " ++ (printed names x ++ 10 ∷ [])) ∷ []
-value_lines names (answer.Undecided c) = undecided_line (codes "VALUE") c ∷ []
-value_lines names _ = []
-
 abbrev pub truth_word : Bool → List ℕ
 truth_word true = codes "ok"
 truth_word false = codes "nil"
-
-abbrev pub assert_lines : Answer → List (List ℕ)
-assert_lines (answer.Truth b) = (codes "ASSERT " ++ (truth_word b ++ 10 ∷ [])) ∷ []
-assert_lines (answer.Undecided c) = undecided_line (codes "ASSERT") c ∷ []
-assert_lines _ = []
-
--- a constant without a value is refused, and has no line of its own
-abbrev pub constant_lines : List (List ℕ) → ℕ → Answer → List (List ℕ)
-constant_lines names t (answer.Value x) = named_line names (codes "DEFCONST ") t (codes " " ++ printed names x) ∷ []
-constant_lines names t _ = []
-
--- ---- events
-abbrev pub function_lines : List (List ℕ) → List ℕ → Answer → List (List ℕ)
-function_lines names word (answer.Function t) = named_line names word t.number [] ∷ []
-function_lines names word _ = []
-
-abbrev pub theorem_lines : List (List ℕ) → ℕ → Answer → List (List ℕ)
-theorem_lines names t (answer.Decided v) = verdict_lines names t v
-theorem_lines names t _ = []
-
-abbrev pub by_cases_lines : List (List ℕ) → ℕ → Answer → List (List ℕ)
-by_cases_lines names t (answer.ByCases v) = cases_lines names t v
-by_cases_lines names t _ = []
 
 abbrev pub mode_line : Mode → List ℕ
 mode_line mode.Bdd = codes "MODE BDD" ++ 10 ∷ []
@@ -178,23 +141,24 @@ mode_line mode.Param = codes "MODE PARAM" ++ 10 ∷ []
 abbrev pub redundant_line : List (List ℕ) → ℕ → List ℕ
 redundant_line names t = named_line names (codes "REDUNDANT ") t []
 
--- of an event with its answer
+-- of an event with its answer. A constant without a value is refused, and has no line of its own
 abbrev pub event_lines : List (List ℕ) → EventSeen → Answer → List (List ℕ)
 event_lines names (Redundant t) a = redundant_line names t ∷ []
 event_lines names (RedundantClique ts) a = map (redundant_line names) ts
 event_lines names (Defun d) a = defun_line names d ∷ []
 event_lines names (Clique ds) a = map (defun_line names) ds
-event_lines names (Defconst t body) a = constant_lines names t a
-event_lines names (Value body) a = value_lines names a
-event_lines names (Assert body) a = assert_lines a
-event_lines names (Memoize f) a = function_lines names (codes "MEMOIZE ") a
-event_lines names (Unmemoize f) a = function_lines names (codes "UNMEMOIZE ") a
 event_lines names (SetMode m) a = mode_line m ∷ []
-event_lines names (Theorem thm) a = theorem_lines names thm.name a
-event_lines names (Cases thm) a = by_cases_lines names thm.cover.name a
-event_lines names _ a = []
+event_lines names (Defconst t body) (answer.Value x) = named_line names (codes "DEFCONST ") t (codes " " ++ printed names x) ∷ []
+event_lines names (Value body) (answer.Value x) = (codes "VALUE " ++ (printed names x ++ 10 ∷ [])) ∷ []
+event_lines names (Value body) (answer.Undecided c) = undecided_line (codes "VALUE") c ∷ []
+event_lines names (Assert body) (answer.Truth b) = (codes "ASSERT " ++ (truth_word b ++ 10 ∷ [])) ∷ []
+event_lines names (Assert body) (answer.Undecided c) = undecided_line (codes "ASSERT") c ∷ []
+event_lines names (Memoize f) (answer.Function t) = named_line names (codes "MEMOIZE ") t.number [] ∷ []
+event_lines names (Unmemoize f) (answer.Function t) = named_line names (codes "UNMEMOIZE ") t.number [] ∷ []
+event_lines names (Theorem thm) (answer.Decided v) = verdict_lines names thm.name v
+event_lines names (Cases thm) (answer.ByCases v) = cases_lines names thm.cover.name v
+event_lines names _ _ = []
 
--- ---- refusals
 abbrev pub read_word : ReadCode → List ℕ
 read_word read.EndInside = codes "S1"
 read_word read.StrayClose = codes "S2"
@@ -264,20 +228,14 @@ is_refuted (answer.Decided (verdict.Refuted env)) = true
 is_refuted (answer.ByCases (whole.Refuted env)) = true
 is_refuted _ = false
 
+abbrev pub is_decided : Answer → Bool
+is_decided a = is_proved a || is_vacuous a || is_refuted a
+
 -- a value or a truth that is not there, and a theorem with any other verdict
 abbrev pub is_undecided : Answer → Bool
 is_undecided (answer.Undecided why) = true
-is_undecided (answer.Decided (verdict.Uncovered v)) = true
-is_undecided (answer.Decided (verdict.Clock p env)) = true
-is_undecided (answer.Decided (verdict.Width p env)) = true
-is_undecided (answer.Decided (verdict.Steps p env)) = true
-is_undecided (answer.Decided (verdict.Cells p env)) = true
-is_undecided (answer.Decided (verdict.Nodes s)) = true
-is_undecided (answer.Decided (verdict.Clauses s)) = true
-is_undecided (answer.Decided verdict.Memory) = true
-is_undecided (answer.ByCases (whole.Uncased env)) = true
-is_undecided (answer.ByCases (whole.Cover v)) = true
-is_undecided (answer.ByCases (whole.Case i v)) = true
+is_undecided (answer.Decided v) = not (is_decided (answer.Decided v))
+is_undecided (answer.ByCases v) = not (is_decided (answer.ByCases v))
 is_undecided _ = false
 
 -- an asserted value that is NIL
@@ -288,8 +246,7 @@ is_failed _ = false
 -- how many entries are answers of a kind
 abbrev pub is_answer : (Answer → Bool) → Entry → Bool
 is_answer is_one (Answered e a) = is_one a
-is_answer is_one (Marked m) = false
-is_answer is_one (Refused r) = false
+is_answer is_one _ = false
 
 abbrev pub count_of : (Answer → Bool) → List Entry → ℕ
 count_of is_one entries = count_by (is_answer is_one) entries
@@ -305,9 +262,8 @@ abbrev pub transcript_lines : List (List ℕ) → List Entry → List (List ℕ)
 transcript_lines names entries = flat_map (entry_lines names) entries ++ done_line (counts_of entries) ∷ []
 
 abbrev pub is_refusal : Entry → Bool
-is_refusal (Answered e a) = false
-is_refusal (Marked m) = false
 is_refusal (Refused r) = true
+is_refusal _ = false
 
 -- the status of a book that is not refused
 abbrev pub status_by : Counts → Status

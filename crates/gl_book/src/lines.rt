@@ -1,14 +1,16 @@
 //! The lines of a transcript: of each event with its answer.
 
-ghost use Rattle.std.specs.Prelude.{◌≡◌, [], ◌∷◌, ◌++◌, length, codes, map, IfOk, OnOk};
+ghost use Rattle.std.specs.Prelude.{◌≡◌, ℕ, List, [], ◌∷◌, ◌++◌, length, codes, map, IfOk, OnOk};
 ghost use Rattle.std.specs.Fmt.{decimal};
 ghost use Rattle.gl_logic.specs.DefinitionOf.{definition_of};
 ghost use Rattle.sexp_print.specs.Printed.{printed};
 ghost use Rattle.event_world.specs.Seen.{event_seen};
+ghost use Rattle.gl_logic.specs.Exp.{Exp};
+ghost use Rattle.event_world.specs.EventSeen.{Assert, Cases, Defconst, Memoize, Theorem, Unmemoize, Value};
+ghost use Rattle.shape_spec.specs.TheoremSeen.{TheoremSeen};
+ghost use Rattle.gl_cases.specs.Parts.{ParamSeen};
 ghost use Rattle.gl_book.specs.Lines.{named_line, input_lines, part_word, open_words, open_input, open_lines};
-ghost use Rattle.gl_book.specs.Lines.{refuted_lines, verdict_lines, cases_lines, redundant_line, defun_line, constant_lines};
-ghost use Rattle.gl_book.specs.Lines.{value_lines, assert_lines, undecided_line, function_lines, mode_line};
-ghost use Rattle.gl_book.specs.Lines.{theorem_lines, by_cases_lines, event_lines};
+ghost use Rattle.gl_book.specs.Lines.{verdict_lines, cases_lines, redundant_line, defun_line, undecided_line, mode_line, event_lines};
 
 use super::answer::{Answer, Cause};
 use super::cases::CasesVerdict;
@@ -102,7 +104,7 @@ fn add_constant(
     texts: &Texts,
     lines: &mut Lines,
 ) -> Result<(), NoMemory>
-    ensures { OnOk result (lines.new ≡ lines.old ++ constant_lines texts.now name.number answer.now) }
+    ensures { (body : Exp) → OnOk result (lines.new ≡ lines.old ++ event_lines texts.now (Defconst name.number body) answer.now) }
 {
     match answer {
         Answer::Value(value) => {
@@ -122,7 +124,7 @@ fn add_value(
     texts: &Texts,
     lines: &mut Lines,
 ) -> Result<(), NoMemory>
-    ensures { OnOk result (lines.new ≡ lines.old ++ value_lines texts.now answer.now) }
+    ensures { (body : Exp) → OnOk result (lines.new ≡ lines.old ++ event_lines texts.now (Value body) answer.now) }
 {
     match answer {
         Answer::Value(value) => {
@@ -139,7 +141,7 @@ fn add_value(
 
 /// Adds the line of an assert.
 fn add_assert(alloc: Global, answer: &Answer, lines: &mut Lines) -> Result<(), NoMemory>
-    ensures { OnOk result (lines.new ≡ lines.old ++ assert_lines answer.now) }
+    ensures { (names : List (List ℕ)) (body : Exp) → OnOk result (lines.new ≡ lines.old ++ event_lines names (Assert body) answer.now) }
 {
     match answer {
         Answer::Truth(true) => add_plain(alloc, b"ASSERT ok\n", lines),
@@ -173,7 +175,8 @@ fn add_function(
     texts: &Texts,
     lines: &mut Lines,
 ) -> Result<(), NoMemory>
-    ensures { OnOk result (lines.new ≡ lines.old ++ function_lines texts.now word.now answer.now) }
+    ensures memoize { word.now ≡ codes "MEMOIZE " → (f : ℕ) → OnOk result (lines.new ≡ lines.old ++ event_lines texts.now (Memoize f) answer.now) }
+    ensures unmemoize { word.now ≡ codes "UNMEMOIZE " → (f : ℕ) → OnOk result (lines.new ≡ lines.old ++ event_lines texts.now (Unmemoize f) answer.now) }
 {
     match answer {
         Answer::Function(name) => add_named(alloc, word, *name, b"", texts, lines),
@@ -200,7 +203,7 @@ fn add_theorem(
     texts: &Texts,
     lines: &mut Lines,
 ) -> Result<(), NoMemory>
-    ensures { OnOk result (lines.new ≡ lines.old ++ theorem_lines texts.now name.number answer.now) }
+    ensures { (thm : TheoremSeen) → thm.name ≡ name.number → OnOk result (lines.new ≡ lines.old ++ event_lines texts.now (Theorem thm) answer.now) }
 {
     match answer {
         Answer::Decided(verdict) => add_verdict(alloc, name, verdict, texts, lines),
@@ -241,7 +244,7 @@ fn add_by_cases(
     texts: &Texts,
     lines: &mut Lines,
 ) -> Result<(), NoMemory>
-    ensures { OnOk result (lines.new ≡ lines.old ++ by_cases_lines texts.now name.number answer.now) }
+    ensures { (thm : ParamSeen) → thm.cover.name ≡ name.number → OnOk result (lines.new ≡ lines.old ++ event_lines texts.now (Cases thm) answer.now) }
 {
     match answer {
         Answer::ByCases(verdict) => add_cases(alloc, name, verdict, texts, lines),
@@ -297,7 +300,7 @@ fn add_refuted(
     texts: &Texts,
     lines: &mut Lines,
 ) -> Result<(), NoMemory>
-    ensures { OnOk result (lines.new ≡ lines.old ++ refuted_lines texts.now name.number input.now) }
+    ensures { OnOk result (lines.new ≡ lines.old ++ named_line texts.now (codes "REFUTED ") name.number [] ∷ input_lines texts.now input.now) }
 {
     add_named(alloc, b"REFUTED ", name, b"", texts, lines)?;
     add_input(alloc, input, texts, lines)

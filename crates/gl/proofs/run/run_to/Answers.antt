@@ -26,9 +26,7 @@ returns-clause-headline g c =
       usage_front = r.usage_front;
       usage_memory = none_then order (λ h e. ap (λ (t : Transcript (WriterSeen g.row.W.Denot)). contents t.sink.writer) (h e)) r.usage_memory;
       unstalled = r.unstalled;
-      transcript = r.transcript;
-      proof = r.proof;
-      judgement = r.judgement;
+      written = r.written;
       unwritten = r.unwritten;
       none_added = r.none_added;
     })
