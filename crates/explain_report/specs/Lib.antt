@@ -2,3 +2,4 @@ pub mod Bases
 pub mod Put
 pub mod Said
 pub mod Shown
+pub mod Words

@@ -1,5 +1,7 @@
 //! What is at fault in a text, for programs.
 
+ghost use Rattle.std.specs.Prelude.{◌≡◌, IfOk};
+
 use gl_logic::NoMemory;
 use std::alloc::Global;
 
@@ -30,7 +32,10 @@ impl Fault {
         file: &[u8],
         start: At,
         end: At,
-    ) -> Result<Fault, NoMemory> {
+    ) -> Result<Fault, NoMemory>
+        ensures said { IfOk result (λ f. (f.code.now ≡ code.now) × (f.words.items ≡ words.items)) }
+        ensures place { IfOk result (λ f. (f.file.items ≡ file.now) × (f.start ≡ start) × (f.end ≡ end)) }
+    {
         Ok(Fault {
             code,
             words,

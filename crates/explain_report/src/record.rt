@@ -1,6 +1,7 @@
 //! What is known of a line of a transcript that is no line of an input.
 
-ghost use Rattle.std.specs.Prelude.{◌≡◌, IfOk};
+ghost use Rattle.std.specs.Prelude.{◌≡◌, IfOk, option_map, take};
+ghost use Rattle.explain_report.specs.Words.{verdict_word, cause_word, lack_word, asks_for_look, tells_event};
 
 use crate::fault::Fault;
 use gl_logic::{NoMemory, TextId, Tree};
@@ -106,7 +107,9 @@ impl Found {
     }
 
     /// The word for what leaves its event open: the cause, or that the event is refused; none where it is decided.
-    pub fn lack(&self) -> Option<&'static str> {
+    pub fn lack(&self) -> Option<&'static str>
+        ensures { option_map (λ w. w.now) result ≡ lack_word self.now.verdict self.now.cause }
+    {
         match self.verdict {
             Verdict::Undecided => self.cause.map(Cause::word),
             Verdict::Refused => Some("refused"),
@@ -169,7 +172,9 @@ impl Record {
 
 impl Cause {
     /// Its word.
-    pub fn word(self) -> &'static str {
+    pub fn word(self) -> &'static str
+        ensures { result.now ≡ cause_word self }
+    {
         match self {
             Cause::Uncovered(_, _) => "uncovered",
             Cause::Uncased => "uncased",
@@ -187,7 +192,9 @@ impl Cause {
 
 impl Verdict {
     /// Its word.
-    pub fn word(self) -> &'static str {
+    pub fn word(self) -> &'static str
+        ensures { result.now ≡ verdict_word self }
+    {
         match self {
             Verdict::Proved => "proved",
             Verdict::Vacuous => "vacuous",
@@ -204,7 +211,9 @@ impl Verdict {
     }
 
     /// Whether it asks for a look.
-    pub fn is_trouble(self) -> bool {
+    pub fn is_trouble(self) -> bool
+        ensures { result ≡ asks_for_look self }
+    {
         matches!(
             self,
             Verdict::Vacuous
@@ -216,16 +225,16 @@ impl Verdict {
     }
 
     /// Whether it is of an event.
-    pub fn is_of_event(self) -> bool {
+    pub fn is_of_event(self) -> bool
+        ensures { result ≡ tells_event self }
+    {
         !matches!(self, Verdict::Mark | Verdict::Done)
     }
 }
 
 /// The first bytes of a text.
-pub fn front_of(text: &[u8], count: usize) -> &[u8] {
-    if count <= text.len() {
-        &text[..count]
-    } else {
-        text
-    }
+pub fn front_of(text: &[u8], count: usize) -> &[u8]
+    ensures { result.now ≡ take count text.now }
+{
+    &text[..count.min(text.len())]
 }
