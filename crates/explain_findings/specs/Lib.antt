@@ -1,3 +1,4 @@
 pub mod Replayed
 pub mod Founds
 pub mod Questions
+pub mod Forms

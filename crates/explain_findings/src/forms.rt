@@ -1,6 +1,11 @@
 //! Forms: their words, what stands behind their heads, and the options of an event.
 
-use gl_logic::{NoMemory, Texts, Tree, TreeKind};
+ghost use Rattle.std.specs.Prelude.{◌≡◌, IfOk};
+ghost use Rattle.std.specs.Option.{option_map};
+ghost use Rattle.sexp_print.specs.Printed.{printed as printed_meant};
+ghost use Rattle.explain_findings.specs.Forms.{word_of as word_meant, head_of as head_meant, name_in as name_meant};
+
+use gl_logic::{NoMemory, TextId, Texts, Tree, TreeKind};
 use sexp_print::print;
 use std::alloc::Global;
 
@@ -11,7 +16,9 @@ const MOST_PARTS: usize = 4000;
 const MOST_PIECES: usize = 20_000_000;
 
 /// The word that an object is; empty where it is no symbol.
-pub fn word_of<'a>(texts: &'a Texts, tree: &Tree) -> &'a [u8] {
+pub fn word_of<'a>(texts: &'a Texts, tree: &Tree) -> &'a [u8]
+    ensures { result.now ≡ word_meant texts.now tree.now }
+{
     match tree.kind() {
         TreeKind::Symbol(name) => texts.text(name),
         _ => &[],
@@ -19,10 +26,25 @@ pub fn word_of<'a>(texts: &'a Texts, tree: &Tree) -> &'a [u8] {
 }
 
 /// The word with which a form begins.
-pub fn head_of<'a>(texts: &'a Texts, form: &Tree) -> &'a [u8] {
+pub fn head_of<'a>(texts: &'a Texts, form: &Tree) -> &'a [u8]
+    ensures { result.now ≡ head_meant texts.now form.now }
+{
     match form.elements() {
         [.., head] => word_of(texts, head),
         [] => &[],
+    }
+}
+
+/// The symbol behind the head of a form.
+pub fn name_in(form: &Tree) -> Option<TextId>
+    ensures { option_map (λ t. t.number) result ≡ name_meant form.now }
+{
+    match form.elements() {
+        [.., name, _] => match name.kind() {
+            TreeKind::Symbol(name) => Some(name),
+            _ => None,
+        },
+        _ => None,
     }
 }
 
@@ -75,7 +97,9 @@ pub fn is_among(word: &[u8], words: &str) -> bool {
 }
 
 /// The bytes of an object.
-pub(crate) fn printed(alloc: Global, tree: &Tree, texts: &Texts) -> Result<Vec<u8>, NoMemory> {
+pub(crate) fn printed(alloc: Global, tree: &Tree, texts: &Texts) -> Result<Vec<u8>, NoMemory>
+    ensures { IfOk result (λ bytes. bytes.items ≡ printed_meant texts.now tree.now) }
+{
     let mut bytes = Vec::new(alloc);
     print(alloc, tree, texts, &mut bytes)?;
     Ok(bytes)

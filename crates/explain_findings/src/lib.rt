@@ -41,7 +41,7 @@ pub use asker::Asker;
 pub use attempts::Attempts;
 pub use evaluation::widths_of;
 pub use findings::put_finding;
-pub use forms::{head_of, is_among, word_of};
+pub use forms::{head_of, is_among, name_in, word_of};
 pub use found::found_of;
 pub use modes::put_modes;
 pub use opening::Before;

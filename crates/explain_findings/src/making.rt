@@ -1,5 +1,8 @@
 //! Forms that are made here.
 
+ghost use Rattle.std.specs.Prelude.{◌≡◌, IfOk};
+ghost use Rattle.gl_logic.specs.Object.{Cons, car, cdr, nil};
+
 use gl_logic::{NoMemory, Texts, Tree};
 use std::alloc::Global;
 
@@ -37,7 +40,9 @@ pub(crate) fn call_on(
     texts: &mut Texts,
     head: &[u8],
     operand: Tree,
-) -> Result<Tree, NoMemory> {
+) -> Result<Tree, NoMemory>
+    ensures { IfOk result (λ t. cdr t ≡ Cons operand nil) }
+{
     let operands = Tree::pair(alloc, operand, Tree::nil())?;
     Tree::pair(alloc, word(texts, head)?, operands)
 }
@@ -49,14 +54,18 @@ pub(crate) fn call_on_two(
     head: &[u8],
     first: Tree,
     second: Tree,
-) -> Result<Tree, NoMemory> {
+) -> Result<Tree, NoMemory>
+    ensures { IfOk result (λ t. cdr t ≡ Cons first (Cons second nil)) }
+{
     let rest = Tree::pair(alloc, second, Tree::nil())?;
     let operands = Tree::pair(alloc, first, rest)?;
     Tree::pair(alloc, word(texts, head)?, operands)
 }
 
 /// An object behind a quote.
-pub(crate) fn quoted(alloc: Global, texts: &mut Texts, object: &Tree) -> Result<Tree, NoMemory> {
+pub(crate) fn quoted(alloc: Global, texts: &mut Texts, object: &Tree) -> Result<Tree, NoMemory>
+    ensures { IfOk result (λ t. cdr t ≡ Cons object.now nil) }
+{
     let object = object.copy(alloc)?;
     call_on(alloc, texts, b"QUOTE", object)
 }
@@ -67,7 +76,9 @@ pub(crate) fn binding(
     texts: &mut Texts,
     variable: Tree,
     object: &Tree,
-) -> Result<Tree, NoMemory> {
+) -> Result<Tree, NoMemory>
+    ensures { IfOk result (λ t. car t ≡ variable) }
+{
     let object = quoted(alloc, texts, object)?;
     let rest = Tree::pair(alloc, object, Tree::nil())?;
     Tree::pair(alloc, variable, rest)

@@ -1,5 +1,7 @@
 //! How far a trial is: rounds under limits that grow, as far as they cost no more than there is time for.
 
+ghost use Rattle.std.specs.Prelude.{◌≡◌, false, true};
+
 use gl_base::limits::Limits;
 
 /// How many nodes, and how many clauses, a trial begins with at most.
@@ -57,7 +59,11 @@ pub(crate) fn with_room(limits: &Limits, nodes: u32, clauses: u32) -> Limits {
 }
 
 /// Limits with all steps.
-pub(crate) fn with_steps(limits: &Limits) -> Limits {
+pub(crate) fn with_steps(limits: &Limits) -> Limits
+    ensures steps { result.steps ≡ 99999999 }
+    ensures others { (result.cells ≡ limits.now.cells) × (result.nodes ≡ limits.now.nodes) × (result.clauses ≡ limits.now.clauses) }
+    ensures widest { result.enum_bits ≡ limits.now.enum_bits }
+{
     Limits {
         steps: 99_999_999,
         cells: limits.cells,
@@ -69,7 +75,11 @@ pub(crate) fn with_steps(limits: &Limits) -> Limits {
 }
 
 /// Limits with all cells.
-pub(crate) fn with_cells(limits: &Limits) -> Limits {
+pub(crate) fn with_cells(limits: &Limits) -> Limits
+    ensures cells { result.cells ≡ 4000000 }
+    ensures others { (result.steps ≡ limits.now.steps) × (result.nodes ≡ limits.now.nodes) × (result.clauses ≡ limits.now.clauses) }
+    ensures widest { result.enum_bits ≡ limits.now.enum_bits }
+{
     Limits {
         steps: limits.steps,
         cells: 4_000_000,
@@ -97,7 +107,10 @@ impl Pace {
     }
 
     /// Rounds beyond limits under which the same was run in so many microseconds.
-    pub(crate) fn beyond(own: &Limits, most: Limits, micros: u64, growth: u64) -> Pace {
+    pub(crate) fn beyond(own: &Limits, most: Limits, micros: u64, growth: u64) -> Pace
+        ensures limits { (result.limits ≡ own.now) × (result.most ≡ most) }
+        ensures begins { (result.growth ≡ growth) × (result.is_over ≡ false) }
+    {
         Pace {
             limits: *own,
             most,
@@ -108,7 +121,10 @@ impl Pace {
     }
 
     /// One round under the limits of a run.
-    pub(crate) fn once(own: &Limits) -> Pace {
+    pub(crate) fn once(own: &Limits) -> Pace
+        ensures limits { (result.limits ≡ own.now) × (result.most ≡ own.now) }
+        ensures begins { (result.micros ≡ 0) × (result.is_over ≡ false) }
+    {
         Pace {
             limits: *own,
             most: *own,
@@ -140,7 +156,10 @@ impl Pace {
 
     /// Takes a round in, under limits and of so many microseconds. It was the last one where it has ended the trial, or where
     /// there are no greater limits.
-    pub(crate) fn take(&mut self, limits: Limits, micros: u64, is_over: bool) {
+    pub(crate) fn take(&mut self, limits: Limits, micros: u64, is_over: bool)
+        ensures limits { (self.new.limits ≡ limits) × (self.new.most ≡ self.old.most) }
+        ensures over { is_over ≡ true → self.new.is_over ≡ true }
+    {
         self.limits = limits;
         self.micros = micros.max(1);
         self.is_over = is_over || limits == self.most;

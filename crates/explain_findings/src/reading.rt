@@ -1,5 +1,8 @@
 //! Texts that are read as forms, and as bindings.
 
+ghost use Rattle.std.specs.Prelude.{◌≡◌, IfOk};
+ghost use Rattle.shape_spec.specs.BindingsMeant.{bindings_meant};
+
 use gl_logic::{NoMemory, Texts, Tree};
 use sexp_reader::forms;
 use shape_spec::{BindFault, Bindings, bindings};
@@ -26,7 +29,9 @@ pub(crate) fn bindings_in(
     alloc: Global,
     texts: &Texts,
     form: &Tree,
-) -> Result<Option<Bindings>, NoMemory> {
+) -> Result<Option<Bindings>, NoMemory>
+    ensures { IfOk result (λ found. found ≡ bindings_meant texts.now form.now) }
+{
     match bindings(alloc, form, texts) {
         Ok(found) => Ok(Some(found)),
         Err(BindFault::Bad) => Ok(None),
