@@ -1,5 +1,7 @@
 //! The text of a form with parts of it replaced, and where what stands in it stood at first.
 
+ghost use Rattle.std.specs.Prelude.{◌≡◌, IfOk};
+
 use crate::span::{Span, cut};
 use explain_report::Report;
 use gl_logic::NoMemory;
@@ -23,7 +25,9 @@ pub(crate) struct Edited {
 
 impl Edited {
     /// The text as it stands.
-    pub(crate) fn new(alloc: Global, text: &[u8]) -> Result<Edited, NoMemory> {
+    pub(crate) fn new(alloc: Global, text: &[u8]) -> Result<Edited, NoMemory>
+        ensures { IfOk result (λ edited. edited.text.items ≡ text.now) }
+    {
         Ok(Edited {
             text: text.to_vec(alloc)?,
             edits: Vec::new(alloc),

@@ -131,13 +131,9 @@ fn found_in(
     at: AtFault,
     fault: FormFault,
 ) -> Result<Found, NoMemory> {
-    let at_first = edited.at_first(at.part);
     Ok(Found {
         file: seen.file,
-        span: Span::new(
-            at_first.start.saturating_add(seen.start),
-            at_first.end.saturating_add(seen.start),
-        ),
+        span: edited.at_first(at.part).moved(seen.start),
         cause: Cause::Form(fault),
         event: edited.text.to_vec(alloc)?,
         part: at.part,

@@ -7,7 +7,8 @@
 //! - where a fault stands: `span`, `form_elements`, `terms`, `blame`, `items`, `fault_parts`;
 //! - `judging`, all faults of one form: at each it is mended, so that the next one is found, `mending`, by `binders` of ACL2's `b*` and `mv-let`, and `defines` of its `define`;
 //! - what a refused event leaves behind: `stubs`, and `hanging`, what uses one of them; `includes`, the books that are included;
-//! - `survey`, the walk over all texts, which tells what it has `found`, one form after the other; `told`, how many of them are told.
+//! - `survey`, the walk over all texts, whose `frames` are those that are open, and which tells what it has `found`, one form after
+//!   the other; `told`, how many of them are told.
 //!
 //! Tests: tests/explain, through the built program.
 #![tactic(auto)]
@@ -19,6 +20,7 @@ mod edited;
 mod fault_parts;
 mod form_elements;
 mod found;
+mod frames;
 mod hanging;
 mod includes;
 mod items;
@@ -38,7 +40,7 @@ pub use found::{Cause, Found, Step, Unjudged};
 pub use items::unbound;
 pub use span::{
     Span, byte_at, column_of, cut, is_word, line_end, line_of, line_start, token, whole,
-    without_package,
+    without_package, word_around,
 };
 pub use survey::{Start, Survey};
 pub use terms::{head_of, terms_of_event};

@@ -2,7 +2,7 @@
 //! so that each place stays; where nothing else helps, the form at fault up to the next line that begins with a parenthesis.
 
 use crate::form_elements::{behind_forms, offset_of, offsets_of_forms};
-use crate::span::{Span, byte_at, cut};
+use crate::span::{Span, byte_at, cut, word_around};
 use gl_logic::{NoMemory, Texts};
 use memchr::memmem::find;
 use sexp_reader::{End, ReadCode, forms};
@@ -57,32 +57,6 @@ fn first_fault(alloc: Global, text: &[u8]) -> Result<Option<TextFault>, NoMemory
             }))
         }
     }
-}
-
-/// Whether a byte may stand in a word, or in what was meant as one.
-fn is_of_word(byte: u8) -> bool {
-    byte > 32 && ![b'(', b')', b'"', b'\'', b'`', b',', b';'].contains(&byte)
-}
-
-/// The word around an offset.
-fn word_around(text: &[u8], at: usize) -> Span {
-    let mut start = at;
-    for _ in 0..at {
-        if start > 0 && is_of_word(byte_at(text, start.saturating_sub(1))) {
-            start = start.saturating_sub(1);
-        } else {
-            break;
-        }
-    }
-    let mut end = at;
-    let rest = Span::new(at, text.len());
-    for byte in cut(text, rest) {
-        if !is_of_word(*byte) {
-            break;
-        }
-        end = end.saturating_add(1);
-    }
-    Span::new(start, end.max(at.saturating_add(1)).min(text.len()))
 }
 
 /// A text whose part begins with these bytes and is blank behind them, with each end of a line kept.

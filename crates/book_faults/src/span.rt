@@ -1,6 +1,9 @@
 //! Parts of a text.
 
-ghost use Rattle.std.specs.Prelude.{◌≡◌};
+ghost use Rattle.std.specs.Prelude.{◌≡◌, ◌+◌, get_or, length};
+ghost use Rattle.std.specs.Str.{str_eq_ignore_ascii_case};
+ghost use Rattle.memchr.specs.Find.{is_byte, places};
+ghost use Rattle.book_faults.specs.Parts.{part_of, without_package as without_package_meant};
 
 use memchr::{memchr, memchr_iter, memrchr};
 
@@ -18,15 +21,24 @@ impl Span {
     {
         Span { start, end }
     }
+
+    /// The part so many bytes on.
+    pub fn moved(self, by: usize) -> Span {
+        Span::new(self.start.saturating_add(by), self.end.saturating_add(by))
+    }
 }
 
 /// All of a text.
-pub fn whole(text: &[u8]) -> Span {
+pub fn whole(text: &[u8]) -> Span
+    ensures { (result.start ≡ 0) × (result.end ≡ length text.now) }
+{
     Span::new(0, text.len())
 }
 
 /// The bytes of a part, and none where the text has no such part.
-pub fn cut(text: &[u8], span: Span) -> &[u8] {
+pub fn cut(text: &[u8], span: Span) -> &[u8]
+    ensures { result.now ≡ part_of text.now span.start span.end }
+{
     if span.start <= span.end && span.end <= text.len() {
         &text[span.start..span.end]
     } else {
@@ -35,7 +47,9 @@ pub fn cut(text: &[u8], span: Span) -> &[u8] {
 }
 
 /// A byte of a text, and 0 behind its end.
-pub fn byte_at(text: &[u8], offset: usize) -> u8 {
+pub fn byte_at(text: &[u8], offset: usize) -> u8
+    ensures { result ≡ get_or text.now offset 0 }
+{
     if offset < text.len() { text[offset] } else { 0 }
 }
 
@@ -61,13 +75,31 @@ pub fn token(text: &[u8], span: Span) -> &[u8] {
     cut(bytes, Span::new(0, end))
 }
 
+/// The token around an offset; the byte there where it ends one.
+pub fn word_around(text: &[u8], at: usize) -> Span {
+    let mut start = at;
+    for _ in 0..at {
+        if start > 0 && !ends_token(byte_at(text, start.saturating_sub(1))) {
+            start = start.saturating_sub(1);
+        } else {
+            break;
+        }
+    }
+    let count = token(text, Span::new(at, text.len())).len().max(1);
+    Span::new(start, at.saturating_add(count).min(text.len()))
+}
+
 /// Whether two words differ in case alone.
-pub fn is_word(word: &[u8], other: &[u8]) -> bool {
+pub fn is_word(word: &[u8], other: &[u8]) -> bool
+    ensures { result ≡ str_eq_ignore_ascii_case word.now other.now }
+{
     word.eq_ignore_ascii_case(other)
 }
 
 /// A name without the prefix of a package that is dropped.
-pub fn without_package(word: &[u8]) -> &[u8] {
+pub fn without_package(word: &[u8]) -> &[u8]
+    ensures { result.now ≡ without_package_meant word.now }
+{
     let end = word.len();
     if is_word(cut(word, Span::new(0, 6)), b"acl2::") {
         cut(word, Span::new(6, end))
@@ -79,7 +111,9 @@ pub fn without_package(word: &[u8]) -> &[u8] {
 }
 
 /// The number of the line in which an offset stands, from 1.
-pub fn line_of(text: &[u8], offset: usize) -> u64 {
+pub fn line_of(text: &[u8], offset: usize) -> u64
+    ensures { result ≡ 1 + length (places (is_byte 10) (part_of text.now 0 offset)) }
+{
     let before = memchr_iter(b'\n', cut(text, Span::new(0, offset))).count() as u64;
     before.saturating_add(1)
 }

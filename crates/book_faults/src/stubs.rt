@@ -59,7 +59,7 @@ pub(crate) fn inner_events(alloc: Global, text: &[u8], event: Span) -> Result<Ve
     Ok(found)
 }
 
-/// The formals of a definition; none where one of them is a word such as `&rest` or `&key`.
+/// How many formals a list has; none where one of them is a word such as `&rest` or `&key`.
 fn count_of(alloc: Global, text: &[u8], list: Span) -> Result<Option<usize>, NoMemory> {
     let formals = elements(alloc, text, list)?;
     for formal in &formals {
@@ -68,6 +68,14 @@ fn count_of(alloc: Global, text: &[u8], list: Span) -> Result<Option<usize>, NoM
         }
     }
     Ok(Some(formals.len()))
+}
+
+/// Whether an event has formals that a call may leave out.
+pub(crate) fn has_options(alloc: Global, text: &[u8], event: Span) -> Result<bool, NoMemory> {
+    match elements(alloc, text, event)?.get(2) {
+        Some(formals) => Ok(count_of(alloc, text, *formals)?.is_none()),
+        None => Ok(false),
+    }
 }
 
 /// A definition of so many formals and no body.
@@ -156,10 +164,12 @@ fn names_of_fields(alloc: Global, text: &[u8], parts: &[Span]) -> Result<Vec<Stu
             Some(name) => token(text, *name),
             None => token(text, *part),
         };
-        names.push(name_with(alloc, "", name, "")?)?;
-        names.push(name_with(alloc, "", name, "i")?)?;
-        names.push(name_with(alloc, "update-", name, "")?)?;
-        names.push(name_with(alloc, "update-", name, "i")?)?;
+        if !name.is_empty() {
+            names.push(name_with(alloc, "", name, "")?)?;
+            names.push(name_with(alloc, "", name, "i")?)?;
+            names.push(name_with(alloc, "update-", name, "")?)?;
+            names.push(name_with(alloc, "update-", name, "i")?)?;
+        }
     }
     Ok(names)
 }
@@ -173,8 +183,11 @@ fn names_made(alloc: Global, text: &[u8], event: Span) -> Result<Vec<Stub>, NoMe
     }
     let name = match parts.get(1) {
         Some(part) if is_among(head_of(text, &parts), MAKERS) => token(text, *part),
-        _ => return Ok(names),
+        _ => b"",
     };
+    if name.is_empty() {
+        return Ok(names);
+    }
     names.push(name_with(alloc, "", name, "-")?)?;
     names.push(name_with(alloc, "make-", name, "")?)?;
     names.push(name_with(alloc, "change-", name, "")?)?;

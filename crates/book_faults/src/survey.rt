@@ -6,31 +6,21 @@ ghost use Rattle.gl_logic.specs.Names.{with_name};
 use crate::edited::Edited;
 use crate::form_elements::{elements, form_alone};
 use crate::found::{Cause, Found, Step, Unjudged};
+use crate::frames::{Frames, of_number};
 use crate::hanging::Hanging;
 use crate::includes::included;
 use crate::judging::{Court, Seen, faults_of};
-use crate::past::{Entry, Past, read_past};
+use crate::past::read_past;
 use crate::span::{Span, cut, token, whole};
-use crate::stubs::{Stub, inner_events, stubs_of};
+use crate::stubs::{Stub, has_options, inner_events, stubs_of};
 use book_state::State;
 use event_world::EventFault;
-use explain_findings::{FormFault, head_of, is_among, take_form};
+use explain_findings::{FormFault, head_of, is_among, name_in, take_form};
 use gl_base::limits::Limits;
 use gl_logic::{NoMemory, TextId, Texts, Tree, TreeKind};
-use memchr::memmem::find;
 use sexp_reader::{Form, forms};
 use std::alloc::Global;
 use std::thread::Threads;
-
-/// A text that is read past its faults, and which form of it is next.
-#[derive(Drop)]
-struct Frame {
-    file: usize,
-    past: Past,
-    next: usize,
-    // events inside a refused one, the next of them last
-    inner: Vec<Span>,
-}
 
 /// What is left of a refused event until the next step: its text as it is mended, and whether that may be an event.
 #[derive(Drop)]
@@ -53,7 +43,7 @@ pub struct Survey {
     taken: u64,
     names: Vec<Vec<u8>>,
     texts: Vec<Vec<u8>>,
-    open: Vec<Frame>,
+    open: Frames,
     hanging: Hanging,
     // names of which nothing is known, and those of them that name macros
     unknown: Vec<Vec<u8>>,
@@ -61,23 +51,6 @@ pub struct Survey {
     left: Option<Left>,
     // whether a book is included whose text is not looked at
     is_partial: bool,
-}
-
-impl Frame {
-    /// The next form, and whether it is inside a refused event.
-    fn next_entry(&mut self) -> Option<(Entry, bool)> {
-        if let Some(span) = self.inner.pop() {
-            let entry = Entry {
-                span,
-                is_torn: false,
-                is_lost: false,
-            };
-            return Some((entry, true));
-        }
-        let entry = self.past.entries.get(self.next).copied()?;
-        self.next = self.next.saturating_add(1);
-        Some((entry, false))
-    }
 }
 
 /// The form with which a text begins.
@@ -98,15 +71,19 @@ fn first_form(alloc: Global, text: &[u8], texts: &mut Texts) -> Result<Option<Fo
     Ok(Some(read.swap_remove(0)))
 }
 
-/// The symbol behind the head of a form.
-fn name_in(form: &Tree) -> Option<TextId> {
-    match form.elements() {
-        [.., name, _] => match name.kind() {
-            TreeKind::Symbol(name) => Some(name),
-            _ => None,
-        },
-        _ => None,
+/// The names that a form takes: its own, or those of its members.
+fn names_of(alloc: Global, texts: &Texts, form: &Tree) -> Result<Vec<TextId>, NoMemory> {
+    let mut names = Vec::new(alloc);
+    if let Some(name) = name_in(form) {
+        names.push(name)?;
+    } else if head_of(texts, form) == b"MUTUAL-RECURSION".as_slice() {
+        for member in form.elements() {
+            if let Some(name) = name_in(member) {
+                names.push(name)?;
+            }
+        }
     }
+    Ok(names)
 }
 
 /// The fault of a form that is not taken in.
@@ -136,7 +113,7 @@ impl Survey {
             taken: start.taken,
             names: Vec::new(alloc),
             texts: Vec::new(alloc),
-            open: Vec::new(alloc),
+            open: Frames::new(alloc),
             hanging: Hanging::new(alloc),
             unknown: Vec::new(alloc),
             macros: Vec::new(alloc),
@@ -152,18 +129,12 @@ impl Survey {
 
     /// The name of a text by its number.
     pub fn name(&self, file: usize) -> &[u8] {
-        match self.names.get(file) {
-            Some(name) => name.as_slice(),
-            None => &[],
-        }
+        of_number(&self.names, file)
     }
 
     /// A text by its number.
     pub fn text(&self, file: usize) -> &[u8] {
-        match self.texts.get(file) {
-            Some(text) => text.as_slice(),
-            None => &[],
-        }
+        of_number(&self.texts, file)
     }
 
     /// How many events are not judged, since they use a refused one, for each of these.
@@ -189,48 +160,13 @@ impl Survey {
         }
         self.names.push(name.to_vec(alloc)?)?;
         self.texts.push(text)?;
-        self.open.push(Frame {
-            file,
-            past,
-            next: 0,
-            inner: Vec::new(alloc),
-        })?;
+        self.open.enter(alloc, file, past)?;
         Ok(Step::Faults(found))
     }
 
     /// Goes on without the text of a book, which is not looked at.
     pub fn pass(&mut self) {
         self.is_partial = true;
-    }
-
-    /// The next form, and whether it is inside a refused event; none at the end.
-    fn next_entry(&mut self) -> Option<(Entry, bool)> {
-        for _ in 0..self.open.len().saturating_add(1) {
-            match self.open.last_mut() {
-                Some(frame) => {
-                    if let Some(found) = frame.next_entry() {
-                        return Some(found);
-                    }
-                }
-                None => return None,
-            }
-            let _ended = self.open.pop();
-        }
-        None
-    }
-
-    /// The number of the text that is walked, and the bytes of a part of it; of a lost part as they were.
-    fn part_of(&self, alloc: Global, entry: Entry) -> Result<(usize, Vec<u8>), NoMemory> {
-        match self.open.last() {
-            Some(frame) if entry.is_lost => {
-                Ok((
-                    frame.file,
-                    cut(self.text(frame.file), entry.span).to_vec(alloc)?,
-                ))
-            }
-            Some(frame) => Ok((frame.file, cut(&frame.past.text, entry.span).to_vec(alloc)?)),
-            None => Ok((0, Vec::new(alloc))),
-        }
     }
 
     /// Takes a form in, where it is one that can be.
@@ -250,21 +186,14 @@ impl Survey {
         if take_form(rt, alloc, &form, limits, &mut self.state, texts)?.is_some() {
             return Ok(false);
         }
-        self.refuse_names(texts, &form.tree)?;
+        self.refuse_names(alloc, texts, &form.tree)?;
         Ok(true)
     }
 
-    /// The names of a form are those of refused events: its own, or those of its members.
-    fn refuse_names(&mut self, texts: &Texts, form: &Tree) -> Result<(), NoMemory> {
-        if let Some(name) = name_in(form) {
-            return self.hanging.refuse(name);
-        }
-        if head_of(texts, form) == b"MUTUAL-RECURSION".as_slice() {
-            for member in form.elements() {
-                if let Some(name) = name_in(member) {
-                    self.hanging.refuse(name)?;
-                }
-            }
+    /// The names that a form takes are those of refused events.
+    fn refuse_names(&mut self, alloc: Global, texts: &Texts, form: &Tree) -> Result<(), NoMemory> {
+        for name in &names_of(alloc, texts, form)? {
+            self.hanging.refuse(*name)?;
         }
         Ok(())
     }
@@ -336,10 +265,10 @@ impl Survey {
         texts: &mut Texts,
     ) -> Result<Step, NoMemory> {
         self.settle(rt, alloc, limits, texts)?;
-        let Some((entry, is_inner)) = self.next_entry() else {
+        let Some((entry, is_inner)) = self.open.next_entry() else {
             return Ok(Step::End);
         };
-        let (file, text) = self.part_of(alloc, entry)?;
+        let (file, text) = self.open.part_of(alloc, entry, &self.texts)?;
         if entry.is_lost {
             self.left = Some(Left {
                 text,
@@ -431,33 +360,32 @@ impl Survey {
         };
         if fault.is_none() {
             if let Some(root) = root {
-                self.hang(texts, form, root)?;
+                self.hang(alloc, texts, &form.tree, root)?;
             } else if is_torn {
-                self.refuse_names(texts, &form.tree)?;
+                self.refuse_names(alloc, texts, &form.tree)?;
             }
         }
         Ok(fault)
     }
 
     /// A form that hangs on a refused event: its name does so too, and what would be decided is counted.
-    fn hang(&mut self, texts: &Texts, form: &Form, root: usize) -> Result<(), NoMemory> {
-        let head = head_of(texts, &form.tree);
+    fn hang(
+        &mut self,
+        alloc: Global,
+        texts: &Texts,
+        form: &Tree,
+        root: usize,
+    ) -> Result<(), NoMemory> {
+        let head = head_of(texts, form);
         if is_among(
             head,
             "VALUE-TRIPLE ASSERT-EVENT DEF-GL-THM DEF-GL-PARAM-THM DEFCONST",
         ) {
             self.hanging.count(root);
         }
-        if is_among(head, "DEFUN DEFCONST") {
-            if let Some(name) = name_in(&form.tree) {
-                return self.hanging.hang(name, root);
-            }
-        }
-        if is_among(head, "MUTUAL-RECURSION") {
-            for member in form.tree.elements() {
-                if let Some(name) = name_in(member) {
-                    self.hanging.hang(name, root)?;
-                }
+        if is_among(head, "DEFUN DEFCONST MUTUAL-RECURSION") {
+            for name in &names_of(alloc, texts, form)? {
+                self.hanging.hang(*name, root)?;
             }
         }
         Ok(())
@@ -480,10 +408,12 @@ impl Survey {
         event: &mut Edited,
         fault: FormFault,
     ) -> Result<Step, NoMemory> {
-        if fault == FormFault::Event(EventFault::Redefined) || find(&event.text, b" &").is_some() {
+        let all = whole(&event.text);
+        let is_taken = fault == FormFault::Event(EventFault::Redefined);
+        if is_taken || has_options(alloc, &event.text, all)? {
             self.keep_taken(alloc, &event.text)?;
         }
-        let inner = inner_events(alloc, &event.text, whole(&event.text))?;
+        let inner = inner_events(alloc, &event.text, all)?;
         let court = Court {
             seen,
             state: &self.state,
@@ -492,17 +422,10 @@ impl Survey {
             is_partial: self.is_partial,
         };
         let found = faults_of(alloc, texts, court, event, fault)?;
-        if let Some(frame) = self.open.last_mut() {
-            for span in &inner {
-                frame.inner.push(Span::new(
-                    span.start.saturating_add(seen.start),
-                    span.end.saturating_add(seen.start),
-                ))?;
-            }
-        }
+        self.open.go_inside(&inner, seen.start)?;
         self.left = Some(Left {
             text: event.text.to_vec(alloc)?,
-            is_mended: fault != FormFault::Event(EventFault::Redefined),
+            is_mended: !is_taken,
         });
         Ok(Step::Faults(found))
     }

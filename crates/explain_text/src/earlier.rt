@@ -1,7 +1,8 @@
 //! Where a name was taken.
 
-use crate::places::{Places, name_in};
+use crate::places::Places;
 use book_shelf::{Item, Library};
+use explain_findings::name_in;
 use explain_report::Report;
 use gl_logic::{TextId, Texts, Tree, World};
 

@@ -15,13 +15,13 @@ use crate::message::{Refusal, Said, put_words, told_without_text};
 use crate::naming::NamingShelf;
 use crate::places::{Place, Places, places_of};
 use crate::progress::{Doing, Progress};
-use crate::refusal::{explain_constant, explain_event_fault, explain_text_fault};
+use crate::refusal::{explain_constant, explain_event_fault, explain_text_fault, form_of};
 use crate::screen::{Kept, Screen};
 use crate::shown::Shown;
 use crate::sources::{put_sources, text_of};
 use crate::told::{put_messages, put_told};
 use crate::trying::try_all;
-use book_faults::{Judge, Start};
+use book_faults::{Judge, Start, cut};
 use book_shelf::{Finish, Item, Library, LoadEnd, ShelfCode, load};
 use book_state::State;
 use event_world::EventFault;
@@ -286,11 +286,12 @@ fn put_refusal_of<R: Threads + Sync, S: Shelf + Drop>(
         return Ok(());
     };
     let mut report = Report::new(alloc);
-    explain_at(alloc, &mut report, book, &at, replay.state(), texts, shelf)?;
+    let event = explain_at(alloc, &mut report, book, &at, replay.state(), texts, shelf)?;
     let first = First {
         book: book.places.book().to_vec(alloc)?,
         file: book.places.file(at.place).to_vec(alloc)?,
         fault: at.fault,
+        event,
         said: Said::of(report)?,
     };
     let start = Start {
@@ -404,7 +405,7 @@ fn place_of(places: &Places, refused: Refused) -> Option<RefusedAt> {
     })
 }
 
-/// Explains what is refused, with the text in which it stands.
+/// Explains what is refused, with the text in which it stands. The form there.
 fn explain_at<S: Shelf + Drop>(
     alloc: Global,
     report: &mut Report,
@@ -413,11 +414,11 @@ fn explain_at<S: Shelf + Drop>(
     state: &State,
     texts: &mut Texts,
     shelf: &mut NamingShelf<S>,
-) -> Result<(), NoMemory> {
+) -> Result<Vec<u8>, NoMemory> {
     let file = book.places.file(at.place);
     let Some(text) = text_of(alloc, shelf, file)? else {
         explain_unread(alloc, report, file, at);
-        return Ok(());
+        return Ok(Vec::new(alloc));
     };
     let refusal = Refusal {
         file,
@@ -426,7 +427,8 @@ fn explain_at<S: Shelf + Drop>(
         column: at.place.column,
         fault: at.fault,
     };
-    explain_refusal(alloc, report, book, at.item, &refusal, state, texts)
+    explain_refusal(alloc, report, book, at.item, &refusal, state, texts)?;
+    Ok(cut(&text, form_of(alloc, &refusal)?).to_vec(alloc)?)
 }
 
 /// Explains why an item is refused, in the state in front of it.

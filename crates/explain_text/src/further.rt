@@ -1,7 +1,7 @@
 //! The faults behind the one at which a run stops.
 
 use crate::codes::{Fault, words_of};
-use crate::known::{granted_by, instead_of_term, is_plain};
+use crate::known::{granted_by, has_granted, instead_of_term, is_plain};
 use crate::message::{Refusal, Said};
 use crate::naming::NamingShelf;
 use crate::refusal::{Mark, explain_span, put_constant_fault, put_form_fault, put_open};
@@ -22,12 +22,13 @@ use std::thread::Threads;
 /// How many steps are made: more than a list of books has forms.
 const MOST_STEPS: usize = 300_000_000;
 
-/// How a run is refused: the name of the book that is run, that of the text at fault, why, and what is said of it.
+/// How a run is refused: the name of the book that is run, that of the text at fault, why, the form there, and what is said of it.
 #[derive(Drop)]
 pub(crate) struct First {
     pub book: Vec<u8>,
     pub file: Vec<u8>,
     pub fault: Fault,
+    pub event: Vec<u8>,
     pub said: Said,
 }
 
@@ -69,24 +70,15 @@ impl Rest {
             return false;
         }
         match instead_of_term(without_package(token(&found.event, found.part))) {
-            Some(instead) => self.has_granted(instead),
+            Some(instead) => has_granted(&self.granted, instead),
             None => false,
         }
     }
 
-    fn has_granted(&self, instead: &str) -> bool {
-        for other in &self.granted {
-            if *other == instead {
-                return true;
-            }
-        }
-        false
-    }
-
     /// Keeps which words a refused form that includes a book of ACL2 was to bring.
-    fn grant(&mut self, found: &Found) -> Result<(), NoMemory> {
-        if found.cause == Cause::Form(FormFault::Event(EventFault::BadEvent)) {
-            if let Some(instead) = granted_by(&found.event) {
+    fn grant(&mut self, fault: Fault, event: &[u8]) -> Result<(), NoMemory> {
+        if fault == Fault::Form(FormFault::Event(EventFault::BadEvent)) {
+            if let Some(instead) = granted_by(event) {
                 self.granted.push(instead)?;
             }
         }
@@ -97,7 +89,7 @@ impl Rest {
 /// What is said of a fault.
 fn said_of(
     alloc: Global,
-    telling: &mut Telling,
+    rest: &mut Rest,
     survey: &Survey,
     found: &Found,
     texts: &mut Texts,
@@ -119,7 +111,7 @@ fn said_of(
     };
     match found.cause {
         Cause::Text(code) => {
-            explain_span(alloc, &mut report, &refusal, found.span);
+            explain_span(alloc, &mut report, &refusal, found.span, &rest.granted);
             if code == ReadCode::EndInside {
                 put_open(&mut report, &refusal, found.around.start);
             }
@@ -140,7 +132,7 @@ fn said_of(
         }
     }
     if !has_own_help(found) {
-        telling.put_help_once(&mut report, fault)?;
+        rest.telling.put_help_once(&mut report, fault)?;
     }
     Said::of(report)
 }
@@ -158,7 +150,7 @@ fn tell_one(
     found: &Found,
     texts: &mut Texts,
 ) -> Result<(), NoMemory> {
-    rest.grant(found)?;
+    rest.grant(fault_of(found.cause), &found.event)?;
     rest.telling.keep_foreign(alloc, found)?;
     if rest.takes_first(alloc, survey, found)? {
         return Ok(());
@@ -167,7 +159,7 @@ fn tell_one(
         return Ok(());
     }
     let said = if rest.telling.has_room() {
-        said_of(alloc, &mut rest.telling, survey, found, texts)?
+        said_of(alloc, rest, survey, found, texts)?
     } else {
         Said::of(Report::new(alloc))?
     };
@@ -237,9 +229,11 @@ pub(crate) fn put_faults<R: Threads + Sync, S: Shelf + Drop>(
         book,
         file,
         fault,
+        event,
         said,
     } = first;
     rest.telling.tell(Vec::new(alloc), 0, said)?;
+    rest.grant(fault, &event)?;
     let _first = rest.telling.takes_code(words_of(fault).code)?;
     rest.first = Some((file, fault));
     let mut survey = Survey::new(alloc, start);

@@ -1,16 +1,15 @@
 //! The tests that govern a call in the text of a definition, its measure, and the row of the table of steps that is nearest.
 
 use crate::excerpt::put_part;
-use book_faults::{Span, elements, form_alone, head_of, is_word, token, whole};
+use crate::message::MOST_NAMED;
+use book_faults::{Span, element_of, elements, form_alone, head_of, is_word, token, whole};
 use explain_findings::is_among;
 use explain_report::Report;
 use gl_logic::NoMemory;
 use std::alloc::Global;
 
-/// How deep a call is looked for, and how many bytes of a test are shown.
+/// How deep a call is looked for.
 const MOST_DEEP: usize = 1000;
-
-const MOST_NAMED: usize = 60;
 
 /// The number of the element in which an offset stands.
 fn number_around(parts: &[Span], offset: usize) -> Option<usize> {
@@ -20,6 +19,24 @@ fn number_around(parts: &[Span], offset: usize) -> Option<usize> {
         }
     }
     None
+}
+
+/// The forms around a call inside a form, the outermost first.
+fn forms_around(alloc: Global, text: &[u8], form: Span, call: Span) -> Result<Vec<Span>, NoMemory> {
+    let mut forms = Vec::new(alloc);
+    let mut around = form;
+    for _ in 0..MOST_DEEP {
+        if call.start <= around.start {
+            break;
+        }
+        forms.push(around)?;
+        let parts = elements(alloc, text, around)?;
+        match number_around(&parts, call.start) {
+            Some(number) if number < parts.len() => around = parts[number],
+            _ => break,
+        }
+    }
+    Ok(forms)
 }
 
 /// Puts a test, and whether it holds around the call.
@@ -106,25 +123,18 @@ fn put_around(
     }
 }
 
-/// Puts the tests that govern a call in an event, from the outside in.
+/// Puts the tests that govern a call inside forms, from the outside in.
 fn put_governing(
     alloc: Global,
     report: &mut Report,
-    event: &[u8],
+    text: &[u8],
+    forms: &[Span],
     call: Span,
 ) -> Result<(), NoMemory> {
-    let mut around = whole(event);
-    for _ in 0..MOST_DEEP {
-        if call.start <= around.start {
-            return Ok(());
-        }
-        let parts = elements(alloc, event, around)?;
-        let Some(number) = number_around(&parts, call.start) else {
-            return Ok(());
-        };
-        put_around(alloc, report, event, &parts, number, call.start)?;
-        if let Some(part) = parts.get(number) {
-            around = *part;
+    for form in forms {
+        let parts = elements(alloc, text, *form)?;
+        if let Some(number) = number_around(&parts, call.start) {
+            put_around(alloc, report, text, &parts, number, call.start)?;
         }
     }
     Ok(())
@@ -251,25 +261,15 @@ fn put_row_of(
     Ok(true)
 }
 
-/// Whether a call stands inside a `let` of an event.
-fn is_in_let(alloc: Global, text: &[u8], call: Span) -> Result<bool, NoMemory> {
-    let mut around = whole(text);
-    for _ in 0..MOST_DEEP {
-        if call.start <= around.start {
-            return Ok(false);
-        }
-        let parts = elements(alloc, text, around)?;
-        if is_among(head_of(text, &parts), "let let*") {
-            return Ok(true);
-        }
-        let Some(number) = number_around(&parts, call.start) else {
-            return Ok(false);
-        };
-        if let Some(part) = parts.get(number) {
-            around = *part;
+/// The `let`s among forms.
+fn lets_among(alloc: Global, text: &[u8], forms: &[Span]) -> Result<Vec<Span>, NoMemory> {
+    let mut lets = Vec::new(alloc);
+    for form in forms {
+        if is_among(head_of(text, &elements(alloc, text, *form)?), "let let*") {
+            lets.push(*form)?;
         }
     }
-    Ok(false)
+    Ok(lets)
 }
 
 /// Whether a word is among the formals of a definition.
@@ -286,17 +286,15 @@ fn is_formal(alloc: Global, text: &[u8], definition: Span, word: &[u8]) -> Resul
     Ok(false)
 }
 
-/// The first formal of a definition that a `let` of these parts binds anew.
+/// The first formal of a definition that a `let` binds anew.
 fn bound_anew<'a>(
     alloc: Global,
     text: &'a [u8],
     definition: Span,
-    parts: &[Span],
+    binder: Span,
 ) -> Result<&'a [u8], NoMemory> {
-    let Some(bindings) = parts.get(1) else {
-        return Ok(b"");
-    };
-    for binding in &elements(alloc, text, *bindings)? {
+    let bindings = element_of(alloc, text, binder, 1)?;
+    for binding in &elements(alloc, text, bindings)? {
         if let Some(name) = elements(alloc, text, *binding)?.first() {
             let name = token(text, *name);
             if is_formal(alloc, text, definition, name)? {
@@ -313,44 +311,37 @@ fn put_bound_anew(
     report: &mut Report,
     text: &[u8],
     definition: Span,
-    call: Span,
+    lets: &[Span],
 ) -> Result<(), NoMemory> {
-    let mut around = definition;
-    for _ in 0..MOST_DEEP {
-        if call.start <= around.start {
+    for binder in lets {
+        let name = bound_anew(alloc, text, definition, *binder)?;
+        if !name.is_empty() {
+            report.say("   = note: `");
+            report.text(name);
+            report.say(
+                "` is what a `let` around the call binds, and not the formal: let that bind another name, or leave the binding out\n",
+            );
             return Ok(());
-        }
-        let parts = elements(alloc, text, around)?;
-        if is_among(head_of(text, &parts), "let let*") {
-            let name = bound_anew(alloc, text, definition, &parts)?;
-            if !name.is_empty() {
-                report.say("   = note: `");
-                report.text(name);
-                report.say(
-                    "` is what a `let` around the call binds, and not the formal: let that bind another name, or leave the binding out\n",
-                );
-                return Ok(());
-            }
-        }
-        let Some(number) = number_around(&parts, call.start) else {
-            return Ok(());
-        };
-        if let Some(part) = parts.get(number) {
-            around = *part;
         }
     }
     Ok(())
 }
 
-/// Puts the row of the table of steps that is nearest to a call.
-fn put_row(alloc: Global, report: &mut Report, text: &[u8], call: Span) -> Result<(), NoMemory> {
+/// Puts the row of the table of steps that is nearest to a call, inside a `let` or not.
+fn put_row(
+    alloc: Global,
+    report: &mut Report,
+    text: &[u8],
+    call: Span,
+    is_in_let: bool,
+) -> Result<(), NoMemory> {
     for (i, part) in elements(alloc, text, call)?.iter().enumerate() {
         if 1 <= i && put_row_of(alloc, report, text, *part)? {
             return Ok(());
         }
     }
     report.say("   = note: no argument is made smaller as a row of the table has it");
-    if is_in_let(alloc, text, call)? {
+    if is_in_let {
         report.say(
             "; what `let` binds is not looked up: write the term that it binds itself in the call, and let it bind no name of a formal",
         );
@@ -382,7 +373,9 @@ pub(crate) fn put_call(
 ) -> Result<(), NoMemory> {
     let definition = definition_around(alloc, event, call.start)?;
     put_measure(alloc, report, event, &elements(alloc, event, definition)?)?;
-    put_governing(alloc, report, event, call)?;
-    put_bound_anew(alloc, report, event, definition, call)?;
-    put_row(alloc, report, event, call)
+    let forms = forms_around(alloc, event, definition, call)?;
+    put_governing(alloc, report, event, &forms, call)?;
+    let lets = lets_among(alloc, event, &forms)?;
+    put_bound_anew(alloc, report, event, definition, &lets)?;
+    put_row(alloc, report, event, call, !lets.is_empty())
 }

@@ -7,7 +7,7 @@
 //! - what is shown: `shown`, the observer of the run, whose `screen` puts `places` in front of lines, and names the event that is
 //!   `running`, by `folding` included books; `progress`, how far it is, for a thread beside it; `explain`, a run with its explanation; `told`, what is told behind a run, with `sources`; `naming`, the
 //!   shelf, which knows the texts that it was asked for: no others are opened once more;
-//! - what is said: `refusal`, by `message`, `codes`, `expected`, `known`, `missing`, `governing`, `earlier` and `excerpt`, into a `report`;
+//! - what is said: `refusal`, by `message`, `codes`, `expected`, `known`, `missing`, `governing`, `counts`, `earlier` and `excerpt`, into a `report`;
 //!   `further`, the faults behind it, with definitions `below` a use, and `telling`, which of them are told.
 //!
 //! Tests: tests/explain, through the built program, and `tests`, the places of lines.
@@ -15,6 +15,7 @@
 
 mod below;
 mod codes;
+mod counts;
 mod earlier;
 mod excerpt;
 mod expected;

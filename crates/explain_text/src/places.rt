@@ -1,8 +1,8 @@
 //! Where each item of a book stands.
 
 use book_shelf::{Item, Library, Mark};
-use explain_findings::head_of;
-use gl_logic::{NoMemory, TextId, Texts, Tree, TreeKind};
+use explain_findings::{head_of, name_in};
+use gl_logic::{NoMemory, TextId, Texts};
 use sexp_reader::Form;
 use std::alloc::Global;
 
@@ -41,17 +41,6 @@ fn mode_of(kind: &[u8]) -> Option<&'static str> {
         Some("SAT")
     } else {
         None
-    }
-}
-
-/// The symbol behind the one with which a form begins.
-pub(crate) fn name_in(form: &Tree) -> Option<TextId> {
-    match form.elements() {
-        [.., name, _] => match name.kind() {
-            TreeKind::Symbol(name) => Some(name),
-            _ => None,
-        },
-        _ => None,
     }
 }
 

@@ -2,12 +2,13 @@
 
 use crate::below::{put_below, put_constant_below};
 use crate::codes::{Fault, words_of};
+use crate::counts::put_counts;
 use crate::excerpt::{put_excerpt, put_part, put_place};
 use crate::expected::{put_expected, put_expected_shape, put_odd_options};
 use crate::governing::put_call;
 use crate::known::{
-    Nearest, includes_book, instead_of_book, instead_of_event, instead_of_shape, instead_of_term,
-    is_plain, nearest_constant, nearest_event, nearest_function, string_in,
+    Nearest, has_granted, includes_book, instead_of_book, instead_of_event, instead_of_shape,
+    instead_of_term, is_plain, nearest_constant, nearest_event, nearest_function, string_in,
 };
 use crate::message::{MOST_NAMED, Marked, Refusal, put_help, put_message};
 use crate::missing::put_missing;
@@ -18,15 +19,12 @@ use book_faults::{
 };
 use book_shelf::ShelfCode;
 use event_world::EventFault;
-use explain_findings::{FormFault, bindings_of_text, is_among};
+use explain_findings::{FormFault, bindings_of_text};
 use explain_report::Report;
-use gl_logic::{FnId, NoMemory, Texts, World};
+use gl_logic::{NoMemory, Texts, World};
 use gl_translate::TermFault;
 use sexp_reader::ReadCode;
 use std::alloc::Global;
-
-/// How many counts of arguments are tried.
-const MOST_COUNTED: u64 = 9;
 
 /// The part of a form that is at fault: where it stands in its text, the form, and where in that it and what is around it stand.
 #[derive(Clone, Copy)]
@@ -76,7 +74,7 @@ fn start_of(alloc: Global, refusal: &Refusal) -> Result<usize, NoMemory> {
 }
 
 /// The form of a refusal.
-fn form_of(alloc: Global, refusal: &Refusal) -> Result<Span, NoMemory> {
+pub(crate) fn form_of(alloc: Global, refusal: &Refusal) -> Result<Span, NoMemory> {
     let start = start_of(alloc, refusal)?;
     form_alone(alloc, refusal.text, Span::new(start, refusal.text.len()))
 }
@@ -94,7 +92,7 @@ pub(crate) fn explain_text_fault(
     } else {
         Span::new(start, start.saturating_add(1))
     };
-    explain_span(alloc, report, refusal, span);
+    explain_span(alloc, report, refusal, span, &[]);
     if refusal.fault == Fault::Shelf(ShelfCode::Text(ReadCode::EndInside)) {
         put_open_form(alloc, report, refusal)?;
     }
@@ -102,8 +100,14 @@ pub(crate) fn explain_text_fault(
     Ok(())
 }
 
-/// Explains a fault of a text at a part of it.
-pub(crate) fn explain_span(alloc: Global, report: &mut Report, refusal: &Refusal, span: Span) {
+/// Explains a fault of a text at a part of it, where it is told already that these books are to be included.
+pub(crate) fn explain_span(
+    alloc: Global,
+    report: &mut Report,
+    refusal: &Refusal,
+    span: Span,
+    granted: &[&'static str],
+) {
     let title = words_of(refusal.fault).title;
     let marked = Marked {
         span,
@@ -113,7 +117,7 @@ pub(crate) fn explain_span(alloc: Global, report: &mut Report, refusal: &Refusal
     put_message(alloc, report, refusal, marked);
     if refusal.fault == Fault::Shelf(ShelfCode::Text(ReadCode::BadByte)) {
         put_byte(report, byte_at(refusal.text, span.start));
-        put_behind_package(report, word_behind(refusal.text, span.start));
+        put_behind_package(report, word_behind(refusal.text, span.start), granted);
     }
 }
 
@@ -127,12 +131,14 @@ pub(crate) fn word_behind(text: &[u8], at: usize) -> &[u8] {
     }
 }
 
-/// Puts what stands here for a word of ACL2 that stands behind the name of a package.
-fn put_behind_package(report: &mut Report, word: &[u8]) {
+/// Puts what stands here for a word of ACL2 that stands behind the name of a package: a book that is to be included once alone.
+fn put_behind_package(report: &mut Report, word: &[u8], granted: &[&'static str]) {
     if let Some(instead) = instead_of_event(word) {
         put_instead(report, "event", instead);
     } else if let Some(instead) = instead_of_term(word) {
-        put_instead(report, "word", instead);
+        if !has_granted(granted, instead) {
+            put_instead(report, "word", instead);
+        }
     }
 }
 
@@ -184,11 +190,6 @@ pub(crate) fn put_open(report: &mut Report, refusal: &Refusal, start: usize) {
         refusal.text,
         Span::new(start, start.saturating_add(1)),
     );
-}
-
-/// A part moved by an offset.
-fn moved(span: Span, by: usize) -> Span {
-    Span::new(span.start.saturating_add(by), span.end.saturating_add(by))
 }
 
 /// The name of the function that an event defines; empty where it defines none.
@@ -285,111 +286,6 @@ fn put_formals(alloc: Global, report: &mut Report, event: &[u8]) -> Result<(), N
     Ok(())
 }
 
-/// An event with a call of a head on so many arguments.
-fn call_text(alloc: Global, head: &[u8], count: u64) -> Result<Vec<u8>, NoMemory> {
-    let mut event = Report::new(alloc);
-    event.say("(value-triple (");
-    event.text(head);
-    for _ in 0..count {
-        event.say(" nil");
-    }
-    event.say("))");
-    event.into_bytes()
-}
-
-/// Whether a call of a head is none of another number of arguments than so many.
-fn takes_count(
-    alloc: Global,
-    judge: &Judge,
-    texts: &mut Texts,
-    head: &[u8],
-    count: u64,
-) -> Result<bool, NoMemory> {
-    let event = call_text(alloc, head, count)?;
-    Ok(!judge.refuses(alloc, texts, &event)?)
-}
-
-/// The counts of arguments, up to so many, with which a call of a head is none of another number.
-fn counts_taken(
-    alloc: Global,
-    judge: &Judge,
-    texts: &mut Texts,
-    head: &[u8],
-) -> Result<Vec<u64>, NoMemory> {
-    let mut counts = Vec::new(alloc);
-    for count in 0..MOST_COUNTED {
-        if takes_count(alloc, judge, texts, head, count)? {
-            counts.push(count)?;
-        }
-    }
-    Ok(counts)
-}
-
-/// How many arguments a head takes; nothing where it takes any number.
-fn put_taken_counts(report: &mut Report, counts: &[u64]) {
-    if counts.len() as u64 == MOST_COUNTED {
-        return;
-    }
-    let mut between = ", and it takes ";
-    for count in counts {
-        report.say(between);
-        report.number(*count);
-        between = " or ";
-    }
-}
-
-/// Puts how many arguments a head takes, which may be that of the definition itself; nothing where it takes any number.
-fn put_taken(
-    alloc: Global,
-    report: &mut Report,
-    judge: &Judge,
-    texts: &mut Texts,
-    head: &[u8],
-    own: Option<u64>,
-) -> Result<(), NoMemory> {
-    match own.or(count_taken(head, judge.world, texts)) {
-        Some(count) => put_taken_counts(report, &[count]),
-        None => put_taken_counts(report, &counts_taken(alloc, judge, texts, head)?),
-    }
-    Ok(())
-}
-
-/// How many formals a definition has, where it is the one of a head.
-fn own_count(alloc: Global, event: &[u8], head: &[u8]) -> Result<Option<u64>, NoMemory> {
-    let parts = elements(alloc, event, whole(event))?;
-    if let (Some(name), Some(formals)) = (parts.get(1), parts.get(2)) {
-        if is_word(head_of(event, &parts), b"defun") && is_word(token(event, *name), head) {
-            return Ok(Some(elements(alloc, event, *formals)?.len() as u64));
-        }
-    }
-    Ok(None)
-}
-
-/// Puts how many arguments stand in a call, and how many its head takes.
-fn put_counts(
-    alloc: Global,
-    report: &mut Report,
-    judge: &Judge,
-    texts: &mut Texts,
-    event: &[u8],
-    call: Span,
-) -> Result<(), NoMemory> {
-    let parts = elements(alloc, event, call)?;
-    let count = parts.len().saturating_sub(1);
-    let head = head_of(event, &parts);
-    drop(parts);
-    report.say("   = help: ");
-    report.number(count as u64);
-    report.say(" stand here");
-    let own = own_count(alloc, event, head)?;
-    put_taken(alloc, report, judge, texts, head, own)?;
-    if is_among(head, "- < <= > >= /=") {
-        report.say(": put one call into another");
-    }
-    report.say("\n");
-    Ok(())
-}
-
 /// What stands here for the first word of GL's bindings in a part of an event.
 pub(crate) fn shape_help(event: &[u8], part: Span) -> Option<&'static str> {
     for (i, byte) in cut(event, part).iter().enumerate() {
@@ -411,17 +307,6 @@ fn put_shape_help(report: &mut Report, event: &[u8], part: Span) {
         report.say(instead);
         report.say("\n");
     }
-}
-
-/// How many arguments a definition takes.
-fn count_taken(head: &[u8], world: &World, texts: &Texts) -> Option<u64> {
-    for number in 0..world.count() {
-        let def = world.def(FnId { number });
-        if is_word(head, texts.text(def.name)) {
-            return Some(def.formals.len());
-        }
-    }
-    None
 }
 
 /// Puts the variable of a theorem that its bindings lack, where they are bindings.
@@ -517,7 +402,7 @@ pub(crate) fn explain_event_fault(
     let event = cut(refusal.text, form);
     let AtFault { part, around } = at_fault(alloc, judge, texts, event)?;
     let mark = Mark {
-        span: moved(part, form.start),
+        span: part.moved(form.start),
         event,
         part,
         around,

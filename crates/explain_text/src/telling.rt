@@ -9,7 +9,7 @@ use crate::message::{MOST_NAMED, Marked, Refusal, Said, for_programs, put_help};
 use crate::refusal::{shape_help, title_of_part, word_behind};
 use book_faults::{
     Cause, Found, MOST_TOLD, Span, Survey, byte_at, column_of, cut, is_word, line_of, token,
-    told_of, without_package,
+    told_of, without_package, word_around,
 };
 use event_world::EventFault;
 use explain_findings::{FormFault, is_among};
@@ -160,11 +160,16 @@ fn is_behind_package(text: &[u8], word: Span) -> bool {
     front.ends_with(b"::") && !front.ends_with(b"acl2::") && !front.ends_with(b"gl::")
 }
 
-/// Puts where another use of a cause is: its word, its text where that is another, its line and its column.
+/// Puts where another use of a cause is: its form, or the word in which the text is at fault, its text where that is another, its
+/// line and its column.
 fn put_use(report: &mut Report, survey: &Survey, found: &Found, file: usize) {
     let text = survey.text(found.file);
+    let shown = match found.cause {
+        Cause::Text(_) => word_around(text, found.span.start),
+        Cause::Form(_) => found.span,
+    };
     report.say("`");
-    put_part(report, text, found.span, MOST_NAMED);
+    put_part(report, text, shown, MOST_NAMED);
     report.say("` ");
     if found.file != file {
         report.text(survey.name(found.file));
