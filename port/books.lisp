@@ -50,10 +50,8 @@
   gl-bdd-mode gl-param-mode gl-satlink-mode g-int g-boolean auto-bindings logcount-nat caar cadr cdar cddr caaar caadr cadar caddr cdaar cdadr cddar cdddr
   caaaar caaadr caadar caaddr cadaar cadadr caddar cadddr cdaaar cdaadr cdadar cdaddr cddaar cddadr cdddar cddddr otherwise"))
 (defun names-of-book (book)
-  (let (names)
-    (dolist (form (read-forms (file-text (concatenate 'string *top* "books/" book ".lisp"))))
-      (when (string= (word (car form)) "defun") (push (word (second form)) names)))
-    names))
+  (loop for form in (read-forms (file-text (concatenate 'string *top* "books/" book ".lisp")))
+        when (string= (word (car form)) "defun") collect (word (second form))))
 (defun place-text (place)
   (destructuring-bind ((file . line) . path) place
     (if path (or (system-path (car path)) (file-namestring (car path))) (format nil "~a~@[:~a~]" file line))))
@@ -74,8 +72,8 @@
       (dolist (x (append terms (mapcar #'definition-body (reached-by terms))) words) (all-words x #'note)))))
 (defun helpers-among (words) (remove-if-not #'(lambda (h) (member (car h) words :test #'string=)) *helpers*))
 (defun theorem-part (th)
-  (format nil "~%; ~a~@[~%; Cover does not see that the hypothesis keeps ~(~a~) within its shape: the verdict will be 'uncovered'.~]~{~a~}~%~a"
-          (place-text (list (theorem-place th))) (and (theorem-uncovered th) (symbol-name (theorem-uncovered th))) (assumptions th) (theorem-text th)))
+  (format nil "~%; ~a~@[~%; Cover does not see that the hypothesis keeps ~a within its shape: the verdict will be 'uncovered'.~]~{~a~}~%~a"
+          (place-text (list (theorem-place th))) (and (theorem-uncovered th) (encode (symbol-name (theorem-uncovered th)))) (assumptions th) (theorem-text th)))
 (defun book-text (title theorems)
   "The text of a book with the theorems, which are in their order."
   (setq *function-names* (make-names) *data-names* (make-names) *constants* nil)
@@ -119,7 +117,6 @@
   (let ((leaving (sort (intersection '("power" "power-of-2" "quotient" "beyond-the-language") (words-of (terms-of (list th))) :test #'string=) #'string<)))
     (append (and leaving (list (format nil "~%; Its verdict is 'width' where a value leaves the language: ~{~a~^, ~}." leaving)))
             (loop for c in (theorem-changes th) when (stringp c) collect (format nil "~%; ~a." c)))))
-
 ; ---- the comparison
 (defun text-object (x)
   "The object of ACL2 as the written book has it."
@@ -132,7 +129,7 @@
     (dolist (form forms) (unless (member (word (car form)) '("include-book" "def-gl-thm" "def-gl-param-thm") :test #'equal) (define-from form table)))
     (remhash "beyond-the-language" table)
     (flet ((row (what input term env value truth)
-             (multiple-value-bind (mine done) (value-within 2000000 term env table)
+             (multiple-value-bind (mine done) (value-within 60000000 term env table)
                (when done
                  (if (if truth (eq (null mine) (null value)) (equal mine value)) (incf agree)
                    (pushnew (cons what (object-text input)) wrong :key #'car :test #'string=))
@@ -155,7 +152,6 @@
                 (incf n))))
           (when (zerop n) (push (theorem-token th) bare)))))
     (values agree wrong bare)))
-
 ; ---- what the program refutes, in ACL2
 (defun data-object (x)
   "The object of ACL2 that stands in the written book as X."

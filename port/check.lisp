@@ -11,11 +11,24 @@
             (acl2::mv-let (erp value latches) (acl2::ev term alist state nil t nil) (declare (ignore latches)) (values value (not erp)))
           (error () (values nil nil)))
       (acl2::f-put-global 'acl2::guard-checking-on before state))))
-
+(defvar *steps* 0)
+(defun value-in-acl2 (term alist)
+  "The same; where ACL2 does not run a call, as of a DEFUN-NX, or of an export of an abstract stobj on an object, by the body in its world."
+  (labels ((value (x alist)
+             (when (< (decf *steps*) 0) (throw :none nil))
+             (cond ((symbolp x) (cdr (assoc x alist))) ((quoted-p x) (second x))
+                   ((eq (car x) 'if) (value (if (value (second x) alist) (third x) (fourth x)) alist))
+                   (t (call (car x) (loop for y in (cdr x) collect (value y alist))))))
+           (call (fn args)
+             (if (consp fn) (value (third fn) (pairlis (second fn) args))
+               (multiple-value-bind (known found) (evaluate-in-acl2 (cons fn (loop for x in args collect (list 'quote x))) nil)
+                 (if found known
+                   (value (or (body-in fn (world)) (throw :none nil)) (pairlis (property fn 'acl2::formals) args)))))))
+    (multiple-value-bind (known found) (evaluate-in-acl2 term alist)
+      (if found (values known t) (catch :none (let ((*steps* 1000)) (values (value term alist) t)))))))
 ; ---- the language's functions, by docs/LANGUAGE.md
 (defvar *language* nil "name -> a function of Lisp, or (formals . term)")
 (defvar *top* nil "the repository's folder")
-(defvar *steps* 0)
 (defun whole (x) (if (integerp x) x 0))
 ; Where a count of bits is large, ACL2 may make a number of as many bits.
 (defun count-of-bits (n) (if (< -100000 n 100000) n (throw :out :long)))
@@ -42,7 +55,6 @@
               ("signed-byte-p" (n x) (and (integerp n) (> n 0) (count-of-bits n) (integerp x) (< (integer-length x) n)))
               ("symbol<" (x y) (if (and (symbolp x) (symbolp y)) (acl2::symbol< x y) (throw :out '(:beyond "the order of what is no symbol"))))
               ("beyond-the-language" (why) (throw :out (list :beyond why)))))
-
 ; ---- texts of the language as terms
 (defun read-forms (text)
   (let ((*package* (find-package "BOOKTEXT")) (*read-base* 10))
@@ -108,14 +120,12 @@
     (dolist (book '("arithmetic" "bitops" "lists" "rtl"))
       (dolist (form (read-forms (file-text (concatenate 'string *top* "books/" book ".lisp")))) (define-from form *language*)))
     (dolist (h *helpers*) (unless (gethash (car h) *language*) (dolist (form (read-forms (third h))) (define-from form *language*))))))
-
 ; ---- evaluation. What takes too long, or leaves the language, ends by a throw to :OUT.
 (defvar *noted* nil "definition -> some lists of arguments with which it was called")
 (defun run (term env table)
   (loop
     (when (< (decf *steps*) 0) (throw :out :long))
-    (cond ((symbolp term) (return (cdr (assoc term env))))
-          ((eq (car term) 'quote) (return (second term)))
+    (cond ((symbolp term) (return (cdr (assoc term env)))) ((eq (car term) 'quote) (return (second term)))
           ((eq (car term) :let)
            (setq env (append (loop for (v . x) in (second term) collect (cons v (run x env table))) env) term (third term)))
           ((equal (car term) "if") (setq term (if (run (second term) env table) (third term) (fourth term))))
@@ -131,20 +141,17 @@
   (let (value done)
     (let ((out (catch :out (let ((*steps* steps)) (setq value (run term env table) done t)) nil)))
       (if done (values value t) (values out nil)))))
-
 ; ---- inputs
 (defvar *seed* 20261)
 (defun chance (n) (setq *seed* (mod (+ (* *seed* 6364136223846793005) 1442695040888963407) (expt 2 64))) (mod (ash *seed* -20) n))
 (defun one-of (items) (nth (chance (length items)) items))
 (defun random-integer ()
-  (case (chance 4)
-    (0 (- (chance 12) 3)) (1 (chance 300))
+  (case (chance 4) (0 (- (chance 12) 3)) (1 (chance 300))
     (2 (let ((k (expt 2 (one-of '(7 8 15 16 31 32 63))))) (* (one-of '(1 1 -1)) (+ k (- (chance 3) 1)))))
     (t (- (chance (expt 2 (1+ (chance 40)))) (chance 1000)))))
 (defun random-object (pool &optional (depth 0))
   (case (chance (if (> depth 3) 6 9))
-    ((0 1 2) (random-integer))
-    (3 (one-of '(nil t 0 1)))
+    ((0 1 2) (random-integer)) (3 (one-of '(nil t 0 1)))
     ((4 5) (if pool (one-of pool) (one-of (list nil :key "text" #\c))))
     (6 (cons (random-object pool (1+ depth)) (random-object pool (1+ depth))))
     (t (loop repeat (chance 5) collect (random-object pool (1+ depth))))))

@@ -69,14 +69,12 @@
                (loop for part in (nreverse parts) for i from 0
                      always (prog1 (covers-p part (append (parts-of tails "CAR") (places-of i subjects)) conjuncts (1+ depth))
                               (setq tails (parts-of tails "CDR")))))))))
-
 ; ---- opening
 (defvar *room* 0 "how many calls may still be opened")
 (defvar *known* nil "terms that are true or not where a list has its length, each with T or NIL")
 (defun truth-of (x)
   (let ((known (assoc x *known* :test #'equal)))
-    (cond ((quoted-p x) (if (second x) :true :false))
-          (known (if (cdr known) :true :false))
+    (cond ((quoted-p x) (if (second x) :true :false)) (known (if (cdr known) :true :false))
           ((negation-p x) (case (truth-of (second x)) (:true :false) (:false :true))))))
 (defun tails-of (l k) (loop for i to k for tail = l then (list 'cdr tail) collect tail))
 (defun lengths-in (conjuncts)
@@ -89,8 +87,7 @@
         append (list* (cons (list 'consp tail) (< i k)) (cons (list 'atom tail) (= i k)) (cons (list 'endp tail) (= i k)) (and (< i k) (list (cons tail t))))))
 (defun simplify (term w)
   "The term with LETs opened, calls on constants computed, and tests on constants decided."
-  (cond ((or (symbolp term) (quoted-p term)) term)
-        ((<= *room* 0) term)
+  (cond ((or (symbolp term) (quoted-p term) (<= *room* 0)) term)
         ((consp (car term))
          (decf *room*)
          (simplify (acl2::subcor-var (second (car term)) (loop for x in (cdr term) collect (simplify x w)) (third (car term))) w))

@@ -12,7 +12,6 @@
 (defun property (fn key &optional (w (world))) (acl2::getpropc fn key nil w))
 (defun seconds () (/ (get-internal-run-time) (float internal-time-units-per-second)))
 (defun megabytes () (or (ignore-errors (with-open-file (in "/proc/self/statm") (read in) (floor (read in) 256))) 0))
-
 ; ---- events
 ; The package GL is there once a book has included GL.
 (defun gl-symbol (name) (and (find-package "GL") (find-symbol name "GL")))
@@ -39,8 +38,9 @@
 (defun value-of (key words) (cdr (assoc key words)))
 (defun with-small-arrays (form)
   "The form that makes a stobj, with one place for each array of more than a million: no stobj is read while books are loaded."
-  (cond ((atom form) form)
-        ((and (eq (car form) 'acl2::make-array$) (integerp (second form)) (> (second form) 1000000)) (list* (car form) 1 (cddr form)))
+  (cond ((atom form) form) ; TO ends a loop that fills one
+        ((and (member (car form) '(acl2::make-array$ acl2::to)) (integerp (second form)) (> (second form) 999999))
+         (list* (car form) (if (eq (car form) 'acl2::to) 0 1) (with-small-arrays (cddr form))))
         (t (cons (with-small-arrays (car form)) (with-small-arrays (cdr form))))))
 
 (defun hook-events ()
@@ -53,7 +53,6 @@
           (symbol-function 'acl2::defstobj-raw-init) #'(lambda (&rest args) (with-small-arrays (apply init args)))
           (symbol-function 'acl2::get-slow-alist-action) #'(lambda (&rest ignored) (declare (ignore ignored)) nil)
           (symbol-function 'acl2::certify-book-fn) #'(lambda (&rest ignored) (declare (ignore ignored)) (acl2::mv nil :ignored *state*)))))
-
 ; ---- forms of a text
 (defun file-text (file &optional (start 0))
   (with-open-file (in file)
@@ -62,8 +61,7 @@
 
 (defun skip-gaps (stream)
   "Goes on to the first letter that belongs to a form."
-  (loop
-    (case (peek-char t stream nil)
+  (loop (case (peek-char t stream nil)
       (#\; (read-line stream nil))
       (#\# (read-char stream)
           (unless (eql (peek-char nil stream nil) #\|) (unread-char #\# stream) (return))
@@ -98,6 +96,15 @@
   (unless (acl2::find-non-hidden-package-entry name (acl2::global-val 'acl2::known-package-alist (world)))
     (error "the package ~a is not known: its certification file, as cert.acl2, is missing" name))
   (acl2::f-put-global 'acl2::current-package name *state*) t)
+(defun name-folders (form)
+  "Names the folders that an included book's certification file names, where the book has no certificate and the keyword is free."
+  (let* ((within (if (eq (car form) 'acl2::local) (second form) form)) (dir (getf (cddr within) :dir))
+         (path (concatenate 'string (if dir (acl2::include-book-dir dir *state*) (state-global 'acl2::connected-book-directory)) (second within)))
+         (folder (subseq path 0 (1+ (position #\/ path :from-end t)))) (file (concatenate 'string folder "cert.acl2")))
+    (when (and (eq (car within) 'acl2::include-book) (probe-file file) (not (probe-file (concatenate 'string path ".cert"))))
+      (dolist (f (words (file-text file)))
+        (when (and (consp f) (eq (car f) 'acl2::add-include-book-dir) (null (acl2::include-book-dir (second f) *state*)))
+          (submit (list (car f) (second f) (concatenate 'string folder (third f)))))))))
 (defun enter (form)
   "Submits a form, or takes the world behind it where it is shared. Answers :AGAIN where the form has to be read in another world."
   (let ((next (and *at* (nth *at* *shared*))))
@@ -107,7 +114,8 @@
            (let ((world (if (zerop *at*) *base-world* (third (nth (1- *at*) *shared*)))) (moved next))
              (setq *shared* (subseq *shared* 0 *at*) *at* nil *extending* t)
              (unless (eq world (world)) (acl2::set-w! world *state*)) (if moved :again (enter form))))
-          (t (let* ((before (state-global 'acl2::current-package))
+          (t (when (sharing-form-p form) (ignore-errors (name-folders form)))
+             (let* ((before (state-global 'acl2::current-package))
                     (taken (if (and (consp form) (eq (car form) 'acl2::in-package)) (enter-package (string (second form))) (submit form))))
                (if (and *extending* taken (sharing-form-p form))
                    (setq *shared* (append *shared* (list (list form before (world) (state-global 'acl2::current-package)))))
@@ -144,7 +152,8 @@ form, message, how many uses of GL they have."
           (let ((line (1+ (count #\Newline text :end at))) (told (nth-value 1 (output-place))) (begun (seconds)))
             (multiple-value-bind (end form)
               (handler-case (acl2::mv-let (end form state) (acl2::read-object channel state) (declare (ignorable state)) (values end form))
-                (error () (push (list line "a form" (message-in (file-text (output-place) told)) (uses-in (subseq text at))) *failed-forms*) t))
+                (error (c) (push (list line "a form" (message-in (format nil "~a~%~%ACL2 Error:  ~a" (file-text (output-place) told) c)) (uses-in (subseq text at)))
+                                 *failed-forms*) t))
               (when (or end (eq form :end-portcullis-cmds)) (return)) (setq *place* (cons name line))
               (case (or (atom form) (enter form))
                 (:again (file-position stream at))

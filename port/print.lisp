@@ -15,8 +15,8 @@
              (concatenate 'string (hex (char text 0)) (subseq plain 1)))
             (t plain)))))
 (defun number-like-p (text)
-  "Whether a token may be taken for a number: a digit stands in it, and no letter but those of exponents."
-  (and (some #'digit-char-p text) (every #'(lambda (c) (or (digit-char-p c) (find c "+-./esfdl"))) text)))
+  "Whether a token may be taken for a number: it begins as one, a digit stands in it, and no letter but those of exponents."
+  (and (find (char text 0) "+-.0123456789") (some #'digit-char-p text) (every #'(lambda (c) (or (digit-char-p c) (find c "+-./esfdl"))) text)))
 (defstruct names (by-thing (make-hash-table :test 'eq)) (taken (make-hash-table :test 'equal)))
 (defun take-name (thing candidates names)
   (or (gethash thing (names-by-thing names))
@@ -42,7 +42,6 @@
         ((eq x t) "t")
         ((keywordp x) (setf (gethash x (names-by-thing *data-names*)) (concatenate 'string ":" (encode (symbol-name x)))))
         (t (take-name x (symbol-candidates x) *data-names*))))
-
 ; ---- objects
 (defun object-text (x) (with-output-to-string (out) (print-object-to x out)))
 (defun print-object-to (x out)
@@ -69,7 +68,6 @@
                  (setq *constants* (nconc *constants* (list (cons x name)))) name)))
           ((needs-quote-p x) (concatenate 'string "'" text))
           (t text))))
-
 ; ---- terms as forms: lists whose leaves are texts
 (defvar *in-recursion* nil)
 (defvar *counted-clique* nil)
@@ -138,7 +136,6 @@
         (loop while (and (call-p c "if") (eq v (case-key (second c))))
               do (push (list (nth-value 1 (case-key (second c))) (form-of (third c))) clauses) (setq c (fourth c)))
         (list* "case" (variable-token v) (append (nreverse clauses) (list (list "t" (form-of c)))))))))
-
 ; ---- layout
 (defun flat (form) (if (atom form) (or form "()") (format nil "(~{~a~^ ~})" (mapcar #'flat form))))
 (defun lay (form indent out)
@@ -152,7 +149,6 @@
                        (t (terpri out) (dotimes (k inner) (princ " " out)) (lay x inner out))))
         (princ ")" out)))))
 (defun layout (form &optional (indent 0)) (with-output-to-string (out) (lay form indent out)))
-
 ; ---- definitions
 (defun defun-form (d)
   (let* ((*variable-names* (make-names)) (*in-recursion* (and (measure-steps (definition-clique d)) t))

@@ -27,7 +27,7 @@
     no-duplicatesp-equal subsetp-equal union-equal intersection-equal set-difference-equal add-to-set-equal position-equal-ac
     duplicity acons rassoc-equal pairlis$ strip-cars strip-cdrs put-assoc-equal remove-assoc-equal remove1-assoc-equal")
   ("rtl" . "rtl::fl rtl::bvecp rtl::bits rtl::bitn rtl::binary-cat rtl::setbits rtl::setbitn rtl::expo rtl::sgn")))
-(defparameter *folders* '("ihs/" "centaur/bitops/" "std/basic/" "std/lists/" "std/alists/" "rtl/rel11/"))
+(defparameter *folders* '("ihs/" "centaur/bitops/" "std/basic/" "std/lists/" "std/alists/" "rtl/rel11/lib/" "rtl/rel11/rel9-rtl-pkg/lib/"))
 (defvar *shipped-table* nil "full name -> (book . name)")
 (defun split (text &optional (gaps '(#\Space #\Newline)))
   (loop for start = (position-if-not #'(lambda (c) (member c gaps)) text) then (and end (position-if-not #'(lambda (c) (member c gaps)) text :start end))
@@ -50,7 +50,7 @@
 (defun book-path (fn w) (acl2::global-val 'acl2::include-book-path (acl2::decode-logical-name fn w)))
 (defun system-path (path)
   "The path of an included book below the folder of ACL2's own books, or NIL."
-  (cond ((consp path) (cdr path)) ((and path (eql (mismatch *system-folder* path) (length *system-folder*))) (subseq path (length *system-folder*)))))
+  (cond ((consp path) (and (eq (car path) :system) (cdr path))) ((and path (eql (mismatch *system-folder* path) (length *system-folder*))) (subseq path (length *system-folder*)))))
 (defun of-system-p (fn w)
   (let ((path (system-path (car (book-path fn w)))))
     (and path (some #'(lambda (folder) (eql (mismatch folder path) (length folder))) *folders*))))
@@ -59,7 +59,6 @@
   (if (and (member fn *own*) (own-p fn w)) (string-downcase (symbol-name fn))
     (let ((found (gethash (concatenate 'string (acl2::symbol-package-name fn) "::" (symbol-name fn)) (shipped-table))))
       (and found (or (own-p fn w) (of-system-p fn w)) (values (cdr found) (car found))))))
-
 ; ---- definitions
 (defstruct (definition (:print-function (lambda (d s k) (declare (ignore k)) (format s "#<~a>" (definition-sym d)))))
   sym formals raw body callees clique number place book token measure counted world (twin (list nil)))
@@ -106,7 +105,6 @@
           (setf (gethash (definition-sym d) *reached*) d)
           (unless same (setf (definition-clique d) made) (push d (gethash (definition-sym d) *instances*))))
         (unless same (dolist (d made) (setf (definition-body d) (convert (definition-raw d) w)))) (gethash fn *reached*))))
-
 ; ---- terms
 (defun beyond (why) (list "beyond-the-language" (list 'quote why)))
 (defun quoted-p (x) (and (consp x) (eq (car x) 'quote)))
@@ -146,19 +144,12 @@
                    (beyond (format nil "~a~a" (symbol-name fn) (if (member fn *beyond*) "" ", which has no definition")))))))))
 (defun convert-all (terms w) (loop for x in terms collect (convert x w)))
 (defun special-call (fn args w)
-  (flet ((is (name) (string= (symbol-name fn) name)))
-    (cond ((or (is "HIDE") (is "FORCE")) (convert (first args) w))
-          ((is "SYNP") ''t)
-          ((is "SYMBOL<") (cons "symbol<" (convert-all args w)))
-          ((is "EXPT") (power (first args) (second args) w))
-          ((is "UNARY-/") (quotient ''1 (first args) w))
-          ((is "NUMERATOR") (list "ifix" (convert (first args) w)))
-          ((is "DENOMINATOR") (list "if" (convert (first args) w) ''1 ''1))
-          ((is "IMAGPART") (list "if" (convert (first args) w) ''0 ''0))
-          ((is "COMPLEX-RATIONALP") (list "if" (convert (first args) w) ''nil ''nil))
-          ((is "REALPART") (list "ifix" (convert (first args) w)))
-          (t ''nil))))
-
+  (flet ((x () (convert (first args) w)))
+    (case fn
+      ((acl2::hide acl2::force) (x)) (acl2::synp ''t) (acl2::symbol< (cons "symbol<" (convert-all args w)))
+      (acl2::expt (power (first args) (second args) w)) (acl2::unary-/ (quotient ''1 (first args) w))
+      ((acl2::numerator acl2::realpart) (list "ifix" (x))) (acl2::denominator (list "if" (x) ''1 ''1))
+      (acl2::imagpart (list "if" (x) ''0 ''0)) (acl2::complex-rationalp (list "if" (x) ''nil ''nil)) (t ''nil))))
 ; ---- ratios. The universe has none, so a quotient stands where its value is an integer, and elsewhere leaves the language. The floor of
 ; a quotient is an integer always, and so is that of a product with a power of two, which is a shift.
 (defun reciprocal (x) (and (consp x) (eq (car x) 'acl2::unary-/) (second x)))
@@ -206,7 +197,6 @@
   ("power" "arithmetic" "(defun power (r n) (if (and (integerp n) (< n 0)) (beyond-the-language 'a-ratio) (expt r n)))")
   ("quotient" nil "(defun quotient (x y) (if (equal (ifix y) 0) 0 (if (equal (mod x y) 0) (floor x y) (beyond-the-language 'a-ratio))))")
   ("beyond-the-language" nil "(defun beyond-the-language (why) (ash 1 128))")))
-
 ; ---- objects
 (defun expressible-p (x)
   (loop while (consp x) do (unless (expressible-p (pop x)) (return-from expressible-p nil)))

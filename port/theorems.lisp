@@ -15,7 +15,6 @@
     (if (quoted-p form) (second form)
       (acl2::mv-let (erp value state) (acl2::trans-eval-no-warning form 'gl-port state t)
         (declare (ignorable state)) (when erp (refuse "ACL2 gives no value of ~(~s~)" form)) (cdr value)))))
-
 ; ---- shapes
 (defun index (i) (if (and (natp i) (< i 1000000)) i (refuse "an index of a shape is ~(~s~)" i)))
 (defun indices (l) (mapcar #'index (if (acl2::true-listp l) l (refuse "a shape is malformed"))))
@@ -62,7 +61,6 @@
               n))
       (:const (second shape)) (:cons (cons (object-of (second shape) bits) (object-of (third shape) bits)))
       (:ite (object-of (if (bit-of (second shape)) (third shape) (fourth shape)) bits)))))
-
 ; ---- a theorem
 (defun settle-theorem (name words term)
   (let* ((w (world)) (theorem (make-theorem :name (or name 'acl2::thm) :place *place* :mode (mode-now))))
@@ -95,7 +93,7 @@
     (dolist (c (conjuncts-of hyp) (values hyp concl))
       (loop for (v x) in (and (acl2-call-p c "EQUAL") (list (cdr c) (reverse (cdr c))))
             do (when (and (member v unbound) (null (intersection (acl2::all-vars x) unbound)))
-                 (push (format nil "~(~a~) is the term that the hypothesis says" v) (theorem-changes theorem))
+                 (push (format nil "~a is the term that the hypothesis says" (encode (symbol-name v))) (theorem-changes theorem))
                  (flet ((with-term (y) (acl2::subcor-var (list v) (list x) y)))
                    (return-from with-unbound-replaced (with-unbound-replaced (with-term hyp) (with-term concl) bound theorem))))))))
 (defun settle-cases (theorem words w)
@@ -114,7 +112,6 @@
         (unless (or (member v names) (assoc v (theorem-bindings theorem))) (refuse "the variable ~(~a~) has no binding" v))))
     (setf (theorem-param-names theorem) names (theorem-param-hyp theorem) (convert p w))
     (push (cons p names) (theorem-changes theorem))))
-
 ; ---- samples: what ACL2 says on inputs, taken at the event, while the world is there
 (defun inputs-of (bindings pool)
   "Each input of the shapes where they have at most 12 indices; else some at random, with literals of the theorem among them."
@@ -128,35 +125,34 @@
               collect (loop for (v . x) in (input) collect (cons v (near x))))))))
 (defun truth-in-acl2 (term input)
   "Whether a term of ACL2 is true, in a list, or NIL where ACL2 gives no value."
-  (multiple-value-bind (value found) (evaluate-in-acl2 term input) (and found (list (and value t)))))
+  (multiple-value-bind (value found) (value-in-acl2 term input) (and found (list (and value t)))))
 (defun sample (theorem)
   "Notes what ACL2 says of the hypothesis and of the conclusion on inputs, and then of the definitions."
   (let* ((hyp (theorem-raw-hyp theorem)) (concl (theorem-raw-concl theorem)) (pool (literals-of hyp (literals-of concl nil)))
          (*noted* (make-hash-table :test 'eq)) (unmet 0) beyond)
-    (flet ((try (input within)
+    (flet ((try (input within &optional (steps 400000))
              (multiple-value-bind (met done) (value-within 40000 (theorem-hyp theorem) input *language*)
                (multiple-value-bind (mine done-too)
-                   (if (or (and done met) (< (incf unmet) 12)) (value-within 400000 (theorem-concl theorem) input *language*) (values nil nil))
+                   (if (or (and done met) (< (incf unmet) 12)) (value-within steps (theorem-concl theorem) input *language*) (values nil nil))
                  (let ((out (cond ((not done) met) ((and met (not done-too)) mine))))
                    (when (and within (consp out)) (pushnew (second out) beyond :test #'equal)))
                  (push (list input (and done (truth-in-acl2 hyp input)) (and done-too (truth-in-acl2 concl input))) (theorem-rows theorem))))))
       (dolist (input (inputs-of (theorem-bindings theorem) pool)) (try input t))
-      (loop repeat 12 do (try (loop for (v) in (theorem-bindings theorem) collect (cons v (random-object pool))) nil)))
+      (loop repeat 12 do (try (loop for (v) in (theorem-bindings theorem) collect (cons v (random-object pool))) nil))
+      (let ((met (find-if #'(lambda (r) (car (second r))) (theorem-rows theorem))))
+        (when (and met (notany #'third (theorem-rows theorem))) (try (first met) t 30000000))))
     (when beyond
       (refuse "some input reaches ~a" (if (symbolp (car beyond)) (substitute #\Space #\- (string-downcase (symbol-name (car beyond)))) (car beyond))))
     (mapc #'sample-definition (theorem-definitions theorem))))
-(defun definition-value (d args)
-  "ACL2's value of a call, and whether there is one: where ACL2 does not run the function, as DEFUN-NX, that of the body."
-  (multiple-value-bind (value found) (evaluate-in-acl2 (cons (definition-sym d) (mapcar #'(lambda (x) (list 'quote x)) args)) nil)
-    (if found (values value t) (evaluate-in-acl2 (definition-raw d) (pairlis (definition-formals d) args)))))
 (defun sample-definition (d)
   "Notes what ACL2 says of a definition on arguments that it had in theorems, and on random ones; :LEFT where it left the language on all of them."
   (unless (nth-value 1 (gethash d *rows*))
     (let* ((formals (definition-formals d)) (pool (literals-of (definition-raw d) nil)) (noted (gethash d *noted*)) rows left)
-      (loop for (steps . tries) in '((5000 . 200) (1000000 . 4)) until rows
+      (loop for (steps . tries) in '((5000 . 200) (1000000 . 4) (30000000 . 1)) until rows
             do (loop repeat (if formals tries 1) until (>= (length rows) 24)
                      do (let ((args (or (pop noted) (loop for v in formals collect (random-object pool)))))
                           (multiple-value-bind (out done) (value-within steps (definition-body d) (pairlis formals args) *language*)
-                            (if done (multiple-value-bind (value found) (definition-value d args) (when found (push (cons args value) rows)))
+                            (if done (multiple-value-bind (value found) (value-in-acl2 (cons (definition-sym d) (mapcar #'(lambda (x) (list 'quote x)) args)) nil)
+                                         (when found (push (cons args value) rows)))
                               (when (consp out) (setq left t)))))))
       (setf (gethash d *rows*) (or rows (and left :left))))))
