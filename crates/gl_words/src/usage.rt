@@ -32,6 +32,8 @@ pub fn refuse_end<K: Sink>(end: WordsEnd, out: &mut K) -> Status
     ensures no_text { end ≢ WordsEnd.Memory → (result ≡ Status.Usage) ⊎ (result ≡ Status.WriteFault) }
     ensures usage { result ≡ Status.Usage → Grows (K.written out.old) (K.written out.new) usage_line }
     ensures cause { result ≡ Status.WriteFault → Rose (K.faults out.old) (K.faults out.new) }
+    ensures front { result ≡ Status.WriteFault → GrowsByFront (K.written out.old) (K.written out.new) usage_line }
+    ensures stayed { result ≡ Status.Usage → K.faults out.new ≡ K.faults out.old }
 {
     match end {
         WordsEnd::Memory => Status::NoMemory,
