@@ -1,9 +1,9 @@
 -- A text is read back from the bytes that show it.
-use Rattle.std.proofs.Common.{◌≡◌, ◌∙◌, ap, sym, refl, List, ℕ, [], ◌∷◌, ◌++◌, ◌+◌, ◌*◌, ◌/◌, ◌%◌, Bool, true, false, cond, ◌||◌, div-add-mod', arith}
+use Rattle.std.proofs.Common.{◌≡◌, ◌∙◌, ap, refl, List, ℕ, [], ◌∷◌, ◌++◌, ◌+◌, ◌*◌, ◌/◌, ◌%◌, Bool, true, false, cond, ◌||◌, div-add-mod', arith}
 use Rattle.std.specs.Prelude.{◌==◌, nat_lt}
 use Rattle.explain_report.specs.declared.shown.Style.{Style}
 use Rattle.explain_report.specs.declared.shown.Style.TheVariants.{Plain, Json, Html}
-use Rattle.explain_report.specs.Shown.{shown, shown_byte, read_back, json_read, html_read, digit, number, is_json, is_html, in_json, in_html, is_numbered}
+use Rattle.explain_report.specs.Shown.{shown, read_back, json_read, html_read, digit, number, in_json, in_html}
 
 pub number_of_digit : (n : ℕ) → number (digit n) ≡ n
 number_of_digit n = grind (arith)

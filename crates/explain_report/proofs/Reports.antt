@@ -1,5 +1,5 @@
 -- What is said in a report, one after another.
-use Rattle.std.proofs.Common.{◌≡◌, ◌∙◌, ap, sym, List, ℕ, ◌+◌, [], ◌∷◌, ◌++◌, append_assoc, append-nil, replicate, Option, Some, None}
+use Rattle.std.proofs.Common.{◌∙◌, ap, sym, List, ℕ, ◌+◌, [], ◌∷◌, ◌++◌, append_assoc, append-nil, replicate, Option, Some, None}
 use Rattle.std.proofs.lemmas.List.{replicate_more}
 use Rattle.explain_report.specs.Said.{Adds}
 

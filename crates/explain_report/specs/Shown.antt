@@ -1,5 +1,5 @@
 -- The bytes that show a text: as it is, in a string of JSON, or in a page of HTML; and the text that they show.
-use Rattle.std.specs.Prelude.{◌≡◌, ℕ, zero, suc, ◌+◌, ◌-◌, ◌*◌, ◌/◌, ◌%◌, ◌==◌, Bool, true, false, not, ◌&&◌, ◌||◌, if◌then◌else◌, nat_lt, List, [], ◌∷◌, ◌++◌}
+use Rattle.std.specs.Prelude.{ℕ, zero, suc, ◌+◌, ◌-◌, ◌*◌, ◌/◌, ◌%◌, ◌==◌, Bool, not, ◌&&◌, ◌||◌, if◌then◌else◌, nat_lt, List, [], ◌∷◌, ◌++◌}
 use Rattle.explain_report.specs.declared.shown.Style.{Style}
 use Rattle.explain_report.specs.declared.shown.Style.TheVariants.{Plain, Json, Html}
 

@@ -1,17 +1,19 @@
 //! An integer in three bases.
 
-ghost use Rattle.std.specs.Prelude.{◌≡◌, ◌<◌, ◌≤◌, ◌++◌, unsigned_abs, IfSome};
+ghost use Rattle.std.specs.Prelude.{◌≡◌, ◌<◌, ◌≤◌, ◌++◌, ◌-◌, unsigned_abs, MatchOption};
 ghost use Rattle.std.specs.Char.{digit_value};
+ghost use Rattle.std.specs.Int.{leading_zeros, w128};
 ghost use Rattle.std.specs.Str.Parse.{signed_digits_value};
-ghost use Rattle.explain_report.specs.Bases.{PutsNumber, PutsInBases, PutsCells, PutsObject, minus};
+ghost use Rattle.explain_report.specs.Bases.{IsInteger, PutsNumber, PutsInBases, PutsCells, MayPutDifference, PutsObject, minus};
 ghost use Rattle.explain_report.specs.Said.{Says, Adds};
 
 use crate::html::put_text;
 use crate::report::Report;
 
 /// The integer that a text in decimal is.
+#[tactic(auto, using(crate::proofs::Integers::is_utf8))]
 fn integer_of(text: &[u8]) -> Option<i128>
-    ensures { IfSome result (λ z. z ≡ signed_digits_value 10 text.now) }
+    ensures { MatchOption result (¬ IsInteger text.now) (λ z. IsInteger text.now × (z ≡ signed_digits_value 10 text.now)) }
 {
     let Ok(digits) = str::from_utf8(text) else {
         return None;
@@ -56,7 +58,10 @@ fn put_minus(report: &mut Report, integer: i128)
 }
 
 /// How many bits the integer that a text in decimal is has without its sign; 0 of another text.
-pub fn integer_bits(text: &[u8]) -> usize {
+pub fn integer_bits(text: &[u8]) -> usize
+    ensures integer { IsInteger text.now → result ≡ 128 - leading_zeros w128 (unsigned_abs (signed_digits_value 10 text.now)) }
+    ensures other { ¬ IsInteger text.now → result ≡ 0 }
+{
     match integer_of(text) {
         Some(integer) => 128_u32.saturating_sub(integer.unsigned_abs().leading_zeros()) as usize,
         None => 0,
@@ -64,7 +69,9 @@ pub fn integer_bits(text: &[u8]) -> usize {
 }
 
 /// Puts on a line, so far indented, in which of so many bits two integers of one sign differ.
-pub fn put_difference(report: &mut Report, one: &[u8], other: &[u8], bits: usize, indent: usize) {
+pub fn put_difference(report: &mut Report, one: &[u8], other: &[u8], bits: usize, indent: usize)
+    ensures { Says (MayPutDifference indent one.now other.now) report.old report.new }
+{
     let (Some(one), Some(other)) = (integer_of(one), integer_of(other)) else {
         return;
     };
@@ -116,7 +123,9 @@ fn put_object(report: &mut Report, object: &[u8]) {
 }
 
 /// Cells of a table with an integer in decimal, hexadecimal and binary, of so many digits at least; one cell with another object.
-pub(crate) fn put_bases(report: &mut Report, object: &[u8], bits: usize) {
+pub(crate) fn put_bases(report: &mut Report, object: &[u8], bits: usize)
+    ensures { IsInteger object.now → Says (PutsCells object.now) report.old report.new }
+{
     match integer_of(object) {
         Some(integer) => put_cells(report, object, integer, bits),
         None => put_object(report, object),
