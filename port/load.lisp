@@ -6,6 +6,7 @@
 (defvar *say* nil "where the user is told what passes")
 (defvar *place* nil "the file and the line of the form that is submitted")
 (defvar *failed-forms* nil)
+(defvar *absent* nil "the files of text that forms of the book read, and that are not there")
 (defun say (text &rest args) (format *say* "~?~%" text args) (force-output *say*))
 (defun state-global (name) (acl2::f-get-global name *state*))
 (defun world () (acl2::w *state*))
@@ -44,8 +45,15 @@
         (t (cons (with-small-arrays (car form)) (with-small-arrays (cdr form))))))
 
 (defun hook-events ()
-  (let ((defthm (symbol-function 'acl2::defthm-fn)) (thm (symbol-function 'acl2::thm-fn)) (init (symbol-function 'acl2::defstobj-raw-init)))
-    (setf (symbol-function 'acl2::defthm-fn)
+  (let ((defthm (symbol-function 'acl2::defthm-fn)) (thm (symbol-function 'acl2::thm-fn)) (init (symbol-function 'acl2::defstobj-raw-init))
+        (open (symbol-function 'acl2::open-input-channel)))
+    (setf (symbol-function 'acl2::open-input-channel)
+          #'(lambda (file type state)
+              (acl2::mv-let (channel state) (funcall open file type state)
+                (unless (eq type :object) ; certificates are read so, and most books have none
+                  (setq *absent* (remove (file-namestring file) *absent* :key #'file-namestring :test #'string=)) (unless channel (push file *absent*)))
+                (acl2::mv channel state)))
+          (symbol-function 'acl2::defthm-fn)
           #'(lambda (name term state rule-classes instructions hints otf-flg event-form)
               (submit-theorem name hints term #'(lambda () (funcall defthm name term state rule-classes instructions hints otf-flg event-form))))
           (symbol-function 'acl2::thm-fn)
@@ -128,7 +136,7 @@
   (let ((file (concatenate 'string *folder* "acl2.out"))) (values file (with-open-file (in file) (file-length in)))))
 (defun message-in (text)
   "What ACL2 says of a form that it does not take: the first error, in one line."
-  (let* ((head (or (search "ACL2 Error" text) (search "Error:" text) (length text))) (start (search ":  " text :start2 head))
+  (let* ((head (or (search "ACL2 Error" text :test #'char-equal) (search "Error:" text) (length text))) (start (search ":  " text :start2 head))
          (at (if start (+ start 3) head)) (end (search (format nil "~%~%") text :start2 at)) (line (format nil "~{~a~^ ~}" (split (subseq text at end)))))
     (subseq line 0 (min 300 (length line)))))
 (defparameter *uses* '("def-gl-thm" "def-gl-thmd" "def-local-gl-thm" "def-gl-rule" "def-gl-ruled" "def-gl-rulel" "def-gl-ruledl" "def-gl-param-thm"
@@ -163,7 +171,7 @@ form, message, how many uses of GL they have."
         (acl2::close-input-channel channel state)))))
 (defun load-book (folder name)
   "The world with the book NAME.lisp of the folder, the commands of its certificate or its certification file first."
-  (setq *at* 0 *ends* nil) (acl2::set-cbd-fn folder *state*)
+  (setq *at* 0 *ends* nil *absent* nil) (acl2::set-cbd-fn folder *state*)
   (let ((files (loop for end in '("~a.cert" "~a.acl2" "cert.acl2" "~a.lisp") collect (concatenate 'string folder (format nil end name)))))
     (dolist (file (list (find-if #'probe-file (subseq files 0 3)) (fourth files)))
       (setq *failed-forms* nil) (acl2::f-put-global 'acl2::current-package "ACL2" *state*) (when file (submit-file file))))

@@ -11,7 +11,8 @@
     (dolist (forms (list (remove "a form" left :key #'second :test #'string=) (last (remove "a form" left :key #'second :test-not #'string=))))
       (when forms
         (let* ((root (or (find 0 forms :key #'fifth) (first forms))) (uses (reduce #'+ forms :key #'fourth))
-               (why (format nil "ACL2 does not take ~a of ~a: ~a" (second root) title (third root))))
+               (why (format nil "ACL2 does not take ~a of ~a: ~a~@[ (it reads ~a, which is not there)~]" (second root) title (third root)
+                            (car (last *absent*)))))
           (fails "  ~a:~a: ~a~@[; ~a further forms are not taken either~]~@[; so ~a uses of GL are not ported~]" title (first root) why
                  (and (cdr forms) (1- (length forms))) (and (> uses 0) uses))
           (tally why uses))))
