@@ -4,6 +4,9 @@
 //! Else it is the first of these terms such that the form keeps its fault with those behind that one replaced. So it is
 //! the translator that judges, and nothing here knows what a fault is.
 
+ghost use Rattle.std.specs.Prelude.{◌≡◌, ◌++◌, length, IfOk};
+ghost use Rattle.book_faults.specs.Parts.{part_of};
+
 use crate::form_elements::{elements, form_alone};
 use crate::span::{Span, cut, is_word, whole};
 use crate::terms::{head_of, terms_of_event, terms_of_term};
@@ -200,7 +203,9 @@ pub fn blame(
 }
 
 /// A text without a part of it.
-pub fn taken_out(alloc: Global, text: &[u8], part: Span) -> Result<Vec<u8>, NoMemory> {
+pub fn taken_out(alloc: Global, text: &[u8], part: Span) -> Result<Vec<u8>, NoMemory>
+    ensures { IfOk result (λ rest. rest.items ≡ part_of text.now 0 part.start ++ part_of text.now part.end (length text.now)) }
+{
     let mut out = Report::new(alloc);
     out.text(cut(text, Span::new(0, part.start)));
     out.text(cut(text, Span::new(part.end, text.len())));

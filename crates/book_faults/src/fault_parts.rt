@@ -1,5 +1,7 @@
 //! The part of an event that is at fault, by its code.
 
+ghost use Rattle.std.specs.Prelude.{◌≡◌, ◌≢◌, get_or, IfOk};
+
 use crate::blame::{Blamed, Judge, blame, odd_option};
 use crate::form_elements::{elements, form_alone};
 use crate::items::{odd_binding, odd_case, odd_part};
@@ -25,7 +27,9 @@ fn alone(part: Span) -> AtFault {
 }
 
 /// The element of a list of this number, alone; the list where there is none.
-pub fn element_of(alloc: Global, text: &[u8], list: Span, number: usize) -> Result<Span, NoMemory> {
+pub fn element_of(alloc: Global, text: &[u8], list: Span, number: usize) -> Result<Span, NoMemory>
+    ensures { get_or text.now list.start 0 ≢ 40 → IfOk result (λ part. part ≡ list) }
+{
     match elements(alloc, text, list)?.get(number) {
         Some(part) => form_alone(alloc, text, *part),
         None => Ok(list),

@@ -1,6 +1,8 @@
 //! The places of a list's elements, by the reader of books: what stands behind an open parenthesis is read as a text of its
 //! own, which ends at the parenthesis that closes the list.
 
+ghost use Rattle.std.specs.Prelude.{◌≡◌, ◌≢◌, [], get_or, IfOk};
+
 use crate::span::{Span, byte_at, cut, token};
 use gl_logic::{NoMemory, Texts};
 use sexp_reader::{End, FormList, Forms, forms};
@@ -122,7 +124,9 @@ fn offsets_read(alloc: Global, text: &[u8]) -> Result<Vec<usize>, NoMemory> {
 
 /// The elements of the list that a part of a text is, each from its first byte to the next element or the list's end, and
 /// none where the part is no list.
-pub fn elements(alloc: Global, text: &[u8], span: Span) -> Result<Vec<Span>, NoMemory> {
+pub fn elements(alloc: Global, text: &[u8], span: Span) -> Result<Vec<Span>, NoMemory>
+    ensures { get_or text.now span.start 0 ≢ 40 → IfOk result (λ parts. parts.items ≡ []) }
+{
     if byte_at(text, span.start) != b'(' {
         return Ok(Vec::new(alloc));
     }
@@ -158,7 +162,9 @@ fn close_of(alloc: Global, text: &[u8], list: Span) -> Result<usize, NoMemory> {
 }
 
 /// A part without the blanks at its end.
-pub fn without_blanks(text: &[u8], span: Span) -> Span {
+pub fn without_blanks(text: &[u8], span: Span) -> Span
+    ensures { result.start ≡ span.start }
+{
     let mut end = span.start;
     for (i, byte) in cut(text, span).iter().enumerate() {
         if *byte > 32 {
@@ -169,7 +175,9 @@ pub fn without_blanks(text: &[u8], span: Span) -> Span {
 }
 
 /// The form with which a part begins, without what stands behind it.
-pub fn form_alone(alloc: Global, text: &[u8], span: Span) -> Result<Span, NoMemory> {
+pub fn form_alone(alloc: Global, text: &[u8], span: Span) -> Result<Span, NoMemory>
+    ensures { IfOk result (λ form. form.start ≡ span.start) }
+{
     let start = span.start;
     if byte_at(text, start) == b'(' {
         return Ok(Span::new(start, close_of(alloc, text, span)?.saturating_add(1)));

@@ -1,9 +1,10 @@
 //! Parts of a text.
 
-ghost use Rattle.std.specs.Prelude.{◌≡◌, ◌+◌, get_or, length};
+ghost use Rattle.std.specs.Prelude.{◌≡◌, ◌+◌, ◌-◌, ◌^◌, ◌≤◌, min, get_or, length};
 ghost use Rattle.std.specs.Str.{str_eq_ignore_ascii_case};
-ghost use Rattle.memchr.specs.Find.{is_byte, places};
-ghost use Rattle.book_faults.specs.Parts.{part_of, without_package as without_package_meant};
+ghost use Rattle.memchr.specs.Find.{is_byte, places, IsLastByte};
+ghost use Rattle.sexp_reader.specs.Bytes.{run};
+ghost use Rattle.book_faults.specs.Parts.{part_of, without_package as without_package_meant, ends_token, goes_on, token_of, before_offset};
 
 use memchr::{memchr, memchr_iter, memrchr};
 
@@ -23,7 +24,10 @@ impl Span {
     }
 
     /// The part so many bytes on.
-    pub fn moved(self, by: usize) -> Span {
+    pub fn moved(self, by: usize) -> Span
+        ensures start { result.start ≡ min (self.start + by) (2 ^ 64 - 1) }
+        ensures end { result.end ≡ min (self.end + by) (2 ^ 64 - 1) }
+    {
         Span::new(self.start.saturating_add(by), self.end.saturating_add(by))
     }
 }
@@ -54,12 +58,17 @@ pub fn byte_at(text: &[u8], offset: usize) -> u8
 }
 
 /// Whether a token ends in front of the byte.
-fn ends_token(byte: u8) -> bool {
+fn ends_token(byte: u8) -> bool
+    ensures { result ≡ ends_token byte }
+{
     byte <= 32 || [b'(', b')', b'"', b'\'', b'`', b',', b';'].contains(&byte)
 }
 
 /// The length of the token with which a text begins.
-pub fn token_len(text: &[u8]) -> usize {
+pub fn token_len(text: &[u8]) -> usize
+    ensures told { result ≡ run goes_on text.now }
+    ensures within { result ≤ length text.now }
+{
     for (i, byte) in text.iter().enumerate() {
         if ends_token(*byte) {
             return i;
@@ -69,7 +78,9 @@ pub fn token_len(text: &[u8]) -> usize {
 }
 
 /// The token with which a part begins: no byte where it begins otherwise.
-pub fn token(text: &[u8], span: Span) -> &[u8] {
+pub fn token(text: &[u8], span: Span) -> &[u8]
+    ensures { result.now ≡ token_of text.now span }
+{
     let bytes = cut(text, span);
     let end = token_len(bytes);
     cut(bytes, Span::new(0, end))
@@ -119,7 +130,11 @@ pub fn line_of(text: &[u8], offset: usize) -> u64
 }
 
 /// Where the line of an offset begins.
-pub fn line_start(text: &[u8], offset: usize) -> usize {
+pub fn line_start(text: &[u8], offset: usize) -> usize
+    // It is behind the last line feed in front of the offset.
+    ensures start { IsLastByte (is_byte 10) (part_of text.now 0 offset) (before_offset result) }
+    ensures within { result ≤ offset }
+{
     match memrchr(b'\n', cut(text, Span::new(0, offset))) {
         Some(end) => end.saturating_add(1),
         None => 0,

@@ -1,5 +1,8 @@
 //! Where the terms of a form stand: of an event, and of a term.
 
+ghost use Rattle.std.specs.Prelude.{◌≡◌, drop, IfOk};
+ghost use Rattle.book_faults.specs.Parts.{head_word};
+
 use crate::form_elements::elements;
 use crate::span::{Span, is_word, token, without_package};
 use explain_findings::is_among;
@@ -10,7 +13,9 @@ use std::alloc::Global;
 type Spans = Vec<Span>;
 
 /// The spans from a number on.
-pub fn all_from(alloc: Global, spans: &[Span], first: usize) -> Result<Spans, NoMemory> {
+pub fn all_from(alloc: Global, spans: &[Span], first: usize) -> Result<Spans, NoMemory>
+    ensures { IfOk result (λ found. found.items ≡ drop first spans.now) }
+{
     let mut found = Vec::new(alloc);
     for (i, span) in spans.iter().enumerate() {
         if first <= i {
@@ -96,7 +101,9 @@ fn inside_each(
 }
 
 /// The word with which a list of these elements begins, without a package.
-pub fn head_of<'a>(text: &'a [u8], parts: &[Span]) -> &'a [u8] {
+pub fn head_of<'a>(text: &'a [u8], parts: &[Span]) -> &'a [u8]
+    ensures { result.now ≡ head_word text.now parts.now }
+{
     match parts.first() {
         Some(part) => without_package(token(text, *part)),
         None => &[],
